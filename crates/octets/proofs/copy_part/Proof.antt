@@ -7,55 +7,40 @@ use Rattle.octets.proofs.Octets.{cut-part, length-cut, cut-copied}
 use borrow.Author.Needs.{needs}
 use Rattle.octets.proofs.copy_part.Statement.{statement}
 use Rattle.octets.proofs.copy_part.Tie as tie
-use Rattle.octets.proofs.copy_part.Reads as reads
-use Rattle.octets.proofs.copy_part.Lts as lts
-use Rattle.octets.proofs.put.Reads as put-reads
 
--- src/lib.rt:41:9
 slice-aggregate-put : tie.Need-slice-aggregate-put
 slice-aggregate-put c = search needs
 
--- src/lib.rt:41:38
 add-put : tie.Need-add-put
 add-put c = search needs
 
--- src/lib.rt:41:26
 sub-put : tie.Need-sub-put
 sub-put c = search needs
 
--- src/lib.rt:41:26
 part-put-start : tie.Need-part-put-start
 part-put-start c = search needs
 
--- src/lib.rt:41:26
 part-put-end : tie.Need-part-put-end
 part-put-end c = search needs
 
--- src/lib.rt:41:5
 put-requires : tie.Need-put-requires
 put-requires c κs = search needs
 
--- src/lib.rt:42:19
 sub-put-2 : tie.Need-sub-put-2
 sub-put-2 c = search needs
 
--- src/lib.rt:42:19
 part-put-start-2 : tie.Need-part-put-start-2
 part-put-start-2 c = search needs
 
--- src/lib.rt:42:19
 part-put-end-2 : tie.Need-part-put-end-2
 part-put-end-2 c = search needs
 
--- src/lib.rt:42:5
 put-requires-2 : tie.Need-put-requires-2
 put-requires-2 c κs = search needs
 
--- src/lib.rt:36:1
 same-length : tie.Need-same-length
 same-length c = search needs
 
--- src/lib.rt:36:1
 returns : tie.Need-returns
 returns c =
     let second = c .before .before in

@@ -12,8 +12,6 @@ use Rattle.octets.specs.Octets.{splice}
 use Rattle.octets.proofs.Octets.{splice-nil, splice-more, length-splice}
 use Rattle.octets.proofs.put.Statement.{statement}
 use Rattle.octets.proofs.put.Tie as tie
-use Rattle.octets.proofs.put.Reads as reads
-use Rattle.octets.proofs.put.Lts as lts
 
 abbrev Inv-loop : tie.InvT-loop
 Inv-loop dst₀ at src i₀ dst i = (i ≤ length src) × (dst ≡ splice dst₀ at (take i src))
@@ -25,31 +23,24 @@ abbrev μ-loop : tie.MeasureT-loop
 long : (c : tie.At-loop Inv-loop μ-loop) → length (c .loop .dst) ≡ length (c .before .args .dst .now)
 long c = ap length (c .loop .inv .1) ∙ length-splice _ _ _
 
--- src/lib.rt:28:5
 loop-holds : tie.Need-loop-holds Inv-loop μ-loop
 loop-holds c = (omega arith, sym (splice-nil _ _))
 
--- src/lib.rt:29:23
 shared-slice-read-dst : tie.Need-shared-slice-read-dst Inv-loop μ-loop
 shared-slice-read-dst c = search needs
 
--- src/lib.rt:29:13
 add-dst : tie.Need-add-dst Inv-loop μ-loop
 add-dst c = search needs
 
--- src/lib.rt:29:9
 slice-write-dst : tie.Need-slice-write-dst Inv-loop μ-loop
 slice-write-dst c = omega (arith, long (c .before .before))
 
--- src/lib.rt:30:9
 add-i : tie.Need-add-i Inv-loop μ-loop
 add-i c = search needs
 
--- src/lib.rt:28:5
 loop-less : tie.Need-loop-less Inv-loop μ-loop
 loop-less c = search needs
 
--- src/lib.rt:28:5
 loop-again : tie.Need-loop-again Inv-loop μ-loop
 loop-again c =
     let l = c .before .before in
@@ -62,11 +53,9 @@ loop-again c =
           ∙ ap (λ (n : ℕ). splice (a .dst .now) (a .at) (take n (a .src .now))) (sym (add-one i)),
     )
 
--- src/lib.rt:23:1
 same-length : tie.Need-same-length Inv-loop μ-loop
 same-length c = long (c .before)
 
--- src/lib.rt:23:1
 returns : tie.Need-returns Inv-loop μ-loop
 returns c =
     let a = c .before .before .args in

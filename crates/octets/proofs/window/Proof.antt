@@ -10,61 +10,46 @@ use Rattle.octets.proofs.Octets.{cut-part}
 use borrow.Author.Needs.{needs}
 use Rattle.octets.proofs.window.Statement.{statement}
 use Rattle.octets.proofs.window.Tie as tie
-use Rattle.octets.proofs.window.Reads as reads
-use Rattle.octets.proofs.window.Lts as lts
 
--- src/lib.rt:13:16
 sub-result : tie.Need-sub-result
 sub-result c = search needs
 
--- src/lib.rt:13:16
 part-result-start : tie.Need-part-result-start
 part-result-start c = search needs
 
--- src/lib.rt:13:16
 part-result-end : tie.Need-part-result-end
 part-result-end c = search needs
 
--- src/lib.rt:13:9
 returns : tie.Need-returns
 unfolding cut
 returns c =
     let a = c .before .before .args in
     rw (drop-of-length-le (a .s .now) {i = a .at} (omega arith)) (sym (take-nil (a .n)))
 
--- src/lib.rt:15:8
 sub-if2 : tie.Need-sub-if2
 sub-if2 c = search needs
 
--- src/lib.rt:16:9
 sub-result-2 : tie.Need-sub-result-2
 sub-result-2 c = search needs
 
--- src/lib.rt:16:9
 part-result-start-2 : tie.Need-part-result-start-2
 part-result-start-2 c = search needs
 
--- src/lib.rt:16:9
 part-result-end-2 : tie.Need-part-result-end-2
 part-result-end-2 c = search needs
 
--- src/lib.rt:18:16
 add-result : tie.Need-add-result
 add-result c = search needs
 
--- src/lib.rt:18:9
 sub-result-3 : tie.Need-sub-result-3
 sub-result-3 c = search needs
 
--- src/lib.rt:18:9
 part-result-start-3 : tie.Need-part-result-start-3
 part-result-start-3 c = search needs
 
--- src/lib.rt:18:9
 part-result-end-3 : tie.Need-part-result-end-3
 part-result-end-3 c = search needs
 
--- src/lib.rt:9:1
 returns-2 : tie.Need-returns-2
 unfolding cut
 returns-2 c =
@@ -72,7 +57,6 @@ returns-2 c =
     take-all (length (a .s .now) - a .at) (drop (a .at) (a .s .now)) (simp length-drop (omega arith))
     ∙ sym (take-all (a .n) (drop (a .at) (a .s .now)) (simp length-drop (omega arith)))
 
--- src/lib.rt:9:1
 returns-3 : tie.Need-returns-3
 returns-3 c = cut-part _ _ _
 

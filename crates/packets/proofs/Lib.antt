@@ -1,0 +1,5 @@
+pub mod Packet
+pub mod RoundTrip
+pub mod Segments
+pub mod Reassembly
+pub mod Table

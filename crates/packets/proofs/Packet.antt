@@ -1,0 +1,110 @@
+-- The laws of `specs/Packet.antt`: a law for each case of a definition. Functions and callers cite these, never the definitions' text.
+-- Assumes nothing.
+use Prim.Native.Nat.{ℕ, _+_, _-_, _/_, _≤_, _<_}
+use native.Mathlib.Nat.{le-of-suc-le-suc, not-suc-le-zero}
+use native.Mathlib.Decide.{decLe}
+use native.Mathlib.Omega.{arith}
+use mathlib.Core.Path.{_≡_, ap, _∙_}
+use mathlib.Core.List.{[], _∷_, _++_}
+use lib.ListN.{length, getD, drop, set}
+use borrow.Author.Tests.{le-leb, lt-leb, lt-ltb, le-ltb}
+use Rattle.octets.specs.Octets.{Octets, splice, over}
+use Rattle.octets.proofs.Octets.{splice-front}
+use Rattle.packets.specs.declared.Header.{Header}
+use Rattle.packets.specs.declared.Reading.the-variants.{Packet, Drop}
+use Rattle.packets.specs.Packet.{octet0, octet1, packetOf, headerOf, readOf, slotAfter, sizeAfter}
+
+-- ---- packetOf
+
+pub length-packet : (h : Header) (payload : Octets) → length (packetOf h payload) ≡ 3 + length payload
+unfolding packetOf
+length-packet h payload = omega arith
+
+-- ---- readOf
+
+module _ (p : Octets) where
+  pub read-short : length p < 3 → readOf p ≡ Drop
+  unfolding readOf
+  read-short h = simp (lt-ltb _ _ h)
+
+  pub read-rfu : 3 ≤ length p → 4 ≤ getD p 0 0 / 32 → readOf p ≡ Drop
+  unfolding readOf
+  read-rfu h i = simp (le-ltb _ _ h, le-leb _ _ i)
+
+  pub read-cut : 3 ≤ length p → getD p 0 0 / 32 < 4 → length p - 3 < getD p 2 0 → readOf p ≡ Drop
+  unfolding readOf
+  read-cut h i j = simp (le-ltb _ _ h, lt-leb _ _ i, lt-ltb _ _ j)
+
+  pub read-whole : 3 ≤ length p → getD p 0 0 / 32 < 4 → getD p 2 0 ≤ length p - 3
+      → readOf p ≡ Packet (headerOf (getD p 0 0) (getD p 1 0)) (getD p 2 0)
+  unfolding readOf
+  read-whole h i j = simp (le-ltb _ _ h, lt-leb _ _ i, le-ltb _ _ j)
+
+-- what is known of a packet that was read
+pub record Whole (p : Octets) (h : Header) (n : ℕ) : Type 0 where
+  pub long : 3 ≤ length p
+  pub known : getD p 0 0 / 32 < 4
+  pub room : getD p 2 0 ≤ length p - 3
+  pub header : h ≡ headerOf (getD p 0 0) (getD p 1 0)
+  pub size : n ≡ getD p 2 0
+
+module _ (p : Octets) (h : Header) (n : ℕ) where
+  dropped : readOf p ≡ Drop → readOf p ≡ Packet h n → ⊥
+  dropped d e = let z : _≡_ {A = ℕ} 0 1 = cc in omega arith
+
+  pub read-facts : readOf p ≡ Packet h n → Whole p h n
+  read-facts e = go (decLe 3 (length p)) (decLe 4 (getD p 0 0 / 32)) (decLe (getD p 2 0) (length p - 3))
+    where
+      go : Dec (3 ≤ length p) → Dec (4 ≤ getD p 0 0 / 32) → Dec (getD p 2 0 ≤ length p - 3) → Whole p h n
+      go (no a) b c = absurd (dropped (read-short p (omega arith)) e)
+      go (yes a) (yes b) c = absurd (dropped (read-rfu p a b) e)
+      go (yes a) (no b) (no c) = absurd (dropped (read-cut p a (omega arith) (omega arith)) e)
+      go (yes a) (no b) (yes c) =
+          let whole = read-whole p a (omega arith) c in
+          record { long = a; known = omega arith; room = c; header = cc; size = cc }
+
+-- ---- slotAfter, sizeAfter
+
+-- three stores and a part after them are one packet
+pub packet-stored : (slot : Octets) (h : Header) (payload : Octets) (a b : ℕ) → 3 ≤ length slot
+    → a ≡ octet0 (h .mt) (h .pbf) (h .id) → b ≡ octet1 (h .mt) (h .oid)
+    → splice (set (set (set slot 0 a) 1 b) 2 (length payload)) 3 payload ≡ splice slot 0 (packetOf h payload)
+unfolding splice over packetOf
+packet-stored [] h payload a b k ea eb = absurd (not-suc-le-zero k)
+packet-stored (x ∷ []) h payload a b k ea eb = absurd (not-suc-le-zero (le-of-suc-le-suc k))
+packet-stored (x ∷ y ∷ []) h payload a b k ea eb = absurd (not-suc-le-zero (le-of-suc-le-suc (le-of-suc-le-suc k)))
+packet-stored (x ∷ y ∷ z ∷ s) h payload a b k ea eb = λ i. ea i ∷ eb i ∷ length payload ∷ over s payload
+
+module _ (slot : Octets) (h : Header) (payload : Octets) where
+  pub slot-long : 255 < length payload → slotAfter slot h payload ≡ slot
+  unfolding slotAfter
+  slot-long l = simp (lt-ltb _ _ l)
+
+  pub slot-small : length payload ≤ 255 → length slot < 3 + length payload → slotAfter slot h payload ≡ slot
+  unfolding slotAfter
+  slot-small l s = simp (le-ltb _ _ l, lt-ltb _ _ s)
+
+  pub slot-fits : length payload ≤ 255 → 3 + length payload ≤ length slot → slotAfter slot h payload ≡ splice slot 0 (packetOf h payload)
+  unfolding slotAfter
+  slot-fits l s = simp (le-ltb _ _ l, le-ltb _ _ s)
+
+  -- the packet, and then the slot's own octets
+  pub slot-front : length payload ≤ 255 → 3 + length payload ≤ length slot
+      → slotAfter slot h payload ≡ packetOf h payload ++ drop (3 + length payload) slot
+  slot-front l s =
+      slot-fits l s
+      ∙ splice-front slot (packetOf h payload) (rw length-packet s)
+      ∙ ap (λ (n : ℕ). packetOf h payload ++ drop n slot) (length-packet h payload)
+
+module _ (slot payload : Octets) where
+  pub size-long : 255 < length payload → sizeAfter slot payload ≡ 0
+  unfolding sizeAfter
+  size-long l = simp (lt-ltb _ _ l)
+
+  pub size-small : length payload ≤ 255 → length slot < 3 + length payload → sizeAfter slot payload ≡ 0
+  unfolding sizeAfter
+  size-small l s = simp (le-ltb _ _ l, lt-ltb _ _ s)
+
+  pub size-fits : length payload ≤ 255 → 3 + length payload ≤ length slot → sizeAfter slot payload ≡ 3 + length payload
+  unfolding sizeAfter
+  size-fits l s = simp (le-ltb _ _ l, le-ltb _ _ s)

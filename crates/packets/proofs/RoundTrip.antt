@@ -1,0 +1,139 @@
+-- Both round trips of the packet layer: what is written is read back, and what was read is written again, octet for octet.
+-- Assumes nothing.
+use Prim.Native.Nat.{ℕ, suc, _+_, _*_, _-_, _/_, _%_, _<_, _≤_}
+use native.Mathlib.Nat.{not-suc-le-zero, le-of-suc-le-suc, div-div-eq-div-mul}
+use native.Mathlib.Decide.{decLe}
+use native.Mathlib.Omega.{arith}
+use mathlib.Core.Path.{_≡_, refl, sym, ap, _∙_}
+use mathlib.Core.List.{[], _∷_, _++_}
+use mathlib.Core.Bool.{Bool, true, false}
+use lib.ListN.{length, getD, take, drop, length-append}
+use lib.Seq.{take-append-seam}
+use lib.Dec.{eqb}
+use borrow.Author.Tests.{eq-eqb, ne-eqb}
+use Rattle.octets.specs.Octets.{Octets, pick, cut}
+use Rattle.packets.specs.declared.Header.{Header}
+use Rattle.packets.specs.declared.Reading.the-variants.{Packet}
+use Rattle.packets.specs.Packet.{octet0, octet1, oidOf, spareOf, packetOf, headerOf, readOf, payloadOf, Writable}
+use Rattle.octets.proofs.Octets.{length-cut}
+use Rattle.packets.proofs.Packet.{read-whole, read-facts}
+
+-- ---- octet 0, written and read
+
+module _ (mt id : ℕ) where
+  octet0-mt : (pbf : Bool) → mt < 4 → octet0 mt pbf id / 32 ≡ mt
+  unfolding octet0
+  octet0-mt true h = omega arith
+  octet0-mt false h = omega arith
+
+  octet0-pbf : (pbf : Bool) → eqb (octet0 mt pbf id / 16 % 2) 1 ≡ pbf
+  unfolding octet0
+  octet0-pbf true = eq-eqb ((mt % 8 * 32 + 16 + id % 16) / 16 % 2) 1 (omega arith)
+  octet0-pbf false = ne-eqb ((mt % 8 * 32 + id % 16) / 16 % 2) 1 (omega arith)
+
+  octet0-id : (pbf : Bool) → id < 16 → octet0 mt pbf id % 16 ≡ id
+  unfolding octet0
+  octet0-id true h = omega arith
+  octet0-id false h = omega arith
+
+-- ---- octet 1, written and read
+
+module _ (mt oid : ℕ) (small : oid < 64) (data-oid : mt ≡ 0 → oid ≡ 0) where
+  octet1-oid : oidOf mt (octet1 mt oid) ≡ oid
+  unfolding oidOf octet1
+  octet1-oid = go (decLe mt 0)
+    where
+      go : Dec (mt ≤ 0) → pick (eqb mt 0) 0 (pick (eqb mt 0) 0 (oid % 64) % 64) ≡ oid
+      go (yes e) = let z : mt ≡ 0 = omega arith in rw (eq-eqb mt 0 z) (sym (data-oid z))
+      go (no n) = rw (ne-eqb mt 0 (λ (z : mt ≡ 0). n (omega arith))) (omega arith)
+
+  octet1-spare : spareOf mt (octet1 mt oid) ≡ 0
+  unfolding spareOf octet1
+  octet1-spare = go (decLe mt 0)
+    where
+      go : Dec (mt ≤ 0) → pick (eqb mt 0) (pick (eqb mt 0) 0 (oid % 64)) (pick (eqb mt 0) 0 (oid % 64) / 64 * 64) ≡ 0
+      go (yes e) = let z : mt ≡ 0 = omega arith in rw (eq-eqb mt 0 z)
+      go (no n) = rw (ne-eqb mt 0 (λ (z : mt ≡ 0). n (omega arith))) (omega arith)
+
+-- ---- fields to octets and back: whatever stands after the packet
+
+module _ (h : Header) (payload rest : Octets) (w : Writable h) where
+  header-written : headerOf (octet0 (h .mt) (h .pbf) (h .id)) (octet1 (h .mt) (h .oid)) ≡ h
+  unfolding headerOf
+  header-written =
+      rw (
+        octet0-mt (h .mt) (h .id) (h .pbf) (w .mt),
+        octet0-pbf (h .mt) (h .id) (h .pbf),
+        octet0-id (h .mt) (h .id) (h .pbf) (w .id),
+        octet1-oid (h .mt) (h .oid) (w .oid) (w .data-oid),
+        octet1-spare (h .mt) (h .oid) (w .oid) (w .data-oid),
+        ← w .spare,
+      )
+
+  pub read-written : readOf (packetOf h payload ++ rest) ≡ Packet h (length payload)
+  unfolding packetOf
+  read-written =
+      let p = packetOf h payload ++ rest in
+      read-whole p (omega arith) (rw (octet0-mt (h .mt) (h .id) (h .pbf) (w .mt)) (w .mt)) (omega (arith, length-append payload rest))
+      ∙ ap (λ (k : Header). Packet k (length payload)) header-written
+
+  pub payload-written : payloadOf (packetOf h payload ++ rest) (length payload) ≡ payload
+  unfolding packetOf cut
+  payload-written = take-append-seam payload rest
+
+-- ---- octets to fields and back
+
+module _ (first second : ℕ) (small : first < 256) (octet : second < 256) where
+  octet0-read : octet0 (first / 32) (eqb (first / 16 % 2) 1) (first % 16) ≡ first
+  unfolding octet0
+  octet0-read = go (decLe (first / 16 % 2) 0)
+    where
+      top : first / 32 % 8 ≡ first / 32
+      top = omega arith
+
+      low : first % 16 % 16 ≡ first % 16
+      low = omega arith
+
+      half : first / 16 ≡ first / 32 * 2 + first / 16 % 2
+      half = let e : first / 16 / 2 ≡ first / 32 = div-div-eq-div-mul first 16 2 in omega arith
+
+      go : Dec (first / 16 % 2 ≤ 0) → octet0 (first / 32) (eqb (first / 16 % 2) 1) (first % 16) ≡ first
+      go (yes e) = rw (ne-eqb (first / 16 % 2) 1 (λ (z : first / 16 % 2 ≡ 1). omega arith), top, low) (omega (arith, half))
+      go (no e) = rw (eq-eqb (first / 16 % 2) 1 (omega arith), top, low) (omega (arith, half))
+
+  octet1-read : (mt : ℕ) → spareOf mt second ≡ 0 → octet1 mt (oidOf mt second) ≡ second
+  unfolding octet1 oidOf spareOf
+  octet1-read mt = go (decLe mt 0)
+    where
+      go : Dec (mt ≤ 0) → pick (eqb mt 0) second (second / 64 * 64) ≡ 0 → pick (eqb mt 0) 0 (pick (eqb mt 0) 0 (second % 64) % 64) ≡ second
+      go (yes e) h = let z : mt ≡ 0 = omega arith in rw (eq-eqb mt 0 z) (sym (rw (eq-eqb mt 0 z) at h))
+      go (no n) h =
+          let t = ne-eqb mt 0 (λ (z : mt ≡ 0). n (omega arith)) in
+          let s : second / 64 * 64 ≡ 0 = rw t at h in
+          rw t (omega arith)
+
+-- the first three octets, and the rest
+three : (p : Octets) → 3 ≤ length p → p ≡ getD p 0 0 ∷ getD p 1 0 ∷ getD p 2 0 ∷ drop 3 p
+three [] h = absurd (not-suc-le-zero h)
+three (x ∷ []) h = absurd (not-suc-le-zero (le-of-suc-le-suc h))
+three (x ∷ y ∷ []) h = absurd (not-suc-le-zero (le-of-suc-le-suc (le-of-suc-le-suc h)))
+three (x ∷ y ∷ z ∷ p) h = refl
+
+-- the packet itself, up to its stated length, where no spare bit of it is set
+module _ (p : Octets) (octets : (i : ℕ) → getD p i 0 < 256) where
+  written-whole : 3 ≤ length p → getD p 2 0 ≤ length p - 3 → headerOf (getD p 0 0) (getD p 1 0) .spare ≡ 0
+      → packetOf (headerOf (getD p 0 0) (getD p 1 0)) (payloadOf p (getD p 2 0)) ≡ take (3 + getD p 2 0) p
+  unfolding packetOf headerOf cut
+  written-whole long room z =
+      let first = octet0-read (getD p 0 0) (getD p 1 0) (octets 0) (octets 1) in
+      let second = octet1-read (getD p 0 0) (getD p 1 0) (octets 0) (octets 1) _ z in
+      let third = length-cut 3 (getD p 2 0) p (omega arith) in
+      let n : 3 + getD p 2 0 ≡ suc (suc (suc (getD p 2 0))) = omega arith in
+      (λ i. first i ∷ second i ∷ third i ∷ take (getD p 2 0) (drop 3 p)) ∙ sym (λ i. take (n i) (three p long i))
+
+  pub written-read : (h : Header) (n : ℕ) → readOf p ≡ Packet h n → h .spare ≡ 0 → packetOf h (payloadOf p n) ≡ take (3 + n) p
+  written-read h n e z =
+      let w = read-facts p h n e in
+      (λ i. packetOf (w .header i) (payloadOf p (w .size i)))
+      ∙ written-whole (w .long) (w .room) (sym (ap (λ (k : Header). k .spare) (w .header)) ∙ z)
+      ∙ ap (λ (k : ℕ). take (3 + k) p) (sym (w .size))

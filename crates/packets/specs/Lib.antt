@@ -1,0 +1,4 @@
+pub mod Packet
+pub mod Segments
+pub mod Reassembly
+pub mod Table
