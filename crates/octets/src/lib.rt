@@ -2,7 +2,7 @@
 // These are the only functions of the project that loop over octets to copy them.
 ghost use mathlib.Core.Path.{_≡_};
 ghost use Prim.Native.Nat.{_+_, _≤_};
-ghost use lib.ListN.{length};
+ghost use lib.ListN.{length, getD};
 ghost use Rattle.octets.specs.Octets.{cut, splice};
 
 // At most n octets of s from index at on, as a part of s itself: as many as there are.
@@ -17,6 +17,13 @@ pub fn window<'a>(s: &'a [u8], at: usize, n: usize) -> &'a [u8]
     } else {
         &s[at..at + n]
     }
+}
+
+// The octet of s at index i, and 0 past its end.
+pub fn octet_at(s: &[u8], i: usize) -> u8
+    ensures { λ r. ⌜ r ≡ getD (now (s .entry)) i 0 ⌝ }
+{
+    if i < s.len() { s[i] } else { 0 }
 }
 
 // Writes src over dst from index at on.
