@@ -1,12 +1,12 @@
 -- The laws of `specs/Octets.antt`, in the order of its definitions. None has a condition that a caller cannot see in its own numbers.
 -- Assumes nothing.
 use mathlib.Core.Path.{_≡_, refl, sym, ap, _∙_}
-use mathlib.Core.List.{[], _∷_, _++_}
+use mathlib.Core.List.{[], _∷_, _++_, append-assoc}
 use Prim.Native.Nat.{ℕ, zero, suc, _+_, _-_, _≤_, _<_}
 use native.Mathlib.Nat.{le-of-suc-le-suc, not-suc-le-zero, zero-add, suc-add, suc-inj, suc-ne-zero, sub-zero, zero-sub, suc-sub-suc}
 use native.Mathlib.Omega.{arith}
-use lib.ListN.{length, take, drop, set, getD, length-take, length-drop, take-append-drop}
-use lib.Seq.{take-take, drop-drop, take-nil, take-add}
+use lib.ListN.{length, take, drop, set, getD, length-append, length-take, length-drop, take-append-drop}
+use lib.Seq.{take-all, take-take, drop-drop, take-nil, take-add}
 use Rattle.octets.specs.Octets.{Octets, cut, over, splice}
 
 -- ---- cut
@@ -19,6 +19,11 @@ length-cut at n l h = simp (length-take, length-drop) (omega arith)
 pub cut-part : (at n : ℕ) (l : Octets) → take (at + n - at) (drop at l) ≡ cut at n l
 unfolding cut
 cut-part at n l = let e : at + n - at ≡ n = omega arith in ap (λ (k : ℕ). take k (drop at l)) e
+
+-- all that is left from index at on
+pub cut-rest : (at : ℕ) (l : Octets) → cut at (length l) l ≡ drop at l
+unfolding cut
+cut-rest at l = take-all (length l) (drop at l) (simp length-drop (omega arith))
 
 take-part : (n k : ℕ) (l : Octets) (i : ℕ) → i + n ≤ k → take n (drop i (take k l)) ≡ take n (drop i l)
 take-part n k l zero h = take-take n k l (omega arith)
@@ -143,6 +148,38 @@ unfolding cut
 splice-lent a w s k p h e =
     let j : s + k - s ≡ k = omega arith in
     (λ i. take s a ++ (e i ++ drop (j i) (drop s a))) ∙ back a s k p h
+
+-- ---- splice: one after another
+
+over-next : (l a b : Octets) → splice (over l a) (length a) b ≡ over l (a ++ b)
+unfolding over splice
+over-next [] [] b = refl
+over-next [] (v ∷ a) b = refl
+over-next (x ∷ l) [] b = refl
+over-next (x ∷ l) (v ∷ a) b = ap (λ (t : Octets). v ∷ t) (over-next l a b)
+
+-- what is written right after it is written with it
+pub splice-next : (l : Octets) (at : ℕ) (a b : Octets) → splice (splice l at a) (at + length a) b ≡ splice l at (a ++ b)
+unfolding splice
+splice-next l zero a b = rw zero-add (over-next l a b)
+splice-next [] (suc n) a b = rw suc-add refl
+splice-next (x ∷ l) (suc n) a b = rw suc-add (ap (λ (t : Octets). x ∷ t) (splice-next l n a b))
+
+-- three parts, one after another
+pub splice-three : (l a b c : Octets)
+    → splice (splice (splice l 0 a) (length a) b) (length a + length b) c ≡ splice l 0 (a ++ (b ++ c))
+splice-three l a b c =
+    let first : length a ≡ 0 + length a = omega arith in
+    let second : length a + length b ≡ 0 + length (a ++ b) = simp length-append (omega arith) in
+    (λ i. splice ((ap (λ (k : ℕ). splice (splice l 0 a) k b) first ∙ splice-next l 0 a b) i) (second i) c)
+    ∙ splice-next l 0 (a ++ b) c
+    ∙ ap (splice l 0) (append-assoc a b c)
+
+-- a first octet that is stored last
+pub splice-ahead : (l : Octets) (v : ℕ) (vs : Octets) → set (splice l 1 vs) 0 v ≡ splice l 0 (v ∷ vs)
+unfolding splice over
+splice-ahead [] v vs = refl
+splice-ahead (x ∷ l) v vs = refl
 
 -- ---- splice: what is read afterwards
 

@@ -22,13 +22,13 @@ fit-append limit [] b p q = q
 fit-append limit (m ∷ a) b p q = (p .0, fit-append limit a b (p .1) q)
 
 -- what is in reassembly is a part of a message that fits
-run-fits : (limit : ℕ) (r : Octets) (ss : List Segment) → left r ss ≡ [] → Fit limit (parse r ss) → length r ≤ limit
+pub run-fits : (limit : ℕ) (r : Octets) (ss : List Segment) → left r ss ≡ [] → Fit limit (parse r ss) → length r ≤ limit
 unfolding Fit left parse
 run-fits limit r [] e f = rw e (omega arith)
 run-fits limit r (more b ∷ ss) e f = omega (arith, run-fits limit (r ++ b) ss e f, length-append r b)
 run-fits limit r (last b ∷ ss) e f = omega (arith, f .0, length-append r b)
 
-within : (limit : ℕ) (r b : Octets) → length (r ++ b) ≤ limit → ltb limit (length r + length b) ≡ false
+pub within : (limit : ℕ) (r b : Octets) → length (r ++ b) ≤ limit → ltb limit (length r + length b) ≡ false
 within limit r b h = le-ltb limit (length r + length b) (rw length-append at h)
 
 -- ---- Flow

@@ -1,62 +1,14 @@
 // A line of input to its answer.
-use crate::text;
-
-// What a text of digits holds: so many octets, or something else.
-enum Held {
-    Octets(usize),
-    Other,
-}
-
-// The index of the first blank from index from on, or where the line ends.
-fn blank(line: &[u8], from: usize) -> usize {
-    let mut i = from;
-    while i < line.len() {
-        if line[i] == b' ' {
-            return i;
-        }
-        i += 1;
-    }
-    i
-}
-
-// Whether the line has the word at index at.
-fn has(line: &[u8], at: usize, word: &[u8]) -> bool {
-    check::same(octets::window(line, at, word.len()), word)
-}
-
-// Writes the octets that the pairs of digits are to the front of the packet.
-fn decode(digits: &[u8], packet: &mut [u8]) -> Held {
-    let n = digits.len() / 2;
-    if digits.len() % 2 != 0 {
-        return Held::Other;
-    }
-    if packet.len() < n {
-        return Held::Other;
-    }
-    let mut i = 0;
-    while i < n {
-        let high = text::value(digits[2 * i]);
-        let low = text::value(digits[2 * i + 1]);
-        if 15 < high {
-            return Held::Other;
-        }
-        if 15 < low {
-            return Held::Other;
-        }
-        packet[i] = high * 16 + low;
-        i += 1;
-    }
-    Held::Octets(n)
-}
+use text::fields;
+use text::fields::Held;
 
 // Takes a line `no=NAME pkt=DIGITS` apart, NAME ending at index end: its octets to the front of the packet. A line has at
 // most 600 characters, and NAME at least one, none a blank.
 fn packet_of(line: &[u8], end: usize, packet: &mut [u8]) -> Held {
-    let rest = octets::window(line, end, 600);
-    if 600 < line.len() || end <= 3 || !has(line, 0, b"no=") || !has(rest, 0, b" pkt=") {
+    if 600 < line.len() || end <= 3 || !fields::starts(line, b"no=") {
         return Held::Other;
     }
-    decode(octets::window(rest, 5, 600), packet)
+    fields::octets_of(octets::window(line, end, 600), b" pkt=", packet)
 }
 
 // The fields of a packet's header.
@@ -93,7 +45,7 @@ fn put_packet(out: &mut [u8], at: usize, p: &[u8]) -> usize {
 
 // The answer to a line: its name and the packet's fields, or `bad` to a line of another form.
 pub fn answer(line: &[u8], out: &mut [u8]) -> usize {
-    let end = blank(line, 3);
+    let end = fields::blank(line, 3);
     let mut packet = [0u8; 300];
     let Held::Octets(count) = packet_of(line, end, &mut packet) else {
         return text::put(out, 0, b"bad\n");

@@ -1,0 +1,54 @@
+-- Laws that several proofs share: what a chain of tests says of each test in it, and a list as its elements.
+-- Assumes nothing.
+use Prim.Native.Nat.{ℕ, zero, suc, _+_, _≤_}
+use mathlib.Core.Path.{_≡_, refl, sym, ap, _∙_}
+use mathlib.Core.Bool.{Bool, true, false, _&&_, false≢true}
+use mathlib.Core.List.{List, [], _∷_, _++_}
+use native.Mathlib.Omega.{arith}
+use lib.ListN.{length, getD, drop}
+use lib.Seq.{drop-cons}
+use Rattle.octets.specs.Octets.{Octets, pick}
+
+-- ---- chains of tests
+
+-- `b && x && .. && y`, as it is bracketed
+abbrev pub every : Bool → List Bool → Bool
+every b [] = b
+every b (x ∷ l) = every (b && x) l
+
+both : (a b : Bool) → (a && b) ≡ true → (a ≡ true) × (b ≡ true)
+both true b h = (refl, h)
+both false b h = absurd (false≢true h)
+
+every-first : (b : Bool) (l : List Bool) → every b l ≡ true → b ≡ true
+every-first b [] h = h
+every-first b (x ∷ l) h = both b x (every-first (b && x) l h) .0
+
+-- each test of a chain that holds
+pub every-at : (b : Bool) (l : List Bool) → every b l ≡ true → (i : ℕ) → getD (b ∷ l) i true ≡ true
+every-at b l h zero = every-first b l h
+every-at b [] h (suc i) = refl
+every-at b (x ∷ l) h (suc zero) = both b x (every-first (b && x) l h) .1
+every-at b (x ∷ l) h (suc (suc i)) = every-at (b && x) l h (suc i)
+
+-- a fact of what a test picks, from both cases
+pub pick-by : {A : Type 0} (P : A → Type 0) (b : Bool) (x y : A) → (b ≡ true → P x) → P y → P (pick b x y)
+pick-by P true x y f h = f refl
+pick-by P false x y f h = h
+
+-- ---- a list as its elements
+
+-- the k elements from index i on
+abbrev pub elements : Octets → ℕ → ℕ → Octets
+elements l i zero = []
+elements l i (suc k) = getD l i 0 ∷ elements l (suc i) k
+
+pub elements-are : (l : Octets) (k i : ℕ) → i + k ≤ length l → elements l i k ++ drop (i + k) l ≡ drop i l
+elements-are l zero i h =
+    let e : i + zero ≡ i = omega arith in
+    ap (λ (j : ℕ). drop j l) e
+elements-are l (suc k) i h =
+    let e : i + suc k ≡ suc i + k = omega arith in
+    ap (λ (j : ℕ). getD l i 0 ∷ (elements l (suc i) k ++ drop j l)) e
+    ∙ ap (λ (t : Octets). getD l i 0 ∷ t) (elements-are l k (suc i) (omega arith))
+    ∙ sym (drop-cons l i 0 (omega arith))

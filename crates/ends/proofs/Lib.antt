@@ -1,0 +1,9 @@
+pub mod Progress
+pub mod Chains
+pub mod Messages
+pub mod Events
+pub mod CreditNotice
+pub mod Hearing
+pub mod RoundTrips
+pub mod Whole
+pub mod Places

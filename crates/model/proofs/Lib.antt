@@ -1,0 +1,17 @@
+pub mod Items
+pub mod Phases
+pub mod Link
+pub mod Acts
+pub mod Verdicts
+pub mod Meanings
+pub mod Messages
+pub mod Order
+pub mod Closing
+pub mod Fine
+pub mod Keeping
+pub mod Deciding
+pub mod Arriving
+pub mod Airing
+pub mod Hearing
+pub mod Trace
+pub mod Paper

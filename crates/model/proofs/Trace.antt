@@ -1,0 +1,147 @@
+-- Demand 3: the invariant holds after every list of calls from a fresh bench, and the claim follows from it.
+-- Assumes nothing.
+use Prim.Native.Nat.{ℕ}
+use native.Mathlib.Omega.{arith}
+use mathlib.Core.Path.{_≡_, refl, sym, ap, _∙_, subst}
+use mathlib.Core.Bool.{Bool, true, false, not}
+use mathlib.Core.List.{List, [], _∷_}
+use Rattle.octets.specs.Octets.{Octets, pick}
+use Rattle.packets.specs.Reassembly.{Prefix}
+use Rattle.packets.proofs.Reassembly.{flow-prefix}
+use Rattle.ends.specs.Conn.{flows}
+use Rattle.model.specs.Packets.{dataCount, creditsUp}
+use Rattle.model.specs.Bench.{State, Call, fresh, power, command, send, push, down, consume, credit, air, reply, up, report, Result, taken, refused, rules, first, act, judged, step, noConn, isLoop, cold, profileIn, profileOk, reportOf}
+use Rattle.model.specs.Observer.{Ledger, Account, opening, events, after, observed, observe, seen, eventOf}
+use Rattle.model.specs.Claim.{heldIn, owedIn, numbersOf, total, Claim, Demand}
+use Rattle.model.proofs.Items.{itemsOf, segsOf}
+use Rattle.model.proofs.Link.{Live, clash, held-counted, stored-counted, owed-counted}
+use Rattle.model.proofs.Meanings.{dataCount-segs, creditsUp-items}
+use Rattle.model.proofs.Messages.{profile-limits}
+use Rattle.model.proofs.Fine.{Fine, Kept, Keeps, kept, accountOf, cold-fine}
+use Rattle.model.proofs.Keeping.{fresh-keeps, power-keeps, command-keeps, send-keeps, push-keeps, consume-keeps, credit-keeps, reply-keeps, report-keeps}
+use Rattle.model.proofs.Arriving.{down-keeps}
+use Rattle.model.proofs.Airing.{air-keeps}
+use Rattle.model.proofs.Hearing.{up-keeps}
+
+-- ---- every call keeps the invariant
+
+call-keeps : (c : Call) (s : State) (aim : ℕ) (l : ℕ → Ledger) → Keeps c s aim l
+call-keeps (fresh m) s aim l = fresh-keeps s aim l m
+call-keeps power s aim l = power-keeps s aim l
+call-keeps (command gid oid m) s aim l = command-keeps s aim l gid oid m
+call-keeps (send c m) s aim l = send-keeps s aim l c m
+call-keeps (push c) s aim l = push-keeps s aim l c
+call-keeps down s aim l = down-keeps s aim l
+call-keeps (consume c) s aim l = consume-keeps s aim l c
+call-keeps credit s aim l = credit-keeps s aim l
+call-keeps (air m) s aim l = air-keeps s aim l m
+call-keeps reply s aim l = reply-keeps s aim l
+call-keeps up s aim l = up-keeps s aim l
+call-keeps (report c) s aim l = report-keeps s aim l c
+
+-- an account whose wires are the bench's is that of the bench
+same-account : (s : State) (o : Account) → Kept s o → o ≡ accountOf s (o .aim) (o .ledger)
+same-account s o k = λ i. record { down = k .same-down i; up = k .same-up i; aim = o .aim; ledger = o .ledger }
+
+step-keeps : (c : Call) (s : State) (o : Account) → Kept s o → Kept (step c s .effect .next) (observe (eventOf c (step c s)) o)
+unfolding step
+step-keeps c s o k = go (first (rules c s)) refl
+  where
+    go : (r : Result) → first (rules c s) ≡ r → Kept (judged r c s .effect .next) (observe (eventOf c (judged r c s)) o)
+    go taken e =
+        subst (λ (x : Account). Kept (act c s .next) (seen c (eventOf c (judged taken c s)) x)) (sym (same-account s o k))
+        (call-keeps c s (o .aim) (o .ledger) e (k .fine))
+    go (refused n) e = k
+
+calls-keep : (cs : List Call) (s : State) (o : Account) → Kept s o → Kept (after cs s) (observed (events cs s) o)
+unfolding after events observed
+calls-keep [] s o k = k
+calls-keep (c ∷ cs) s o k = calls-keep cs (step c s .effect .next) (observe (eventOf c (step c s)) o) (step-keeps c s o k)
+
+-- the invariant, after every list of calls
+pub reachable : (profile : Octets) → profileOk profile ≡ true → (calls : List Call)
+    → Kept (after calls (cold (profileIn profile))) (observed (events calls (cold (profileIn profile))) opening)
+reachable profile ok calls = calls-keep calls (cold (profileIn profile)) opening (kept (cold-fine (profileIn profile) (profile-limits profile ok)))
+
+-- ---- the claim
+
+module _ (c : ℕ) (s : State) (aim : ℕ) (l : ℕ → Ledger) (f : Fine s aim l) where
+  same-open : l c .controller .opened ≡ s .conns c .controller .opened
+  same-open = f .good c .here
+
+  conn-known : s .conns c .controller .opened ≡ true → noConn c ≡ false
+  conn-known o = go (noConn c) refl
+    where
+      go : (b : Bool) → noConn c ≡ b → b ≡ false
+      go true e = clash o (f .standing .known c e)
+      go false e = refl
+
+  open-there : l c .controller .opened ≡ true → s .conns c .controller .opened ≡ true
+  open-there e = sym same-open ∙ e
+
+  report-taken : l c .controller .opened ≡ true → step (report c) s .answer ≡ taken
+  unfolding step first
+  report-taken e = rw (conn-known (open-there e), open-there e)
+
+  open-if-taken : step (report c) s .answer ≡ taken → l c .controller .opened ≡ true
+  unfolding step first
+  open-if-taken e = same-open ∙ go (noConn c) (s .conns c .controller .opened) refl e
+    where
+      go : (a b : Bool) → s .conns c .controller .opened ≡ b → judged (pick a (refused 3) (pick (not b) (refused 6) taken)) (report c) s .answer ≡ taken → s .conns c .controller .opened ≡ true
+      go true b o h = absurd (let z : _≡_ {A = ℕ} 0 1 = cc in omega arith)
+      go false true o h = o
+      go false false o h = absurd (let z : _≡_ {A = ℕ} 0 1 = cc in omega arith)
+
+  module _ (o : s .conns c .controller .opened ≡ true) where
+    live : Live (isLoop c) (s .conns c) (segsOf c (s .down)) (itemsOf aim c (s .up)) (l c)
+    live = f .good c .live o
+
+    counted-held : (b : Bool) → flows (s .conns c .controller .grant) ≡ b → pick b (s .conns c .host .held) 255 ≡ pick b (heldIn (l c)) 255
+    counted-held true e = sym (held-counted o e (f .good c))
+    counted-held false e = refl
+
+    counted-owed : (b : Bool) → flows (s .conns c .controller .grant) ≡ b → pick b (s .conns c .controller .owed) 0 ≡ pick b (owedIn (l c)) 0
+    counted-owed true e = sym (owed-counted o e (f .good c))
+    counted-owed false e = refl
+
+    same-numbers : reportOf c s ≡ numbersOf c (accountOf s aim l)
+    same-numbers =
+        let g = live .granted in
+        let flow = flows (s .conns c .controller .grant) in
+        rw g
+        (λ i.
+        counted-held flow refl i ∷ dataCount c (s .down) ∷ sym (stored-counted o (f .good c)) i ∷ counted-owed flow refl i
+        ∷ pick flow (creditsUp c (s .up)) 0 ∷ [])
+
+    reported : step (report c) s .effect .message ≡ reportOf c s ∷ []
+    unfolding step first
+    reported = rw (conn-known o, o)
+
+    whole-sum : flows (l c .controller .grant) ≡ true → total (numbersOf c (accountOf s aim l)) ≡ l c .controller .grant
+    whole-sum e =
+        let g = live .granted in
+        let flow : flows (s .conns c .controller .grant) ≡ true = rw g at e in
+        let held = held-counted o flow (f .good c) in
+        let stored = stored-counted o (f .good c) in
+        let owed = owed-counted o flow (f .good c) in
+        rw (e, held, stored, owed, g)
+        (omega (arith, live .sum flow, dataCount-segs c (s .down), creditsUp-items aim c (s .up)))
+
+    to-host : (b : Bool) → isLoop c ≡ b → Prefix (l c .talk .outHost) (pick b (l c .talk .sent) (l c .talk .spoken))
+    to-host b e = rw (← e) (flow-prefix (live .toHost))
+
+  claim : Claim c s (accountOf s aim l)
+  claim =
+      record {
+        taken-if-open = (open-if-taken, report-taken);
+        numbers = λ e. reported (open-there e) ∙ ap (λ (n : Octets). n ∷ []) (same-numbers (open-there e));
+        sum = λ e. whole-sum (open-there e);
+        at-controller = λ e. flow-prefix (live (open-there e) .toController);
+        at-host = λ e h. to-host (open-there e) true h;
+        at-host-static = λ e h. to-host (open-there e) false h;
+      }
+
+pub demand : Demand
+demand profile ok calls c =
+    let k = reachable profile ok calls in
+    subst (Claim c (after calls (cold (profileIn profile)))) (sym (same-account _ _ k)) (claim c _ _ _ (k .fine))

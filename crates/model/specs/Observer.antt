@@ -1,0 +1,229 @@
+-- The observer: what is counted from arguments, answers, packets put on wires and messages handed out, never from the bench's own
+-- numbers (document 01, "Demand 3 is a single claim about the list"). A refused call counts for nothing.
+-- Assumes nothing.
+use Prim.Native.Nat.{ℕ, _+_, _-_, _%_}
+use mathlib.Core.Bool.{Bool, true, false}
+use mathlib.Core.List.{List, [], _∷_, _++_}
+use lib.Dec.{eqb}
+use lib.ListN.{getD, drop}
+use Rattle.octets.specs.Octets.{Octets, pick}
+use Rattle.model.specs.Packets.{Meaning, datum, control, junk, meaning, saysIn, contents}
+use Rattle.model.specs.Bench.{State, Call, fresh, power, command, send, push, down, consume, credit, air, reply, up, report, Result, taken, refused, Outcome, Change, stays, opens, closes, gives, changeHeard, at, step}
+
+-- ---- what is seen of a call
+
+pub record Event : Type 0 where
+  pub call : Call
+  pub answer : Result
+  pub dropped : Bool
+  pub toDown : List Octets
+  pub toUp : List Octets
+  pub message : List Octets
+
+-- ---- what is counted for a connection
+
+-- at the host: whether it is open, the grant read with the opening, and since then the packets pushed and the credits read
+pub record HostCount : Type 0 where
+  pub opened : Bool
+  pub grant : ℕ
+  pub pushed : ℕ
+  pub read : ℕ
+
+-- at the controller: whether it is open, the grant given with the opening, and since then the packets taken by down, the packets
+-- consumed and the credits put in notices
+pub record ControllerCount : Type 0 where
+  pub opened : Bool
+  pub grant : ℕ
+  pub arrived : ℕ
+  pub consumed : ℕ
+  pub noticed : ℕ
+
+-- since the controller opened it: messages taken by send, handed out by consume, taken by air 8, handed out by up
+pub record Talk : Type 0 where
+  pub sent : List Octets
+  pub outController : List Octets
+  pub spoken : List Octets
+  pub outHost : List Octets
+
+pub record Ledger : Type 0 where
+  pub host : HostCount
+  pub controller : ControllerCount
+  pub talk : Talk
+
+abbrev pub silence : Talk
+silence = record { sent = []; outController = []; spoken = []; outHost = [] }
+
+abbrev pub blank : Ledger
+blank =
+    record {
+      host = record { opened = false; grant = 0; pushed = 0; read = 0 };
+      controller = record { opened = false; grant = 0; arrived = 0; consumed = 0; noticed = 0 };
+      talk = silence;
+    }
+
+-- what the controller puts up: an opening starts its counts anew, credits are put in a notice
+abbrev pub putBy : Change → Ledger → Ledger
+putBy stays l = l
+putBy (opens t) l =
+    record { host = l .host; controller = record { opened = true; grant = t .credits; arrived = 0; consumed = 0; noticed = 0 }; talk = silence }
+putBy closes l =
+    let c = l .controller in
+    record { host = l .host; controller = record { opened = false; grant = c .grant; arrived = c .arrived; consumed = c .consumed; noticed = c .noticed }; talk = l .talk }
+putBy (gives n) l =
+    let c = l .controller in
+    record { host = l .host; controller = record { opened = c .opened; grant = c .grant; arrived = c .arrived; consumed = c .consumed; noticed = c .noticed + n }; talk = l .talk }
+
+-- what the host reads
+abbrev pub readBy : Change → Ledger → Ledger
+readBy stays l = l
+readBy (opens t) l = record { host = record { opened = true; grant = t .credits; pushed = 0; read = 0 }; controller = l .controller; talk = l .talk }
+readBy closes l =
+    let h = l .host in
+    record { host = record { opened = false; grant = h .grant; pushed = h .pushed; read = h .read }; controller = l .controller; talk = l .talk }
+readBy (gives n) l =
+    let h = l .host in
+    record { host = record { opened = h .opened; grant = h .grant; pushed = h .pushed; read = h .read + n }; controller = l .controller; talk = l .talk }
+
+-- a packet is pushed
+abbrev pub pushedL : Ledger → Ledger
+pushedL l =
+    let h = l .host in
+    record { host = record { opened = h .opened; grant = h .grant; pushed = h .pushed + 1; read = h .read }; controller = l .controller; talk = l .talk }
+
+-- a packet is taken by down, where the connection is open
+abbrev pub arrivedL : Ledger → Ledger
+arrivedL l =
+    let c = l .controller in
+    record { host = l .host; controller = record { opened = c .opened; grant = c .grant; arrived = c .arrived + 1; consumed = c .consumed; noticed = c .noticed }; talk = l .talk }
+
+-- a packet is consumed, and messages are handed out
+abbrev pub consumedL : List Octets → Ledger → Ledger
+consumedL ms l =
+    let c = l .controller in
+    let t = l .talk in
+    record {
+      host = l .host;
+      controller = record { opened = c .opened; grant = c .grant; arrived = c .arrived; consumed = c .consumed + 1; noticed = c .noticed };
+      talk = record { sent = t .sent; outController = t .outController ++ ms; spoken = t .spoken; outHost = t .outHost };
+    }
+
+-- a message is taken by send
+abbrev pub sentL : Octets → Ledger → Ledger
+sentL m l =
+    let t = l .talk in
+    record { host = l .host; controller = l .controller; talk = record { sent = t .sent ++ (m ∷ []); outController = t .outController; spoken = t .spoken; outHost = t .outHost } }
+
+-- a message is taken by air 8
+abbrev pub spokenL : Octets → Ledger → Ledger
+spokenL m l =
+    let t = l .talk in
+    record { host = l .host; controller = l .controller; talk = record { sent = t .sent; outController = t .outController; spoken = t .spoken ++ (m ∷ []); outHost = t .outHost } }
+
+-- messages are handed out by up
+abbrev pub givenL : List Octets → Ledger → Ledger
+givenL ms l =
+    let t = l .talk in
+    record { host = l .host; controller = l .controller; talk = record { sent = t .sent; outController = t .outController; spoken = t .spoken; outHost = t .outHost ++ ms } }
+
+-- ---- the account: what each wire holds, the connection that the last command named, and a ledger for each Conn ID
+
+pub record Account : Type 0 where
+  pub down : List Octets
+  pub up : List Octets
+  pub aim : ℕ
+  pub ledger : ℕ → Ledger
+
+abbrev pub opening : Account
+opening = record { down = []; up = []; aim = 0; ledger = λ d. blank }
+
+-- all but the first
+abbrev pub rest : List Octets → List Octets
+rest [] = []
+rest (p ∷ w) = w
+
+-- what a packet on the up wire does to a connection, where `aim` is the one that the last command named
+abbrev pub changeIn : ℕ → ℕ → Meaning → Change
+changeIn aim d q = changeHeard (saysIn aim q) (contents q) d
+
+-- packets that the controller puts up
+abbrev pub putAll : ℕ → ℕ → List Octets → Ledger → Ledger
+putAll aim d [] l = l
+putAll aim d (p ∷ ps) l = putAll aim d ps (putBy (changeIn aim d (meaning p)) l)
+
+abbrev pub shown : List Octets → Account → Account
+shown ps o = record { down = o .down; up = o .up ++ ps; aim = o .aim; ledger = λ d. putAll (o .aim) d ps (o .ledger d) }
+
+-- the packet that the controller takes: data of a connection that is open there
+abbrev pub arrival : ℕ → Meaning → Ledger → Ledger
+arrival d (datum c x) l = pick (eqb c d) (pick (l .controller .opened) (arrivedL l) l) l
+arrival d (control mt gid oid x) l = l
+arrival d junk l = l
+
+abbrev pub arrivalOf : ℕ → List Octets → Ledger → Ledger
+arrivalOf d [] l = l
+arrivalOf d (p ∷ w) l = arrival d (meaning p) l
+
+-- the packet that the host takes: a message handed out is on the Conn ID that up read
+abbrev pub heardAs : ℕ → ℕ → Meaning → List Octets → Ledger → Ledger
+heardAs aim d (datum c x) ms l = pick (eqb c d) (givenL ms l) l
+heardAs aim d (control mt gid oid x) ms l = readBy (changeIn aim d (control mt gid oid x)) l
+heardAs aim d junk ms l = l
+
+abbrev pub heardOf : ℕ → ℕ → List Octets → List Octets → Ledger → Ledger
+heardOf aim d [] ms l = l
+heardOf aim d (p ∷ w) ms l = heardAs aim d (meaning p) ms l
+
+-- an event of the air: of kind 8 it is a message
+abbrev pub airedL : Octets → (ℕ → Ledger) → ℕ → Ledger
+airedL m g = pick (eqb (getD m 0 0) 8) (at 0 (spokenL (drop 1 m)) g) g
+
+-- ---- a call that is taken
+
+abbrev pub seen : Call → Event → Account → Account
+seen (fresh m) e o = opening
+seen power e o = opening
+seen (command gid oid m) e o = record { down = o .down ++ e .toDown; up = o .up; aim = getD m 0 0 % 16; ledger = o .ledger }
+seen (send c m) e o = record { down = o .down; up = o .up; aim = o .aim; ledger = at c (sentL m) (o .ledger) }
+seen (push c) e o = record { down = o .down ++ e .toDown; up = o .up; aim = o .aim; ledger = at c pushedL (o .ledger) }
+seen down e o =
+    shown (e .toUp) (record { down = rest (o .down); up = o .up; aim = o .aim; ledger = λ d. arrivalOf d (o .down) (o .ledger d) })
+seen (consume c) e o =
+    shown (e .toUp) (record { down = o .down; up = o .up; aim = o .aim; ledger = at c (consumedL (e .message)) (o .ledger) })
+seen credit e o = shown (e .toUp) o
+seen (air m) e o = shown (e .toUp) (record { down = o .down; up = o .up; aim = o .aim; ledger = airedL m (o .ledger) })
+seen reply e o = shown (e .toUp) o
+seen up e o =
+    record { down = o .down; up = rest (o .up); aim = o .aim; ledger = λ d. heardOf (o .aim) d (o .up) (e .message) (o .ledger d) }
+seen (report c) e o = o
+
+abbrev pub counted : Result → Event → Account → Account
+counted taken e o = seen (e .call) e o
+counted (refused n) e o = o
+
+abbrev pub observe : Event → Account → Account
+observe e o = counted (e .answer) e o
+
+-- ---- a list of calls
+
+abbrev pub eventOf : Call → Outcome → Event
+eventOf c r =
+    record {
+      call = c;
+      answer = r .answer;
+      dropped = r .effect .drop;
+      toDown = r .effect .toDown;
+      toUp = r .effect .toUp;
+      message = r .effect .message;
+    }
+
+unfoldable pub events : List Call → State → List Event
+events [] s = []
+events (c ∷ cs) s = eventOf c (step c s) ∷ events cs (step c s .effect .next)
+
+unfoldable pub after : List Call → State → State
+after [] s = s
+after (c ∷ cs) s = after cs (step c s .effect .next)
+
+unfoldable pub observed : List Event → Account → Account
+observed [] o = o
+observed (e ∷ es) o = observed es (observe e o)

@@ -1,0 +1,81 @@
+// Text of programs that answer lines with lines. Here it is written into a lent buffer: each function writes from an index
+// on and answers the next index.
+pub mod fields;
+pub mod lines;
+
+ghost use mathlib.Core.Path.{_≡_};
+ghost use Rattle.text.specs.Digits.{digitOf, valueOf};
+
+// The capital hexadecimal digit of a number's low four bits.
+fn digit(n: u8) -> u8
+    ensures { λ r. ⌜ r ≡ digitOf n ⌝ }
+{
+    if n % 16 < 10 {
+        48 + n % 16
+    } else {
+        55 + n % 16
+    }
+}
+
+// The value of a capital hexadecimal digit; 16 for any other character.
+pub fn value(c: u8) -> u8
+    ensures { λ r. ⌜ r ≡ valueOf c ⌝ }
+{
+    if c < 48 {
+        16
+    } else if c < 58 {
+        c - 48
+    } else if c < 65 {
+        16
+    } else if c < 71 {
+        c - 55
+    } else {
+        16
+    }
+}
+
+// Writes text from index at on, and nothing where it does not fit.
+pub fn put(out: &mut [u8], at: usize, text: &[u8]) -> usize {
+    if out.len() < at {
+        return at;
+    }
+    if out.len() - at < text.len() {
+        return at;
+    }
+    octets::put(out, at, text);
+    at + text.len()
+}
+
+fn put_octet(out: &mut [u8], at: usize, octet: u8) -> usize {
+    let pair = [digit(octet / 16), digit(octet)];
+    put(out, at, &pair)
+}
+
+// A label and octets as pairs of digits.
+pub fn put_octets(out: &mut [u8], at: usize, label: &[u8], octets: &[u8]) -> usize {
+    let mut n = put(out, at, label);
+    let mut i = 0;
+    while i < octets.len() {
+        n = put_octet(out, n, octets[i]);
+        i += 1;
+    }
+    n
+}
+
+// A label and a number in decimal.
+pub fn put_number(out: &mut [u8], at: usize, label: &[u8], number: usize) -> usize {
+    let mut digits = [0u8; 20];
+    let k = io::decimal(number as u64, &mut digits);
+    let n = put(out, at, label);
+    put(out, n, &digits[..k])
+}
+
+// A label and a number of one octet in decimal.
+pub fn put_small(out: &mut [u8], at: usize, label: &[u8], number: u8) -> usize {
+    put_number(out, at, label, number as usize)
+}
+
+// A label and 1 or 0.
+pub fn put_flag(out: &mut [u8], at: usize, label: &[u8], flag: bool) -> usize {
+    put_number(out, at, label, if flag { 1 } else { 0 })
+}
