@@ -26,7 +26,8 @@ use Rattle.ends.specs.Layout.{nothing, genericErrorNtf, discoverNtf, activatedN
 use Rattle.ends.specs.Air.{eventOf, airedBy, airMessage, controllerAired}
 use Rattle.model.specs.Connection.{Connection, withController, spoken}
 use Rattle.model.specs.Packets.{noticePackets}
-use Rattle.model.specs.Bench.{State, Change, stays, opens, closes, changeAired, atController, airingAs, airing, air, rules, isBad, isEndpoint, isRefused, activates, isNil, withConns, withUp, withControllerState, at}
+use Rattle.model.specs.State.{State, withConns, withUp, withControllerState, at}
+use Rattle.model.specs.Bench.{Change, stays, opens, closes, changeAired, atController, airingAs, airing, air, rules, isBad, isEndpoint, isRefused, activates, isNil}
 use Rattle.model.specs.Observer.{Ledger, spokenL, airedL, shown}
 use Rattle.model.proofs.Items.{itemsBy, itemsOf, segsOf, putsL}
 use Rattle.model.proofs.Link.{clash}
@@ -42,14 +43,14 @@ use Rattle.model.proofs.Deciding.{notices-replies, notice-sound}
 -- ---- an event and what it does
 
 -- only an activation opens, only kind 8 speaks
-abbrev Suits : Event → Aired → Type 0
+abbrev pub Suits : Event → Aired → Type 0
 Suits e Refused = Unit {0}
 Suits e (Goes rf l) = isEndpoint e ≡ false
 Suits e (Activates rf l) = (isEndpoint e ≡ false) × (activates e ≡ true)
 Suits e (Ends rf) = isEndpoint e ≡ false
 Suits e Speaks = isEndpoint e ≡ true
 
-aired-suits : (rf : Rf) (ps : Pairs) (e : Event) → Suits e (airedBy rf ps e)
+pub aired-suits : (rf : Rf) (ps : Pairs) (e : Event) → Suits e (airedBy rf ps e)
 unfolding airedBy
 aired-suits rf ps Bad = tt
 aired-suits rf ps (Found a type) = found-by (Suits (Found a type)) tt rf ps a type (λ h next l k. refl)
@@ -73,7 +74,7 @@ kind-other m LinkLost w b n = w
 kind-other m Releases w b n = w
 kind-other m Endpoint w b n = clash refl n
 
-kind-eight : (m : Octets) (e : Event) → Within m e → isEndpoint e ≡ true → (eqb (getD m 0 0) 8 ≡ true) × (length (drop 1 m) ≤ dataLimit)
+pub kind-eight : (m : Octets) (e : Event) → Within m e → isEndpoint e ≡ true → (eqb (getD m 0 0) 8 ≡ true) × (length (drop 1 m) ≤ dataLimit)
 kind-eight m Bad w n = clash n refl
 kind-eight m (Found a type) w n = clash n refl
 kind-eight m (Poll a) w n = clash n refl

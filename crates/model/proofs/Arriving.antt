@@ -13,7 +13,8 @@ use Rattle.ends.specs.Runs.{controlLimit}
 use Rattle.ends.specs.Controller.{judgeOf}
 use Rattle.model.specs.Connection.{withController, stored}
 use Rattle.model.specs.Packets.{Meaning, datum, control, junk, meaning}
-use Rattle.model.specs.Bench.{State, Effect, taken, down, isNil, isOpen, rules, at, withDown, withConns, withAsking, answering, asked, arriving, taking}
+use Rattle.model.specs.State.{State, isOpen, at, withDown, withConns, withAsking}
+use Rattle.model.specs.Bench.{Effect, taken, down, isNil, rules, answering, asked, arriving, taking}
 use Rattle.model.specs.Observer.{Ledger, Account, arrivedL, arrival, shown, seen, eventOf}
 use Rattle.model.proofs.Items.{itemsOf, segsIn, segsOf}
 use Rattle.model.proofs.Link.{clash}

@@ -27,7 +27,8 @@ use Rattle.ends.specs.Controller.{controllerAfter}
 use Rattle.ends.specs.Layout.{responseOf, responseMessage, noticeMessage, resetNtf, deactivateNtf}
 use Rattle.model.specs.Connection.{Connection}
 use Rattle.model.specs.Packets.{aimedAt, says, responsePacket, noticePacket, noticePackets}
-use Rattle.model.specs.Bench.{State, Change, stays, opens, closes, changeBy, atController, answers, deciding, isOpen, isClosing, noConn}
+use Rattle.model.specs.State.{State, isOpen}
+use Rattle.model.specs.Bench.{Change, stays, opens, closes, changeBy, atController, answers, deciding, isClosing, noConn}
 use Rattle.model.specs.Observer.{Ledger, shown}
 use Rattle.model.proofs.Items.{putsL, Item, opened, itemsBy, itemsOf, segsOf}
 use Rattle.model.proofs.Link.{clash}
@@ -51,7 +52,7 @@ verdict-plain (verdict.Selects pair) d = tt
 verdict-plain (verdict.Deactivates type rf) d = on Plain (eqb 0 d) (λ e. tt) (λ e. tt)
 
 -- a dynamic Conn ID is one of the five
-dynamic-conn : (c : ℕ) → 2 ≤ c → c ≤ 5 → noConn c ≡ false
+pub dynamic-conn : (c : ℕ) → 2 ≤ c → c ≤ 5 → noConn c ≡ false
 unfolding placeOf
 dynamic-conn c low high =
     let Five : ℕ → Type 0 = λ (n : ℕ). leb 5 n ≡ false in
@@ -74,7 +75,7 @@ unfolding replies
 answers-replies gid oid p v low small =
     rw (meaning-answer gid oid p v low small) (ap (λ (ns : List Name). named gid oid ∷ ns) (notices-replies (noticePackets (noticeMessage v)) (notices-verdict v)))
 
-response-short : (p : Profile) (v : Verdict) → length (responseOf p v) ≤ controlLimit
+pub response-short : (p : Profile) (v : Verdict) → length (responseOf p v) ≤ controlLimit
 unfolding responseOf
 response-short p (verdict.Refuses status) = omega arith
 response-short p (verdict.Resets type) = omega arith

@@ -21,7 +21,8 @@ use Rattle.ends.specs.Runs.{controlLimit}
 use Rattle.ends.specs.Contents.{written}
 use Rattle.model.specs.Connection.{Connection, ControllerEnd, withHost, withController}
 use Rattle.model.specs.Packets.{Meaning, datum, control, junk, meaning}
-use Rattle.model.specs.Bench.{State, Call, taken, Change, stays, opens, closes, gives, atController, atHost, isClosing, isLoop, noConn, cold, first, rules, act, judged, at}
+use Rattle.model.specs.State.{State, cold, at}
+use Rattle.model.specs.Bench.{Call, taken, Change, stays, opens, closes, gives, atController, atHost, isClosing, isLoop, noConn, first, rules, act, judged}
 use Rattle.model.specs.Observer.{Ledger, Account, blank, putBy, readBy, putAll, changeIn, seen, eventOf}
 use Rattle.model.proofs.Items.{Item, itemsBy, itemsIn, itemsOf, segsOf, putsK, readsK, putsL, readsL}
 use Rattle.model.proofs.Link.{Good, clash, cold-good}

@@ -27,7 +27,8 @@ use Rattle.ends.specs.declared.contents.Notice.the-variants as notice
 use Rattle.packets.proofs.Reassembly.{within}
 use Rattle.model.specs.Connection.{Connection, withHost, heardData}
 use Rattle.model.specs.Packets.{Meaning, datum, control, junk, meaning, says}
-use Rattle.model.specs.Bench.{State, Effect, taken, up, isNil, rules, at, Change, stays, opens, closes, gives, changeHeard, withUp, withConns, withHearing, understanding, hearing, heard, coming, reading, runFor, sameRun}
+use Rattle.model.specs.State.{State, at, withUp, withConns, withHearing}
+use Rattle.model.specs.Bench.{Effect, taken, up, isNil, rules, Change, stays, opens, closes, gives, changeHeard, understanding, hearing, heard, coming, reading, runFor, sameRun}
 use Rattle.model.specs.Observer.{Ledger, Account, givenL, readBy, changeIn, heardAs, seen, eventOf}
 use Rattle.model.proofs.Items.{loaded, itemsBy, itemsOf, segsOf, readsK}
 use Rattle.model.proofs.Phases.{Ends, walk, start, bad-walk}

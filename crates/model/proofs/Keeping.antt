@@ -18,7 +18,8 @@ use Rattle.ends.specs.Contents.{creditsOk}
 use Rattle.ends.specs.Runs.{dataLimit, controlLimit}
 use Rattle.model.specs.Connection.{ControllerEnd, withHost, withController, sent, pushed, consumed, spoken}
 use Rattle.model.specs.Packets.{noticePacket, dataHeader, controlHeader, Meaning, datum, control, junk, meaning}
-use Rattle.model.specs.Bench.{State, taken, fresh, power, command, send, push, consume, credit, reply, report, profileIn, isLoop, isNil, noConn, isClosing, rules, withConns, withUp, pushing, consuming, consumedAs, replying, segmentIn, at, owedBy, allZero, givenTo}
+use Rattle.model.specs.State.{State, profileIn, withConns, withUp, at}
+use Rattle.model.specs.Bench.{taken, fresh, power, command, send, push, consume, credit, reply, report, isLoop, isNil, noConn, isClosing, rules, pushing, consuming, consumedAs, replying, segmentIn, owedBy, allZero, givenTo}
 use Rattle.model.specs.Observer.{Account, Ledger, sentL, pushedL, consumedL, seen, eventOf, shown}
 use Rattle.model.proofs.Items.{loaded, itemsBy, itemsOf, segsOf}
 use Rattle.model.proofs.Link.{clash, owed-le, credit-left}
@@ -111,7 +112,7 @@ module _ (s : State) (aim : ℕ) (l : ℕ → Ledger) (c : ℕ) (p : Octets) (st
 
 -- ---- credit
 
-entries-few : (p : ℕ) (ns : List ℕ) → length (entriesFrom p ns) ≤ length ns + length ns
+pub entries-few : (p : ℕ) (ns : List ℕ) → length (entriesFrom p ns) ≤ length ns + length ns
 unfolding entriesFrom
 entries-few p [] = omega arith
 entries-few p (n ∷ ns) =

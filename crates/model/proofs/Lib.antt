@@ -14,4 +14,11 @@ pub mod Arriving
 pub mod Airing
 pub mod Hearing
 pub mod Trace
-pub mod Paper
+pub mod Always
+pub mod Never
+pub mod Said
+pub mod Small
+pub mod Sizes
+pub mod Shaped
+pub mod WellFormed
+pub mod DataOpen

@@ -38,7 +38,8 @@ use Rattle.ends.specs.RoundTrips.{TermsOk, TargetOk}
 use Rattle.ends.proofs.Chains.{every-at}
 use Rattle.ends.proofs.RoundTrips.{round-trips}
 use Rattle.model.specs.Packets.{responsePacket, noticePacket, noticePackets, control, meaning, says}
-use Rattle.model.specs.Bench.{profileOk, profileIn, answers, stays, opens, closes, changeBy, changeAired, changeHeard, changeAnswered, givenTo, isRefused, noConn, ids, allZero}
+use Rattle.model.specs.State.{profileOk, profileIn}
+use Rattle.model.specs.Bench.{answers, stays, opens, closes, changeBy, changeAired, changeHeard, changeAnswered, givenTo, isRefused, noConn, ids, allZero}
 use Rattle.model.proofs.Items.{Item, closed, itemsBy, itemsOf}
 use Rattle.model.proofs.Meanings.{meaning-response, meaning-notice}
 use Rattle.model.proofs.Verdicts.{on, Fits, Within, found-by, poll-by, listen-by, failed-by}

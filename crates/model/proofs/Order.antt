@@ -17,7 +17,8 @@ use Rattle.ends.specs.declared.kinds.Pending.{Pending}
 use Rattle.ends.specs.declared.kinds.Pending.the-variants as pending
 use Rattle.ends.specs.Runs.{controlLimit}
 use Rattle.model.specs.Packets.{controlHeader, Meaning, datum, control, junk, meaning}
-use Rattle.model.specs.Bench.{noRun, ControlRun, Rule, taken, first, isNil, isBusy, runFor, sameRun}
+use Rattle.model.specs.State.{noRun, ControlRun}
+use Rattle.model.specs.Bench.{Rule, taken, first, isNil, isBusy, runFor, sameRun}
 use Rattle.model.proofs.Items.{segsIn, segsOf}
 use Rattle.model.proofs.Link.{clash}
 

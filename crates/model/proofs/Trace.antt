@@ -10,7 +10,8 @@ use Rattle.packets.specs.Reassembly.{Prefix}
 use Rattle.packets.proofs.Reassembly.{flow-prefix}
 use Rattle.ends.specs.Conn.{flows}
 use Rattle.model.specs.Packets.{dataCount, creditsUp}
-use Rattle.model.specs.Bench.{State, Call, fresh, power, command, send, push, down, consume, credit, air, reply, up, report, Result, taken, refused, rules, first, act, judged, step, noConn, isLoop, cold, profileIn, profileOk, reportOf}
+use Rattle.model.specs.State.{State, cold, profileIn, profileOk}
+use Rattle.model.specs.Bench.{Call, fresh, power, command, send, push, down, consume, credit, air, reply, up, report, Result, taken, refused, rules, first, act, judged, step, noConn, isLoop, reportOf}
 use Rattle.model.specs.Observer.{Ledger, Account, opening, events, after, observed, observe, seen, eventOf}
 use Rattle.model.specs.Claim.{heldIn, owedIn, numbersOf, total, Claim, Demand}
 use Rattle.model.proofs.Items.{itemsOf, segsOf}
@@ -43,7 +44,7 @@ call-keeps (report c) s aim l = report-keeps s aim l c
 same-account : (s : State) (o : Account) → Kept s o → o ≡ accountOf s (o .aim) (o .ledger)
 same-account s o k = λ i. record { down = k .same-down i; up = k .same-up i; aim = o .aim; ledger = o .ledger }
 
-step-keeps : (c : Call) (s : State) (o : Account) → Kept s o → Kept (step c s .effect .next) (observe (eventOf c (step c s)) o)
+pub step-keeps : (c : Call) (s : State) (o : Account) → Kept s o → Kept (step c s .effect .next) (observe (eventOf c (step c s)) o)
 unfolding step
 step-keeps c s o k = go (first (rules c s)) refl
   where

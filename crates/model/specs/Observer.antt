@@ -8,7 +8,8 @@ use lib.Dec.{eqb}
 use lib.ListN.{getD, drop}
 use Rattle.octets.specs.Octets.{Octets, pick}
 use Rattle.model.specs.Packets.{Meaning, datum, control, junk, meaning, saysIn, contents}
-use Rattle.model.specs.Bench.{State, Call, fresh, power, command, send, push, down, consume, credit, air, reply, up, report, Result, taken, refused, Outcome, Change, stays, opens, closes, gives, changeHeard, at, step}
+use Rattle.model.specs.State.{State, at}
+use Rattle.model.specs.Bench.{Call, fresh, power, command, send, push, down, consume, credit, air, reply, up, report, Result, taken, refused, Outcome, Change, stays, opens, closes, gives, changeHeard, step}
 
 -- ---- what is seen of a call
 

@@ -1,0 +1,508 @@
+-- The sizes of everything that a bench holds: each call keeps them.
+-- Assumes nothing.
+use Prim.Native.Nat.{ℕ, _+_, _≤_, _<_, _%_}
+use native.Mathlib.Omega.{arith}
+use mathlib.Core.Path.{_≡_, refl, ap}
+use mathlib.Core.Bool.{Bool, true, false, _&&_}
+use mathlib.Core.List.{List, [], _∷_, _++_}
+use lib.Dec.{eqb, ltb, leb}
+use lib.ListN.{length, getD, drop, length-append, length-map}
+use borrow.Author.Tests.{ltb-false, leb-false, not-false}
+use Rattle.octets.specs.Octets.{Octets, pick}
+use Rattle.packets.specs.Segments.{Segment, more, last, segments, segmentPacket}
+use Rattle.packets.specs.Reassembly.{Run, run}
+use Rattle.ends.specs.declared.kinds.Profile.{Profile}
+use Rattle.ends.specs.declared.kinds.Host.{Host}
+use Rattle.ends.specs.declared.controller.Verdict.{Verdict}
+use Rattle.ends.specs.declared.controller.Verdict.the-variants as verdict
+use Rattle.ends.specs.declared.air.Event.{Event}
+use Rattle.ends.specs.declared.air.Event.the-variants.{Bad, Found, Poll, Listen, Failed, Sleeps, LinkLost, Releases, Endpoint}
+use Rattle.ends.specs.declared.air.Aired.{Aired}
+use Rattle.ends.specs.declared.air.Aired.the-variants.{Refused, Goes, Activates, Ends, Speaks}
+use Rattle.ends.specs.declared.host.Answer.the-variants.{Done, ClosesAll, Sized, Opens, Closes}
+use Rattle.ends.specs.declared.host.Heard.{Heard}
+use Rattle.ends.specs.declared.host.Heard.the-variants.{Nothing, Dropped, Answered, Activated, Deactivated, Credits}
+use Rattle.ends.specs.Conn.{placeOf, termsOf}
+use Rattle.ends.specs.Runs.{dataLimit, controlLimit}
+use Rattle.ends.specs.Controller.{judgeOf}
+use Rattle.ends.specs.Layout.{noticeMessage}
+use Rattle.ends.specs.Host.{hostAfter, hearOf}
+use Rattle.ends.specs.Air.{eventOf, airMessage}
+use Rattle.model.specs.Connection.{Connection, withHost, withController, sent, pushed, heardData, stored, consumed, noticed, spoken}
+use Rattle.model.specs.Packets.{dataHeader, noticePackets, Meaning, datum, control, junk, meaning}
+use Rattle.model.specs.State.{State, isOpen, at, withConns, withDown, withUp, withAsking, withHearing, ControlRun, profileIn, withHostState}
+use Rattle.model.specs.Bench.{fresh, power, command, send, push, down, consume, credit, air, reply, up, report, Effect, taken, first, rules, act, noConn, isNil, full, isHeld, stays, opens, closes, changeBy, changeHeard, atHost, runFor, runAfter, wholeBy, answers, deciding, answering, arriving, taking, tooTight, firstFull, needsTwo, heard, owedBy, storeFull, isLoop, echo, segmentIn, joinedRun, consuming, pushing, replying, airedConns, airing, notifies, hearing, coming, reading}
+use Rattle.model.specs.Observer.{Ledger}
+use Rattle.model.specs.Reachable.{Always, RunWithin, ProfileWithin, Sizes}
+use Rattle.model.proofs.Link.{clash, held-le, owed-le}
+use Rattle.model.proofs.Verdicts.{on, Fits, judge-fits, Within, event-within}
+use Rattle.model.proofs.Meanings.{meaning-data}
+use Rattle.model.proofs.Messages.{Limits, profile-limits, notices-few}
+use Rattle.model.proofs.Order.{each, need, or-left, or-right, way-low, way-small}
+use Rattle.model.proofs.Fine.{Fine, SoundIn, Sound, StoredIn, StoredFor}
+use Rattle.model.proofs.Deciding.{dynamic-conn}
+use Rattle.model.proofs.Airing.{Suits, aired-suits, kind-eight}
+use Rattle.model.proofs.Trace.{reachable}
+use Rattle.model.proofs.Always.{Stays, always}
+use Rattle.model.proofs.Never.{heard-whole}
+use Rattle.model.proofs.Said.{Bounded, Said, said-append, hear-bounded, terms-bounded, answers-said, air-said, credit-said, data-said, OpensWithin, heard-opens}
+use Rattle.model.proofs.Small.{HostSmall, ControllerSmall, ConnSmall, Small, cold-small, sent-octets, grown-within, more-none, at-small, change-controller, change-host, held-known, open-known, after-steady, aired-steady}
+
+-- ---- down
+
+-- at most two packets answer a command
+answers-few : (gid oid : ℕ) (p : Profile) (v : Verdict) → length (answers gid oid p v) ≤ 2
+answers-few gid oid p v = omega (arith, notices-few (noticeMessage v))
+
+verdict-opens : (gid oid aim : ℕ) (p : Profile) (v : Verdict) → Limits p → Fits gid oid aim p v → (d : ℕ) → OpensWithin d (changeBy v d)
+verdict-opens gid oid aim p (verdict.Refuses status) l f d = tt
+verdict-opens gid oid aim p (verdict.Resets type) l f d = tt
+verdict-opens gid oid aim p verdict.Initialises l f d = tt
+verdict-opens gid oid aim p (verdict.Opens c t) l f d =
+    each c (λ d b. OpensWithin d (pick b (opens t) stays)) (dynamic-conn c (f .2) (f .3), rw (f .4) (terms-bounded p c l)) (λ d. tt) d
+verdict-opens gid oid aim p (verdict.Closes c) l f d = on (OpensWithin d) (eqb c d) (λ e. tt) (λ e. tt)
+verdict-opens gid oid aim p (verdict.Turns rf) l f d = tt
+verdict-opens gid oid aim p (verdict.Selects pair) l f d = tt
+verdict-opens gid oid aim p (verdict.Deactivates type rf) l f d = on (OpensWithin d) (eqb 0 d) (λ e. tt) (λ e. tt)
+
+-- a whole command is answered
+deciding-small : (s : State) (gid oid aim : ℕ) (v : Verdict) → Limits (s .profile) → Fits gid oid aim (s .profile) v → gid < 16 → oid < 64
+    → full 2 (s .up) ≡ false → Small s → Small (deciding gid oid v s .next)
+deciding-small s gid oid aim v l f low small fits m =
+    record {
+      downs = m .downs;
+      ups = rw length-append (omega (arith, ltb-false 16 (length (s .up) + 2) fits, answers-few gid oid (s .profile) v));
+      said = said-append (s .up) (answers gid oid (s .profile) v) (m .said) (answers-said (s .profile) gid oid aim v l f low small);
+      conns = λ d. change-controller d (changeBy v d) (s .conns d) (verdict-opens gid oid aim (s .profile) v l f d) (m .conns d);
+      steady = after-steady gid oid aim (s .profile) (s .controller) v f (m .steady);
+      size-least = m .size-least;
+      size-most = m .size-most;
+      hearing = m .hearing;
+      asking = m .asking;
+    }
+
+module _ (s : State) (aim : ℕ) (l : ℕ → Ledger) (p : Octets) (w : List Octets) (f : Fine (withDown (p ∷ w) s) aim l) (m : Small (withDown (p ∷ w) s)) where
+  abbrev Leads : Effect → Type 0
+  Leads e = Small (e .next)
+
+  -- the packet is taken off the wire
+  off : Small (withDown w s)
+  off =
+      record {
+        downs = omega (arith, m .downs);
+        ups = m .ups;
+        said = m .said;
+        conns = m .conns;
+        steady = m .steady;
+        size-least = m .size-least;
+        size-most = m .size-most;
+        hearing = m .hearing;
+        asking = m .asking;
+      }
+
+  -- and joins the run of a command
+  joined : (gid oid : ℕ) (x : Segment) → Small (withAsking (runAfter (s .asking) 1 gid oid x) (withDown w s))
+  joined gid oid x =
+      record {
+        downs = omega (arith, m .downs);
+        ups = m .ups;
+        said = m .said;
+        conns = m .conns;
+        steady = m .steady;
+        size-least = m .size-least;
+        size-most = m .size-most;
+        hearing = m .hearing;
+        asking = grown-within controlLimit (runFor (s .asking) 1 gid oid) x;
+      }
+
+  answering-small : (gid oid : ℕ) (x : Segment) (ms : List Octets) (b : Bool) → gid < 16 → oid < 64 → full 2 (s .up) ≡ false
+      → Small (answering gid oid ms b (withAsking (runAfter (s .asking) 1 gid oid x) (withDown w s)) .next)
+  answering-small gid oid x [] b low small fits = joined gid oid x
+  answering-small gid oid x (o ∷ ms) b low small fits =
+      let z = withAsking (runAfter (s .asking) 1 gid oid x) (withDown w s) in
+      deciding-small z gid oid (getD o 0 0 % 16) (judgeOf (s .profile) (s .controller) (isOpen z) gid oid o) (f .limits)
+      (judge-fits (s .profile) (s .controller) (isOpen z) gid oid o) low small fits (joined gid oid x)
+
+  store-small : (c : ℕ) → isOpen s c ≡ true → (isOpen s c && leb 8 (length (s .conns c .controller .store))) ≡ false
+      → Small (withConns (at c (λ k. withController (stored p (k .controller)) k) (s .conns)) (withDown w s))
+  store-small c o fits =
+      record {
+        downs = omega (arith, m .downs);
+        ups = m .ups;
+        said = m .said;
+        conns =
+            at-small c (λ k. withController (stored p (k .controller)) k) (s .conns) (open-known c (s .conns c) (m .conns c) o) (m .conns c .host)
+            (record {
+              stored = rw length-append (omega (arith, leb-false 8 (length (s .conns c .controller .store)) (rw o at fits)));
+              speech = m .conns c .controller .speech;
+              reassembly = m .conns c .controller .reassembly;
+            })
+            (m .conns);
+        steady = m .steady;
+        size-least = m .size-least;
+        size-most = m .size-most;
+        hearing = m .hearing;
+        asking = m .asking;
+      }
+
+  arriving-small : (q : Meaning) → meaning p ≡ q → (needsTwo q && full 2 (s .up)) ≡ false → storeFull s q ≡ false
+      → Small (arriving q p (withDown w s) .next)
+  arriving-small (datum c x) means two room = on Leads (isOpen s c) (λ o. store-small c o room) (λ o. off)
+  arriving-small (control mt gid oid (more b)) means two room =
+      on Leads (eqb mt 1)
+      (λ e. rw (more-none controlLimit (runFor (s .asking) 1 gid oid) b) (joined gid oid (more b)))
+      (λ e. off)
+  arriving-small (control mt gid oid (last b)) means two room =
+      on Leads (eqb mt 1)
+      (λ e. answering-small gid oid (last b) (wholeBy (s .asking) 1 gid oid (last b)) _
+      (way-low aim (s .asking) p w mt gid oid (last b) means e (f .way)) (way-small aim (s .asking) p w mt gid oid (last b) means e (f .way))
+      (rw e at two))
+      (λ e. off)
+  arriving-small junk means two room = off
+
+down-small : (s : State) (aim : ℕ) (l : ℕ → Ledger) → first (rules down s) ≡ taken → Fine s aim l → Small s → Small (act down s .next)
+down-small s aim l t f m = go (s .down) (need 4 (rules down s) t) (need 8 (rules down s) t) (need 12 (rules down s) t) f m
+  where
+    go : (w : List Octets) → tooTight s w ≡ false → isNil w ≡ false → firstFull s w ≡ false → Fine (withDown w s) aim l → Small (withDown w s)
+        → Small (taking w s .next)
+    go [] two e room f m = clash refl e
+    go (p ∷ w) two e room f m = arriving-small s aim l p w f m (meaning p) refl two room
+
+-- ---- send, push, consume, reply
+
+-- one of the five changes, and packets are put up
+put-small : (s : State) (c : ℕ) (g : Connection → Connection) (ps : List Octets) → noConn c ≡ false → HostSmall (g (s .conns c) .host)
+    → ControllerSmall (g (s .conns c) .controller) → length (s .up) + length ps ≤ 16 → Said ps → Small s
+    → Small (withUp (s .up ++ ps) (withConns (at c g (s .conns)) s))
+put-small s c g ps five h k room said m =
+    record {
+      downs = m .downs;
+      ups = rw length-append room;
+      said = said-append (s .up) ps (m .said) said;
+      conns = at-small c g (s .conns) five h k (m .conns);
+      steady = m .steady;
+      size-least = m .size-least;
+      size-most = m .size-most;
+      hearing = m .hearing;
+      asking = m .asking;
+    }
+
+send-small : (s : State) (c : ℕ) (o : Octets) → first (rules (send c o) s) ≡ taken → Small s → Small (act (send c o) s .next)
+send-small s c o t m =
+    let third = need 3 (rules (send c o) s) t in
+    let short = ltb-false 1024 (length o) (or-right (noConn c) (ltb 1024 (length o)) third) in
+    record {
+      downs = m .downs;
+      ups = m .ups;
+      said = m .said;
+      conns =
+          at-small c (λ k. withHost (sent o (k .host)) k) (s .conns) (or-left (noConn c) (ltb 1024 (length o)) third)
+          (record {
+            hand = rw (sent-octets (s .conns c .host .payload) o) short;
+            reassembly = m .conns c .host .reassembly;
+            terms = m .conns c .host .terms;
+          })
+          (m .conns c .controller) (m .conns);
+      steady = m .steady;
+      size-least = m .size-least;
+      size-most = m .size-most;
+      hearing = m .hearing;
+      asking = m .asking;
+    }
+
+push-small : (s : State) (c : ℕ) → first (rules (push c) s) ≡ taken → Small s → Small (act (push c) s .next)
+push-small s c t m = go (s .conns c .host .hand) refl
+  where
+    go : (h : List Segment) → s .conns c .host .hand ≡ h → Small (pushing c h s .next)
+    go [] e = m
+    go (x ∷ h) e =
+        record {
+          downs = rw length-append (omega (arith, ltb-false 16 (length (s .down) + 1) (need 4 (rules (push c) s) t)));
+          ups = m .ups;
+          said = m .said;
+          conns =
+              at-small c (λ k. withHost (pushed h (k .host)) k) (s .conns) (need 3 (rules (push c) s) t)
+              (record {
+                hand = omega (arith, rw e at (m .conns c .host .hand));
+                reassembly = m .conns c .host .reassembly;
+                terms = m .conns c .host .terms;
+              })
+              (m .conns c .controller) (m .conns);
+          steady = m .steady;
+          size-least = m .size-least;
+          size-most = m .size-most;
+          hearing = m .hearing;
+          asking = m .asking;
+        }
+
+stored-said : (c : ℕ) (p : Octets) (q : Meaning) → meaning p ≡ q → StoredIn c q → Said (p ∷ [])
+stored-said c p (datum b x) means h = data-said p b x means
+stored-said c p (control mt gid oid x) means h = absurd h
+stored-said c p junk means h = absurd h
+
+joined-within : (r : Run) (xs : List Segment) → RunWithin dataLimit r → RunWithin dataLimit (joinedRun r xs)
+joined-within r [] h = h
+joined-within r (x ∷ xs) h = grown-within dataLimit r x
+
+consume-small : (s : State) (aim : ℕ) (l : ℕ → Ledger) (c : ℕ) → first (rules (consume c) s) ≡ taken → Fine s aim l → Small s → Small (act (consume c) s .next)
+unfolding StoredFor Said
+consume-small s aim l c t f m = go (s .conns c .controller .store) refl
+  where
+    room : (p : Octets) → length (s .up) + length (echo c p) ≤ 16
+    room p = with-loop (isLoop c) (need 4 (rules (consume c) s) t)
+      where
+        with-loop : (b : Bool) → (b && full 1 (s .up)) ≡ false → length (s .up) + length (pick b (p ∷ []) []) ≤ 16
+        with-loop true e = omega (arith, ltb-false 16 (length (s .up) + 1) e)
+        with-loop false e = omega (arith, m .ups)
+
+    go : (st : List Octets) → s .conns c .controller .store ≡ st → Small (consuming c st s .next)
+    go [] e = m
+    go (p ∷ st) e =
+        put-small s c (λ k. withController (consumed st (joinedRun (k .controller .run) (segmentIn (meaning p))) (k .controller)) k) (echo c p)
+        (need 3 (rules (consume c) s) t) (m .conns c .host)
+        (record {
+          stored = omega (arith, rw e at (m .conns c .controller .stored));
+          speech = m .conns c .controller .speech;
+          reassembly = joined-within (s .conns c .controller .run) (segmentIn (meaning p)) (m .conns c .controller .reassembly);
+        })
+        (room p)
+        (on Said (isLoop c) (λ e′. stored-said c p (meaning p) refl (rw e at (f .standing .stores c) .0)) (λ e′. tt))
+        m
+
+reply-small : (s : State) → first (rules reply s) ≡ taken → Small s → Small (act reply s .next)
+unfolding placeOf
+reply-small s t m = go (s .conns 0 .controller .speech) refl
+  where
+    go : (h : List Segment) → s .conns 0 .controller .speech ≡ h → Small (replying h s .next)
+    go [] e = m
+    go (x ∷ h) e =
+        put-small s 0 (λ k. withController (spoken h (k .controller)) k) (segmentPacket (dataHeader 0) x ∷ []) refl (m .conns 0 .host)
+        (record {
+          stored = m .conns 0 .controller .stored;
+          speech = omega (arith, rw e at (m .conns 0 .controller .speech));
+          reassembly = m .conns 0 .controller .reassembly;
+        })
+        (ltb-false 16 (length (s .up) + 1) (need 4 (rules reply s) t))
+        (data-said (segmentPacket (dataHeader 0) x) 0 x (meaning-data 0 x (omega arith)))
+        m
+
+-- ---- command, credit
+
+command-small : (s : State) (gid oid : ℕ) (o : Octets) → first (rules (command gid oid o) s) ≡ taken → Small s → Small (act (command gid oid o) s .next)
+command-small s gid oid o t m =
+    record {
+      downs = simp (length-append, length-map) (ltb-false 16 (length (s .down) + length (segments (s .host .size) o)) (need 4 (rules (command gid oid o) s) t));
+      ups = m .ups;
+      said = m .said;
+      conns = m .conns;
+      steady = m .steady;
+      size-least = m .size-least;
+      size-most = m .size-most;
+      hearing = m .hearing;
+      asking = m .asking;
+    }
+
+credit-small : (s : State) → first (rules credit s) ≡ taken → Small s → Small (act credit s .next)
+credit-small s t m =
+    record {
+      downs = m .downs;
+      ups = rw length-append (ltb-false 16 (length (s .up) + 1) (need 4 (rules credit s) t));
+      said = said-append (s .up) _ (m .said) (credit-said (owedBy s));
+      conns =
+          λ d.
+          record {
+            host = m .conns d .host;
+            controller = record { stored = m .conns d .controller .stored; speech = m .conns d .controller .speech; reassembly = m .conns d .controller .reassembly };
+            other = λ e. ap (λ (k : Connection). withController (noticed (k .controller)) k) (m .conns d .other e);
+          };
+      steady = m .steady;
+      size-least = m .size-least;
+      size-most = m .size-most;
+      hearing = m .hearing;
+      asking = m .asking;
+    }
+
+-- ---- air
+
+-- a notification of the air is one packet, where there is one
+air-few : (p : Profile) (e : Event) (o : Octets) (n : ℕ) → n ≤ 16 → (notifies e && ltb 16 (n + 1)) ≡ false → n + length (noticePackets (airMessage p e o)) ≤ 16
+unfolding airMessage
+air-few p Bad o n h e = omega arith
+air-few p (Found a type) o n h e = omega (arith, ltb-false 16 (n + 1) e, notices-few (airMessage p (Found a type) o))
+air-few p (Poll a) o n h e = omega (arith, ltb-false 16 (n + 1) e, notices-few (airMessage p (Poll a) o))
+air-few p (Listen a) o n h e = omega (arith, ltb-false 16 (n + 1) e, notices-few (airMessage p (Listen a) o))
+air-few p Failed o n h e = omega (arith, ltb-false 16 (n + 1) e, notices-few (airMessage p Failed o))
+air-few p Sleeps o n h e = omega (arith, ltb-false 16 (n + 1) e, notices-few (airMessage p Sleeps o))
+air-few p LinkLost o n h e = omega (arith, ltb-false 16 (n + 1) e, notices-few (airMessage p LinkLost o))
+air-few p Releases o n h e = omega (arith, ltb-false 16 (n + 1) e, notices-few (airMessage p Releases o))
+air-few p Endpoint o n h e = omega arith
+
+-- the connections after it
+air-conns : (s : State) (o : Octets) (e : Event) (a : Aired) → Limits (s .profile) → Within o e → Suits e a → Small s
+    → (d : ℕ) → ConnSmall d (airedConns (termsOf (s .profile) 0) a o (s .conns) d)
+unfolding placeOf
+air-conns s o e Refused l w t m d = m .conns d
+air-conns s o e (Goes rf ls) l w t m d = m .conns d
+air-conns s o e (Activates rf ls) l w t m d =
+    change-controller d (pick (eqb 0 d) (opens (termsOf (s .profile) 0)) stays) (s .conns d)
+    (each 0 (λ d b. OpensWithin d (pick b (opens (termsOf (s .profile) 0)) stays)) (refl, terms-bounded (s .profile) 0 l) (λ d. tt) d) (m .conns d)
+air-conns s o e (Ends rf) l w t m d =
+    change-controller d (pick (eqb 0 d) closes stays) (s .conns d) (on (OpensWithin d) (eqb 0 d) (λ e. tt) (λ e. tt)) (m .conns d)
+air-conns s o e Speaks l w t m d =
+    at-small 0 (λ k. withController (spoken (segments 255 (drop 1 o)) (k .controller)) k) (s .conns) refl (m .conns 0 .host)
+    (record {
+      stored = m .conns 0 .controller .stored;
+      speech = rw (sent-octets 255 (drop 1 o)) (kind-eight o e w t .1);
+      reassembly = m .conns 0 .controller .reassembly;
+    })
+    (m .conns) d
+
+air-small : (s : State) (aim : ℕ) (l : ℕ → Ledger) (o : Octets) → first (rules (air o) s) ≡ taken → Fine s aim l → Small s → Small (act (air o) s .next)
+air-small s aim l o t f m =
+    record {
+      downs = m .downs;
+      ups = rw length-append (air-few (s .profile) (eventOf o) o (length (s .up)) (m .ups) (need 4 (rules (air o) s) t));
+      said = said-append (s .up) _ (m .said) (air-said (s .profile) o (eventOf o) (f .limits));
+      conns =
+          air-conns s o (eventOf o) (airing s o) (f .limits) (event-within o) (aired-suits (s .controller .rf) (s .controller .pairs) (eventOf o)) m;
+      steady = aired-steady (s .controller) (airing s o) (m .steady);
+      size-least = m .size-least;
+      size-most = m .size-most;
+      hearing = m .hearing;
+      asking = m .asking;
+    }
+
+-- ---- up
+
+after-size : (h : Host) (x : Heard) → Bounded x → (32 ≤ h .size) × (h .size ≤ 255) → (32 ≤ hostAfter h x .size) × (hostAfter h x .size ≤ 255)
+unfolding hostAfter
+after-size h Nothing b e = e
+after-size h Dropped b e = e
+after-size h (Answered Done) b e = e
+after-size h (Answered ClosesAll) b e = omega arith
+after-size h (Answered (Sized n)) b e = b
+after-size h (Answered (Opens c t)) b e = e
+after-size h (Answered (Closes c)) b e = e
+after-size h (Activated t) b e = e
+after-size h Deactivated b e = e
+after-size h Credits b e = e
+
+module _ (s : State) (aim : ℕ) (l : ℕ → Ledger) (p : Octets) (w : List Octets) (f : Fine (withUp (p ∷ w) s) aim l) (m : Small (withUp (p ∷ w) s)) where
+  -- the packet is taken off the wire, where the host has the connections g, the state h and the run r
+  taken-small : (g : ℕ → Connection) (h : Host) (r : ControlRun) → ((d : ℕ) → ConnSmall d (g d)) → (32 ≤ h .size) × (h .size ≤ 255)
+      → RunWithin controlLimit (r .run) → Small (withHostState h (withConns g (withHearing r (withUp w s))))
+  unfolding Said
+  taken-small g h r conns size within =
+      record {
+        downs = m .downs;
+        ups = omega (arith, m .ups);
+        said = m .said .1;
+        conns = conns;
+        steady = m .steady;
+        size-least = size .0;
+        size-most = size .1;
+        hearing = within;
+        asking = m .asking;
+      }
+
+  same-size : (32 ≤ s .host .size) × (s .host .size ≤ 255)
+  same-size = (m .size-least, m .size-most)
+
+  gone : Small (withUp w s)
+  gone = taken-small (s .conns) (s .host) (s .hearing) (m .conns) same-size (m .hearing)
+
+  data-small : (c : ℕ) (x : Segment) → isHeld s c ≡ true → Small (withConns (at c (λ k. withHost (heardData x (k .host)) k) (s .conns)) (withUp w s))
+  data-small c x o =
+      taken-small (at c (λ k. withHost (heardData x (k .host)) k) (s .conns)) (s .host) (s .hearing)
+      (at-small c (λ k. withHost (heardData x (k .host)) k) (s .conns) (held-known c (s .conns c) (m .conns c) o)
+      (record { hand = m .conns c .host .hand; reassembly = grown-within dataLimit (s .conns c .host .run) x; terms = m .conns c .host .terms })
+      (m .conns c .controller) (m .conns))
+      same-size (m .hearing)
+
+  heard-small : (mt gid oid : ℕ) (o : Octets) → meaning p ≡ control mt gid oid (last o) → length o ≤ controlLimit
+      → Small (heard mt gid oid (last o) (withUp w s) .next)
+  unfolding Said
+  heard-small mt gid oid o means short =
+      let h = hearOf (s .host .pending) mt gid oid o in
+      let bound : Bounded h = hear-bounded (s .host .pending) mt gid oid o (rw means at (m .said .0)) in
+      rw (heard-whole s aim l p w f mt gid oid o short)
+      (taken-small (λ d. withHost (atHost (changeHeard h o d) (s .conns d .host)) (s .conns d)) (hostAfter (s .host) h) (runAfter (s .hearing) mt gid oid (last o))
+      (λ d. change-host d (changeHeard h o d) (s .conns d) (heard-opens h o d bound) (m .conns d))
+      (after-size (s .host) h bound same-size) (grown-within controlLimit (runFor (s .hearing) mt gid oid) (last o)))
+
+  coming-small : (q : Meaning) → meaning p ≡ q → SoundIn q → Small (coming q (withUp w s) .next)
+  coming-small (datum c x) means k = on (λ (e : Effect). Small (e .next)) (isHeld s c) (λ o. data-small c x o) (λ o. gone)
+  coming-small (control mt gid oid (more b)) means k = absurd k
+  coming-small (control mt gid oid (last o)) means k =
+      on (λ (e : Effect). Small (e .next)) (eqb mt 1) (λ e. gone) (λ e. heard-small mt gid oid o means (k .1))
+  coming-small junk means k = gone
+
+up-small : (s : State) (aim : ℕ) (l : ℕ → Ledger) → first (rules up s) ≡ taken → Fine s aim l → Small s → Small (act up s .next)
+unfolding Sound
+up-small s aim l t f m = go (s .up) (need 8 (rules up s) t) f m
+  where
+    go : (w : List Octets) → isNil w ≡ false → Fine (withUp w s) aim l → Small (withUp w s) → Small (reading w s .next)
+    go [] e f m = clash refl e
+    go (p ∷ w) e f m = coming-small s aim l p w f m (meaning p) refl (f .sound .0)
+
+-- ---- every call
+
+pub act-small : Stays Small
+act-small (fresh o) s aim l t f m = cold-small (profileIn o) (profile-limits o (not-false _ (need 3 (rules (fresh o) s) t)))
+act-small power s aim l t f m = cold-small (s .profile) (f .limits)
+act-small (command gid oid o) s aim l t f m = command-small s gid oid o t m
+act-small (send c o) s aim l t f m = send-small s c o t m
+act-small (push c) s aim l t f m = push-small s c t m
+act-small down s aim l t f m = down-small s aim l t f m
+act-small (consume c) s aim l t f m = consume-small s aim l c t f m
+act-small credit s aim l t f m = credit-small s t m
+act-small (air o) s aim l t f m = air-small s aim l o t f m
+act-small reply s aim l t f m = reply-small s t m
+act-small up s aim l t f m = up-small s aim l t f m
+act-small (report c) s aim l t f m = m
+
+profile-within : (p : Profile) → Limits p → ProfileWithin p
+profile-within p l =
+    record {
+      control-least = l .control;
+      control-most = l .control-most;
+      dynamic = record { least = l .dynamic .payload; most = l .dynamic-most; credits-ok = l .dynamic .credits };
+      fixed = record { least = l .fixed .payload; most = l .fixed-most; credits-ok = l .fixed .credits };
+    }
+
+sizes : (s : State) (aim : ℕ) (l : ℕ → Ledger) → Fine s aim l → Small s → Sizes s
+sizes s aim l f m =
+    record {
+      profile = profile-within (s .profile) (f .limits);
+      down = m .downs;
+      up = m .ups;
+      host =
+          λ d.
+          record {
+            hand = m .conns d .host .hand;
+            reassembly = m .conns d .host .reassembly;
+            credits = held-le (f .good d);
+            terms = m .conns d .host .terms;
+          };
+      controller =
+          λ d.
+          record {
+            stored = m .conns d .controller .stored;
+            speech = m .conns d .controller .speech;
+            reassembly = m .conns d .controller .reassembly;
+            credits = owed-le (f .good d);
+            terms = λ o. rw (f .standing .granted d o) (terms-bounded (s .profile) d (f .limits) .credits-ok);
+          };
+      others = λ d. m .conns d .other;
+      command-least = m .size-least;
+      command-most = m .size-most;
+      hearing = m .hearing;
+      asking = m .asking;
+      given = m .steady .given;
+      pairs = m .steady .pairs;
+      places = m .steady .places;
+    }
+
+pub sizes-reachable : Always Sizes
+sizes-reachable profile ok calls =
+    sizes _ _ _ (reachable profile ok calls .fine) (always Small act-small cold-small profile ok calls)

@@ -1,0 +1,217 @@
+-- The sizes that a bench may have, as an invariant: one connection, the controller's own numbers, the bench. That each call keeps it is
+-- in Sizes.
+-- Assumes nothing.
+use Prim.Native.Nat.{ℕ, zero, suc, _+_, _≤_}
+use native.Mathlib.Omega.{arith}
+use mathlib.Core.Path.{_≡_, refl, ap, _∙_}
+use mathlib.Core.Logic.{_⊎_, inl, inr}
+use mathlib.Core.Bool.{Bool, true, false}
+use mathlib.Core.List.{List, []}
+use lib.Dec.{ltb}
+use lib.ListN.{length, drop, length-append, length-take, length-drop, length-set}
+use borrow.Author.Tests.{ltb-false, ltb-true}
+use Rattle.octets.specs.Octets.{Octets, pick}
+use Rattle.packets.specs.Segments.{Segment, more, last, segmentsWithin, segments}
+use Rattle.packets.specs.Reassembly.{Run, run, lost, grown, finished}
+use Rattle.ends.specs.declared.kinds.Profile.{Profile}
+use Rattle.ends.specs.declared.kinds.Pairs.{Pairs}
+use Rattle.ends.specs.declared.kinds.Rf.{Rf}
+use Rattle.ends.specs.declared.kinds.Controller.{Controller}
+use Rattle.ends.specs.declared.controller.Verdict.{Verdict}
+use Rattle.ends.specs.declared.controller.Verdict.the-variants as verdict
+use Rattle.ends.specs.declared.air.Listing.{Listing}
+use Rattle.ends.specs.declared.air.Listing.the-variants.{Keeps, Starts, Adds}
+use Rattle.ends.specs.declared.air.Aired.{Aired}
+use Rattle.ends.specs.declared.air.Aired.the-variants.{Refused, Goes, Activates, Ends, Speaks}
+use Rattle.ends.specs.declared.host.Answer.the-variants.{Opens, Closes}
+use Rattle.ends.specs.Radio.{isIdle, addedTo}
+use Rattle.ends.specs.Runs.{dataLimit, controlLimit}
+use Rattle.ends.specs.Controller.{turned, controllerAfter}
+use Rattle.ends.specs.Air.{listedAfter, controllerAired}
+use Rattle.model.specs.Connection.{Connection, HostEnd, ControllerEnd, withHost, withController, closed, stored}
+use Rattle.model.specs.State.{State, cold, at}
+use Rattle.model.specs.Bench.{down, up, noConn, Change, stays, opens, closes, gives, atController, atHost, hearing}
+use Rattle.model.specs.Reachable.{octetsIn, RunWithin, TermsWithin, Sizes}
+use Rattle.model.proofs.Link.{clash}
+use Rattle.model.proofs.Verdicts.{on, Fits}
+use Rattle.model.proofs.Messages.{Limits}
+use Rattle.model.proofs.Order.{each}
+use Rattle.model.proofs.Said.{Said, OpensWithin}
+
+-- ---- segments and runs
+
+-- the segments of a message hold its octets
+segments-octets : (f size : ℕ) (m : Octets) → octetsIn (segmentsWithin f size m) ≡ length m
+unfolding segmentsWithin
+segments-octets zero size m = omega arith
+segments-octets (suc f) size m =
+    on (λ (ss : List Segment). octetsIn ss ≡ length m) (ltb size (length m))
+    (λ e. let rest = segments-octets f size (drop size m) in omega (arith, length-take size m, length-drop size m))
+    (λ e. omega arith)
+
+pub sent-octets : (size : ℕ) (m : Octets) → octetsIn (segments size m) ≡ length m
+unfolding segments
+sent-octets size m = segments-octets (length m) size m
+
+-- a run that a segment has joined is within the limit
+pub grown-within : (limit : ℕ) (r : Run) (x : Segment) → RunWithin limit (grown limit r x)
+grown-within limit (run r) (more b) =
+    on (RunWithin limit) (ltb limit (length r + length b)) (λ e. tt) (λ e. omega (arith, ltb-false limit (length r + length b) e, length-append r b))
+grown-within limit lost (more b) = tt
+grown-within limit (run r) (last b) = omega arith
+grown-within limit lost (last b) = omega arith
+
+-- a segment that more follow finishes nothing
+pub more-none : (limit : ℕ) (r : Run) (b : Octets) → finished limit r (more b) ≡ []
+more-none limit (run r) b = refl
+more-none limit lost b = refl
+
+-- ---- one connection
+
+pub record HostSmall (h : HostEnd) : Type 0 where
+  pub hand : octetsIn (h .hand) ≤ dataLimit
+  pub reassembly : RunWithin dataLimit (h .run)
+  pub terms : h .opened ≡ true → TermsWithin (h .payload) (h .grant)
+
+pub record ControllerSmall (k : ControllerEnd) : Type 0 where
+  pub stored : length (k .store) ≤ 8
+  pub speech : octetsIn (k .speech) ≤ dataLimit
+  pub reassembly : RunWithin dataLimit (k .run)
+
+pub record ConnSmall (d : ℕ) (k : Connection) : Type 0 where
+  pub host : HostSmall (k .host)
+  pub controller : ControllerSmall (k .controller)
+  pub other : noConn d ≡ true → k ≡ closed
+
+closed-small : (d : ℕ) → ConnSmall d closed
+closed-small d =
+    record {
+      host = record { hand = omega arith; reassembly = omega arith; terms = λ e. clash e refl };
+      controller = record { stored = omega arith; speech = omega arith; reassembly = omega arith };
+      other = λ e. refl;
+    }
+
+-- one of the five changes
+pub at-small : (c : ℕ) (f : Connection → Connection) (g : ℕ → Connection) → noConn c ≡ false → HostSmall (f (g c) .host) → ControllerSmall (f (g c) .controller)
+    → ((d : ℕ) → ConnSmall d (g d)) → (d : ℕ) → ConnSmall d (at c f g d)
+at-small c f g five h k r =
+    each c (λ d b. ConnSmall d (pick b (f (g d)) (g d))) (record { host = h; controller = k; other = λ e. clash e five }) r
+
+-- what opens, closes and is credited, at either end
+pub change-controller : (d : ℕ) (c : Change) (k : Connection) → OpensWithin d c → ConnSmall d k → ConnSmall d (withController (atController c (k .controller)) k)
+change-controller d stays k o m = m
+change-controller d (opens t) k o m =
+    record { host = m .host; controller = record { stored = omega arith; speech = omega arith; reassembly = omega arith }; other = λ e. clash e (o .0) }
+change-controller d closes k o m =
+    record {
+      host = m .host;
+      controller = closed-small d .controller;
+      other = λ e. ap (λ (x : Connection). withController (closed .controller) x) (m .other e);
+    }
+change-controller d (gives n) k o m = m
+
+pub change-host : (d : ℕ) (c : Change) (k : Connection) → OpensWithin d c → ConnSmall d k → ConnSmall d (withHost (atHost c (k .host)) k)
+change-host d stays k o m = m
+change-host d (opens t) k o m =
+    record {
+      host = record { hand = omega arith; reassembly = omega arith; terms = λ e. o .1 };
+      controller = m .controller;
+      other = λ e. clash e (o .0);
+    }
+change-host d closes k o m =
+    record {
+      host = closed-small d .host;
+      controller = m .controller;
+      other = λ e. ap (λ (x : Connection). withHost (closed .host) x) (m .other e);
+    }
+change-host d (gives n) k o m =
+    record {
+      host = record { hand = m .host .hand; reassembly = m .host .reassembly; terms = m .host .terms };
+      controller = m .controller;
+      other = λ e. ap (λ (x : Connection). withHost (atHost (gives n) (x .host)) x) (m .other e);
+    }
+
+-- a connection that is open at an end is one of the five
+pub held-known : (d : ℕ) (k : Connection) → ConnSmall d k → k .host .opened ≡ true → noConn d ≡ false
+held-known d k m o = go (noConn d) refl
+  where
+    go : (b : Bool) → noConn d ≡ b → b ≡ false
+    go true e = clash o (ap (λ (x : Connection). x .host .opened) (m .other e))
+    go false e = refl
+
+pub open-known : (d : ℕ) (k : Connection) → ConnSmall d k → k .controller .opened ≡ true → noConn d ≡ false
+open-known d k m o = go (noConn d) refl
+  where
+    go : (b : Bool) → noConn d ≡ b → b ≡ false
+    go true e = clash o (ap (λ (x : Connection). x .controller .opened) (m .other e))
+    go false e = refl
+
+-- ---- the controller's own numbers
+
+pub record Steady (k : Controller) : Type 0 where
+  pub given : (k .given ≡ 0) ⊎ ((2 ≤ k .given) × (k .given ≤ 5))
+  pub pairs : k .pairs .count ≤ 8
+  pub places : length (k .pairs .list) ≡ 8
+
+turned-steady : (k : Controller) (rf : Rf) → Steady k → Steady (turned k rf)
+turned-steady k rf m =
+    record {
+      given = m .given;
+      pairs = on (λ (ps : Pairs). ps .count ≤ 8) (isIdle rf) (λ e. omega arith) (λ e. m .pairs);
+      places = on (λ (ps : Pairs). length (ps .list) ≡ 8) (isIdle rf) (λ e. refl) (λ e. m .places);
+    }
+
+pub after-steady : (gid oid aim : ℕ) (p : Profile) (k : Controller) (v : Verdict) → Fits gid oid aim p v → Steady k → Steady (controllerAfter k v)
+unfolding controllerAfter
+after-steady gid oid aim p k (verdict.Refuses status) f m = m
+after-steady gid oid aim p k (verdict.Resets type) f m = record { given = inl refl; pairs = omega arith; places = refl }
+after-steady gid oid aim p k verdict.Initialises f m = record { given = m .given; pairs = m .pairs; places = m .places }
+after-steady gid oid aim p k (verdict.Opens c t) f m = record { given = inr (f .2, f .3); pairs = m .pairs; places = m .places }
+after-steady gid oid aim p k (verdict.Closes c) f m = m
+after-steady gid oid aim p k (verdict.Turns rf) f m = turned-steady k rf m
+after-steady gid oid aim p k (verdict.Selects pair) f m = turned-steady k _ m
+after-steady gid oid aim p k (verdict.Deactivates type rf) f m = turned-steady k rf m
+
+listed-pairs : (ps : Pairs) (l : Listing) → ps .count ≤ 8 → length (ps .list) ≡ 8 → (listedAfter ps l .count ≤ 8) × (length (listedAfter ps l .list) ≡ 8)
+unfolding addedTo
+listed-pairs ps Keeps h e = (h, e)
+listed-pairs ps (Starts p) h e = (omega arith, refl)
+listed-pairs ps (Adds p) h e =
+    on (λ (x : Pairs). (x .count ≤ 8) × (length (x .list) ≡ 8)) (ltb (ps .count) 8)
+    (λ z. let low = ltb-true (ps .count) 8 z in (omega arith, length-set (ps .list) (ps .count) p ∙ e)) (λ z. (h, e))
+
+pub aired-steady : (k : Controller) (a : Aired) → Steady k → Steady (controllerAired k a)
+unfolding controllerAired
+aired-steady k Refused m = m
+aired-steady k (Goes rf l) m = let q = listed-pairs (k .pairs) l (m .pairs) (m .places) in record { given = m .given; pairs = q .0; places = q .1 }
+aired-steady k (Activates rf l) m = let q = listed-pairs (k .pairs) l (m .pairs) (m .places) in record { given = m .given; pairs = q .0; places = q .1 }
+aired-steady k (Ends rf) m = record { given = m .given; pairs = m .pairs; places = m .places }
+aired-steady k Speaks m = m
+
+-- ---- the bench
+
+pub record Small (s : State) : Type 0 where
+  pub downs : length (s .down) ≤ 16
+  pub ups : length (s .up) ≤ 16
+  pub said : Said (s .up)
+  pub conns : (d : ℕ) → ConnSmall d (s .conns d)
+  pub steady : Steady (s .controller)
+  pub size-least : 32 ≤ s .host .size
+  pub size-most : s .host .size ≤ 255
+  pub hearing : RunWithin controlLimit (s .hearing .run)
+  pub asking : RunWithin controlLimit (s .asking .run)
+
+pub cold-small : (p : Profile) → Limits p → Small (cold p)
+unfolding Said
+cold-small p l =
+    record {
+      downs = omega arith;
+      ups = omega arith;
+      said = tt;
+      conns = λ d. closed-small d;
+      steady = record { given = inl refl; pairs = omega arith; places = refl };
+      size-least = omega arith;
+      size-most = omega arith;
+      hearing = omega arith;
+      asking = omega arith;
+    }

@@ -1,0 +1,99 @@
+-- The state of the bench: both ends, and each wire as a list of packets (document 01, "Profile, record and area").
+-- Assumes nothing.
+use Prim.Native.Nat.{ℕ, _-_}
+use mathlib.Core.Bool.{Bool, _&&_}
+use mathlib.Core.List.{List, []}
+use lib.Dec.{eqb, leb}
+use lib.ListN.{length, getD}
+use Rattle.octets.specs.Octets.{Octets, pick}
+use Rattle.packets.specs.Reassembly.{Run, run}
+use Rattle.ends.specs.declared.kinds.Profile.{Profile}
+use Rattle.ends.specs.declared.kinds.Rf.the-variants.{Idle}
+use Rattle.ends.specs.declared.kinds.Phase.the-variants.{Cold}
+use Rattle.ends.specs.declared.kinds.Pending.the-variants as pending
+use Rattle.ends.specs.declared.kinds.Host.{Host}
+use Rattle.ends.specs.declared.kinds.Controller.{Controller}
+use Rattle.ends.specs.declared.controller.Verdict.the-variants as verdict
+use Rattle.ends.specs.declared.host.Heard.the-variants.{Nothing}
+use Rattle.ends.specs.Radio.{noPairs}
+use Rattle.ends.specs.Contents.{creditsOk}
+use Rattle.ends.specs.Host.{leastSize}
+use Rattle.model.specs.Connection.{Connection, closed}
+use Rattle.model.specs.Packets.{control}
+
+-- ---- the state
+
+-- a run of control packets at one end: which message it is, and its octets so far
+pub record ControlRun : Type 0 where
+  pub mt : ℕ
+  pub gid : ℕ
+  pub oid : ℕ
+  pub run : Run
+
+pub record State : Type 0 where
+  pub profile : Profile
+  pub host : Host
+  pub controller : Controller
+  -- the control run at the host, and at the controller
+  pub hearing : ControlRun
+  pub asking : ControlRun
+  -- by Conn ID
+  pub conns : ℕ → Connection
+  pub down : List Octets
+  pub up : List Octets
+
+abbrev pub isOpen : State → ℕ → Bool
+isOpen s c = s .conns c .controller .opened
+
+-- one connection is changed
+abbrev pub at : {A : Type 0} → ℕ → (A → A) → (ℕ → A) → ℕ → A
+at c f g d = pick (eqb c d) (f (g d)) (g d)
+
+abbrev pub withConns : (ℕ → Connection) → State → State
+withConns g s = record { profile = s .profile; host = s .host; controller = s .controller; hearing = s .hearing; asking = s .asking; conns = g; down = s .down; up = s .up }
+
+abbrev pub withDown : List Octets → State → State
+withDown w s = record { profile = s .profile; host = s .host; controller = s .controller; hearing = s .hearing; asking = s .asking; conns = s .conns; down = w; up = s .up }
+
+abbrev pub withUp : List Octets → State → State
+withUp w s = record { profile = s .profile; host = s .host; controller = s .controller; hearing = s .hearing; asking = s .asking; conns = s .conns; down = s .down; up = w }
+
+abbrev pub withHostState : Host → State → State
+withHostState h s = record { profile = s .profile; host = h; controller = s .controller; hearing = s .hearing; asking = s .asking; conns = s .conns; down = s .down; up = s .up }
+
+abbrev pub withControllerState : Controller → State → State
+withControllerState k s = record { profile = s .profile; host = s .host; controller = k; hearing = s .hearing; asking = s .asking; conns = s .conns; down = s .down; up = s .up }
+
+abbrev pub withHearing : ControlRun → State → State
+withHearing r s = record { profile = s .profile; host = s .host; controller = s .controller; hearing = r; asking = s .asking; conns = s .conns; down = s .down; up = s .up }
+
+abbrev pub withAsking : ControlRun → State → State
+withAsking r s = record { profile = s .profile; host = s .host; controller = s .controller; hearing = s .hearing; asking = r; conns = s .conns; down = s .down; up = s .up }
+
+-- ---- both ends cold, both wires empty
+
+abbrev pub noRun : ControlRun
+noRun = record { mt = 0; gid = 0; oid = 0; run = run [] }
+
+abbrev pub coldHost : Host
+coldHost = record { size = leastSize; pending = pending.Nothing }
+
+abbrev pub coldController : Controller
+coldController = record { phase = Cold; given = 0; rf = Idle; pairs = noPairs }
+
+abbrev pub cold : Profile → State
+cold p = record { profile = p; host = coldHost; controller = coldController; hearing = noRun; asking = noRun; conns = λ c. closed; down = []; up = [] }
+
+-- five octets: most control payload (32-255), payload (1-255) and credits (1-8, or 255) of dynamic connections and of the static one
+abbrev pub profileOk : Octets → Bool
+profileOk m =
+    eqb (length m) 5 && leb 32 (getD m 0 0) && leb (getD m 0 0) 255 && leb 1 (getD m 1 0) && leb (getD m 1 0) 255 && creditsOk (getD m 2 0)
+    && leb 1 (getD m 3 0) && leb (getD m 3 0) 255 && creditsOk (getD m 4 0)
+
+abbrev pub profileIn : Octets → Profile
+profileIn m =
+    record {
+      control = getD m 0 0;
+      dynamic = record { payload = getD m 1 0; credits = getD m 2 0 };
+      fixed = record { payload = getD m 3 0; credits = getD m 4 0 };
+    }

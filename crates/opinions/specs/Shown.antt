@@ -1,0 +1,78 @@
+-- A list of calls as the paper sheet shows it: for each call its answer, the drop flag, the octets put on wires and the message.
+-- Assumes nothing.
+use Prim.Native.Nat.{ℕ, zero, suc, _/_, _%_}
+use mathlib.Core.Bool.{Bool, false}
+use mathlib.Core.List.{List, [], _∷_, _++_}
+use Rattle.octets.specs.Octets.{Octets, cut}
+use Rattle.packets.specs.Packet.{octet0, octet1, packetOf, oidOf, spareOf, headerOf, readOf}
+use Rattle.packets.specs.Segments.{segmentsWithin, segments}
+use Rattle.ends.specs.Conn.{placeOf, connOf, termsOf}
+use Rattle.ends.specs.Radio.{listedIn, addedTo}
+use Rattle.ends.specs.Commands.{commandOf}
+use Rattle.ends.specs.Controller.{shortest, allowed, resetBy, after, seek, nextId, createBy, closeBy, configsOk, discoverBy, deactivateBy, judgeOf, controllerAfter}
+use Rattle.ends.specs.Layout.{entriesFrom, entryCount, responseOf, noticeMessage}
+use Rattle.ends.specs.Air.{foundIn, pollIn, listenIn, eventOf, foundBy, pollBy, listenBy, failedBy, airedBy, airMessage, controllerAired}
+use Rattle.ends.specs.Contents.{noticeOf, zeros, initWritten, createWritten, entriesOk, creditsWritten, discoverWritten, activatedWritten, deactivateWritten, written}
+use Rattle.ends.specs.Host.{answerOf, heardAlone, hearOf, creditsIn, namesClosed, hostAfter, dropHeard}
+use Rattle.model.specs.Packets.{meaning, dataCount, creditsUp}
+use Rattle.model.specs.State.{State, cold, profileIn}
+use Rattle.model.specs.Bench.{Call, Result, taken, refused, Outcome, first, allZero, anyOf, step}
+
+-- ---- octets as the sheet writes them
+
+-- the n lowest octets of a number, put before m
+abbrev pub hexBefore : Octets → ℕ → ℕ → Octets
+hexBefore m zero x = m
+hexBefore m (suc n) x = hexBefore (x % 256 ∷ m) n (x / 256)
+
+-- n octets as one number in hexadecimal digits: hex 3 0x0102FF is 1 ∷ 2 ∷ 255 ∷ []
+abbrev pub hex : ℕ → ℕ → Octets
+hex n x = hexBefore [] n x
+
+-- ---- lines
+
+pub record Line : Type 0 where
+  pub answer : ℕ
+  pub drop : Bool
+  pub packets : Octets
+  -- none or one
+  pub message : List Octets
+
+abbrev pub line : ℕ → Bool → Octets → List Octets → Line
+line a d p m = record { answer = a; drop = d; packets = p; message = m }
+
+-- the lines that are met most: not taken; taken with nothing to show, with packets put, with a message handed out
+abbrev pub refusal : ℕ → Line
+refusal n = line n false [] []
+
+abbrev pub done : Line
+done = line 0 false [] []
+
+abbrev pub puts : Octets → Line
+puts p = line 0 false p []
+
+abbrev pub hands : Octets → Line
+hands m = line 0 false [] (m ∷ [])
+
+-- ---- what the model shows
+
+abbrev pub numberOf : Result → ℕ
+numberOf taken = 0
+numberOf (refused n) = n
+
+abbrev pub joined : List Octets → Octets
+joined [] = []
+joined (p ∷ ps) = p ++ joined ps
+
+abbrev pub lineOf : Outcome → Line
+lineOf o = line (numberOf (o .answer)) (o .effect .drop) (joined (o .effect .toDown) ++ joined (o .effect .toUp)) (o .effect .message)
+
+-- the bench that a sheet starts with
+abbrev pub start : State
+start = cold (profileIn (hex 5 0x2004020401))
+
+-- each call's line. What is named below unfolds wherever `lines` does, so that a list of calls computes.
+unfoldable pub lines : List Call → State → List Line
+unfolding cut octet0 octet1 packetOf oidOf spareOf headerOf readOf segmentsWithin segments placeOf connOf termsOf listedIn addedTo commandOf shortest allowed resetBy after seek nextId createBy closeBy configsOk discoverBy deactivateBy judgeOf controllerAfter entriesFrom entryCount responseOf noticeMessage foundIn pollIn listenIn eventOf foundBy pollBy listenBy failedBy airedBy airMessage controllerAired noticeOf zeros initWritten createWritten entriesOk creditsWritten discoverWritten activatedWritten deactivateWritten written answerOf heardAlone hearOf creditsIn namesClosed hostAfter dropHeard meaning dataCount creditsUp first allZero anyOf step
+lines [] s = []
+lines (c ∷ cs) s = lineOf (step c s) ∷ lines cs (step c s .effect .next)

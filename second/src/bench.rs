@@ -1,0 +1,342 @@
+//! The bench: both ends, the two wires and the twelve calls, each with its
+//! refusals in the order that the decision on refusals lists them.
+
+use std::collections::VecDeque;
+
+use crate::air::AirEvent;
+use crate::call::{Call, Outcome, Refusal};
+use crate::connection::{is_dynamic, place_of};
+use crate::controller::Controller;
+use crate::host::Host;
+use crate::layout;
+use crate::packet::{self, MessageType, Reading, MOST_CONTROL_MESSAGE, MOST_DATA_MESSAGE};
+use crate::profile::{Profile, NO_FLOW_CONTROL};
+
+/// Packets that a wire holds.
+pub const WIRE_SLOTS: usize = 16;
+/// Slots that the answer to a command may need: a response and a notification.
+const ANSWER_SLOTS: usize = 2;
+
+#[derive(Clone, Debug, PartialEq, Eq)]
+pub struct Bench {
+    profile: Profile,
+    /// To the controller.
+    down_wire: VecDeque<Vec<u8>>,
+    /// To the host.
+    up_wire: VecDeque<Vec<u8>>,
+    host: Host,
+    controller: Controller,
+}
+
+/// The next rule of a call's list.
+fn refuse_if(applies: bool, refusal: Refusal) -> Result<(), Refusal> {
+    if applies {
+        Err(refusal)
+    } else {
+        Ok(())
+    }
+}
+
+/// Refusal 3 for a Conn ID other than 0, 2-5.
+fn check_conn(conn: u8) -> Result<(), Refusal> {
+    refuse_if(place_of(conn).is_none(), Refusal::ArgumentOutsideLimit)
+}
+
+/// A taken call that puts one packet up.
+fn put_up(packet: Vec<u8>) -> Outcome {
+    Outcome { up: vec![packet], ..Outcome::default() }
+}
+
+impl Bench {
+    /// A fresh bench, or none for a profile outside its limits.
+    pub fn new(profile: [u8; 5]) -> Option<Bench> {
+        Profile::read(profile).map(Bench::cold)
+    }
+
+    /// Both wires empty, both ends cold.
+    fn cold(profile: Profile) -> Bench {
+        Bench {
+            profile,
+            down_wire: VecDeque::new(),
+            up_wire: VecDeque::new(),
+            host: Host::cold(),
+            controller: Controller::cold(profile),
+        }
+    }
+
+    pub fn down_wire(&self) -> &VecDeque<Vec<u8>> {
+        &self.down_wire
+    }
+
+    pub fn up_wire(&self) -> &VecDeque<Vec<u8>> {
+        &self.up_wire
+    }
+
+    pub fn host(&self) -> &Host {
+        &self.host
+    }
+
+    pub fn controller(&self) -> &Controller {
+        &self.controller
+    }
+
+    /// Makes any of the twelve calls.
+    pub fn play(&mut self, call: &Call) -> Outcome {
+        match call {
+            Call::Fresh(profile) => self.fresh(*profile),
+            Call::Power => self.power(),
+            Call::Command { gid, oid, payload } => self.command(*gid, *oid, payload),
+            Call::Send { conn, message } => self.send(*conn, message),
+            Call::Push(conn) => self.push(*conn),
+            Call::Down => self.down(),
+            Call::Consume(conn) => self.consume(*conn),
+            Call::Credit => self.credit(),
+            Call::Air(octets) => self.air(octets),
+            Call::Reply => self.reply(),
+            Call::Up => self.up(),
+            Call::Report(conn) => self.report(*conn),
+        }
+    }
+
+    /// The one place where packets come onto a wire by a call, so that the
+    /// outcome tells exactly those.
+    fn conclude(&mut self, result: Result<Outcome, Refusal>) -> Outcome {
+        match result {
+            Err(refusal) => Outcome::refused(refusal),
+            Ok(outcome) => {
+                self.down_wire.extend(outcome.down.iter().cloned());
+                self.up_wire.extend(outcome.up.iter().cloned());
+                outcome
+            }
+        }
+    }
+
+    fn up_slots(&self) -> usize {
+        WIRE_SLOTS.saturating_sub(self.up_wire.len())
+    }
+
+    fn down_slots(&self) -> usize {
+        WIRE_SLOTS.saturating_sub(self.down_wire.len())
+    }
+
+    // fresh, power
+
+    pub fn fresh(&mut self, profile: [u8; 5]) -> Outcome {
+        match Bench::new(profile) {
+            None => Outcome::refused(Refusal::ArgumentOutsideLimit),
+            Some(bench) => {
+                *self = bench;
+                Outcome::default()
+            }
+        }
+    }
+
+    pub fn power(&mut self) -> Outcome {
+        *self = Bench::cold(self.profile);
+        Outcome::default()
+    }
+
+    // command
+
+    pub fn command(&mut self, gid: u8, oid: u8, payload: &[u8]) -> Outcome {
+        let result = self.try_command(gid, oid, payload);
+        self.conclude(result)
+    }
+
+    fn try_command(&mut self, gid: u8, oid: u8, payload: &[u8]) -> Result<Outcome, Refusal> {
+        let outside = gid > 15 || oid > 63 || payload.len() > MOST_CONTROL_MESSAGE;
+        refuse_if(outside, Refusal::ArgumentOutsideLimit)?;
+        let segments = packet::segment_count(payload.len(), self.host.control_size());
+        refuse_if(self.down_slots() < segments, Refusal::TooFewSlots)?;
+        refuse_if(self.host.awaits_response(), Refusal::CommandUnanswered)?;
+        Ok(Outcome { down: self.host.command(gid, oid, payload), ..Outcome::default() })
+    }
+
+    // send, push
+
+    pub fn send(&mut self, conn: u8, message: &[u8]) -> Outcome {
+        let result = self.try_send(conn, message);
+        self.conclude(result)
+    }
+
+    fn try_send(&mut self, conn: u8, message: &[u8]) -> Result<Outcome, Refusal> {
+        check_conn(conn)?;
+        refuse_if(message.len() > MOST_DATA_MESSAGE, Refusal::ArgumentOutsideLimit)?;
+        let open = self.host.connection(conn).ok_or(Refusal::NotOpen)?;
+        refuse_if(open.has_message_in_hand(), Refusal::MessageInHand)?;
+        self.host.send(conn, message);
+        Ok(Outcome::default())
+    }
+
+    pub fn push(&mut self, conn: u8) -> Outcome {
+        let result = self.try_push(conn);
+        self.conclude(result)
+    }
+
+    fn try_push(&mut self, conn: u8) -> Result<Outcome, Refusal> {
+        check_conn(conn)?;
+        refuse_if(self.down_slots() < 1, Refusal::TooFewSlots)?;
+        let open = self.host.connection(conn).ok_or(Refusal::NotOpen)?;
+        refuse_if(!open.has_message_in_hand(), Refusal::NothingToMove)?;
+        refuse_if(open.lacks_credit(), Refusal::NoCredit)?;
+        refuse_if(self.host.awaits_close(), Refusal::CloseUnanswered)?;
+        let packet = self.host.push(conn).ok_or(Refusal::NothingToMove)?;
+        Ok(Outcome { down: vec![packet], ..Outcome::default() })
+    }
+
+    // down
+
+    pub fn down(&mut self) -> Outcome {
+        let result = self.try_down();
+        self.conclude(result)
+    }
+
+    /// The last packet of a command needs two slots whatever its answer will be,
+    /// also where its run is past the limit (decision on control runs).
+    fn try_down(&mut self) -> Result<Outcome, Refusal> {
+        let first = self.down_wire.front().ok_or(Refusal::NothingToMove)?;
+        let ends_command = matches!(packet::read(first), Reading::Packet(packet) if packet.ends_command());
+        refuse_if(ends_command && self.up_slots() < ANSWER_SLOTS, Refusal::TooFewSlots)?;
+        refuse_if(self.controller.store_full_for(first), Refusal::StoreFull)?;
+        let first = self.down_wire.pop_front().ok_or(Refusal::NothingToMove)?;
+        let taken = self.controller.take(&first);
+        Ok(Outcome { drop: taken.drop, up: taken.answers, ..Outcome::default() })
+    }
+
+    // consume, credit
+
+    pub fn consume(&mut self, conn: u8) -> Outcome {
+        let result = self.try_consume(conn);
+        self.conclude(result)
+    }
+
+    fn try_consume(&mut self, conn: u8) -> Result<Outcome, Refusal> {
+        check_conn(conn)?;
+        refuse_if(is_dynamic(conn) && self.up_slots() < 1, Refusal::TooFewSlots)?;
+        let open = self.controller.connection(conn).ok_or(Refusal::NotOpen)?;
+        refuse_if(open.stored() == 0, Refusal::NothingToMove)?;
+        refuse_if(open.owes_whole_grant(), Refusal::PastGrant)?;
+        let consumed = self.controller.consume(conn).ok_or(Refusal::NothingToMove)?;
+        Ok(Outcome {
+            drop: consumed.drop,
+            up: consumed.returned.into_iter().collect(),
+            message: consumed.message,
+            ..Outcome::default()
+        })
+    }
+
+    pub fn credit(&mut self) -> Outcome {
+        let result = self.try_credit();
+        self.conclude(result)
+    }
+
+    fn try_credit(&mut self) -> Result<Outcome, Refusal> {
+        refuse_if(self.up_slots() < 1, Refusal::TooFewSlots)?;
+        refuse_if(!self.controller.owes_credits(), Refusal::NothingToMove)?;
+        Ok(put_up(self.controller.give_credits()))
+    }
+
+    // air, reply
+
+    pub fn air(&mut self, octets: &[u8]) -> Outcome {
+        let result = self.try_air(octets);
+        self.conclude(result)
+    }
+
+    fn try_air(&mut self, octets: &[u8]) -> Result<Outcome, Refusal> {
+        let event = AirEvent::read(octets).ok_or(Refusal::ArgumentOutsideLimit)?;
+        refuse_if(event.needs_slot() && self.up_slots() < 1, Refusal::TooFewSlots)?;
+        let message = matches!(event, AirEvent::EndpointMessage(_));
+        refuse_if(message && self.controller.endpoint_message_in_hand(), Refusal::MessageInHand)?;
+        refuse_if(!self.controller.takes_event(&event), Refusal::AirNotTaken)?;
+        let wires_empty = self.down_wire.is_empty() && self.up_wire.is_empty();
+        refuse_if(event.is_activation() && !wires_empty, Refusal::WiresNotEmpty)?;
+        Ok(Outcome { up: self.controller.happen(event).into_iter().collect(), ..Outcome::default() })
+    }
+
+    pub fn reply(&mut self) -> Outcome {
+        let result = self.try_reply();
+        self.conclude(result)
+    }
+
+    fn try_reply(&mut self) -> Result<Outcome, Refusal> {
+        refuse_if(self.up_slots() < 1, Refusal::TooFewSlots)?;
+        self.controller.reply().map(put_up).ok_or(Refusal::NothingToMove)
+    }
+
+    // up
+
+    pub fn up(&mut self) -> Outcome {
+        let result = self.try_up();
+        self.conclude(result)
+    }
+
+    fn try_up(&mut self) -> Result<Outcome, Refusal> {
+        let first = self.up_wire.front().ok_or(Refusal::NothingToMove)?;
+        refuse_if(self.host.would_pass_grant(first), Refusal::PastGrant)?;
+        let first = self.up_wire.pop_front().ok_or(Refusal::NothingToMove)?;
+        let taken = self.host.take(&first);
+        Ok(Outcome { drop: taken.drop, message: taken.message, ..Outcome::default() })
+    }
+
+    // report
+
+    /// Looks only: a report changes nothing, taken or not.
+    pub fn report(&self, conn: u8) -> Outcome {
+        match self.try_report(conn) {
+            Err(refusal) => Outcome::refused(refusal),
+            Ok(numbers) => Outcome { message: Some(numbers.to_vec()), ..Outcome::default() },
+        }
+    }
+
+    fn try_report(&self, conn: u8) -> Result<[u8; 5], Refusal> {
+        check_conn(conn)?;
+        let open = self.controller.connection(conn).ok_or(Refusal::NotOpen)?;
+        let going_down = octet(self.data_on_down_wire(conn));
+        let stored = octet(open.stored());
+        if !open.flow_controlled() {
+            return Ok([NO_FLOW_CONTROL, going_down, stored, 0, 0]);
+        }
+        let held = self.host.connection(conn).map_or(0, |open| open.held());
+        Ok([held, going_down, stored, open.owed(), octet(self.credits_on_up_wire(conn))])
+    }
+
+    /// Counted from wire octets.
+    fn data_on_down_wire(&self, conn: u8) -> usize {
+        let is_of_conn = |octets: &&Vec<u8>| {
+            matches!(packet::read(octets), Reading::Packet(packet)
+                if packet.message_type == MessageType::Data && packet.id == conn)
+        };
+        self.down_wire.iter().filter(is_of_conn).count()
+    }
+
+    /// Counted from wire octets; a grant counts while its packet is unread.
+    fn credits_on_up_wire(&self, conn: u8) -> usize {
+        self.up_wire.iter().map(|octets| layout::credits_carried(octets, conn) as usize).sum()
+    }
+
+    // For tests: what no list of calls puts there.
+
+    /// Puts any octets on the down wire.
+    pub fn forge_down(&mut self, octets: &[u8]) {
+        assert!(self.down_slots() > 0, "a wire holds 16 packets");
+        self.down_wire.push_back(octets.to_vec());
+    }
+
+    /// Puts any octets on the up wire.
+    pub fn forge_up(&mut self, octets: &[u8]) {
+        assert!(self.up_slots() > 0, "a wire holds 16 packets");
+        self.up_wire.push_back(octets.to_vec());
+    }
+
+    /// Stores any octets for a connection open at the controller.
+    pub fn forge_stored(&mut self, conn: u8, octets: &[u8]) {
+        self.controller.forge_stored(conn, octets.to_vec());
+    }
+}
+
+/// Wires of 16 packets of at most 8 credits keep every number of a report inside
+/// an octet.
+fn octet(number: usize) -> u8 {
+    u8::try_from(number).expect("a number of a report fits an octet")
+}

@@ -1,0 +1,91 @@
+//! The twelve calls, their outcomes and the numbers for a call not taken.
+
+/// A call with its arguments, as the sheet writes them. `air` has its kind
+/// first (decision on the argument of air).
+#[derive(Clone, Debug, PartialEq, Eq)]
+pub enum Call {
+    Fresh([u8; 5]),
+    Power,
+    Command { gid: u8, oid: u8, payload: Vec<u8> },
+    Send { conn: u8, message: Vec<u8> },
+    Push(u8),
+    Down,
+    Consume(u8),
+    Credit,
+    Air(Vec<u8>),
+    Reply,
+    Up,
+    Report(u8),
+}
+
+impl Call {
+    /// The names of all calls, in document 01's order.
+    pub const NAMES: [&'static str; 12] = [
+        "fresh", "power", "command", "send", "push", "down", "consume", "credit", "air", "reply", "up",
+        "report",
+    ];
+
+    pub fn name(&self) -> &'static str {
+        Call::NAMES[self.index()]
+    }
+
+    /// The call's place in `NAMES`.
+    pub fn index(&self) -> usize {
+        match self {
+            Call::Fresh(_) => 0,
+            Call::Power => 1,
+            Call::Command { .. } => 2,
+            Call::Send { .. } => 3,
+            Call::Push(_) => 4,
+            Call::Down => 5,
+            Call::Consume(_) => 6,
+            Call::Credit => 7,
+            Call::Air(_) => 8,
+            Call::Reply => 9,
+            Call::Up => 10,
+            Call::Report(_) => 11,
+        }
+    }
+}
+
+/// Document 01, "Numbers for a call not taken"; 1 and 2 concern octet areas.
+#[derive(Clone, Copy, Debug, PartialEq, Eq)]
+pub enum Refusal {
+    ArgumentOutsideLimit = 3,
+    TooFewSlots = 4,
+    CommandUnanswered = 5,
+    NotOpen = 6,
+    MessageInHand = 7,
+    NothingToMove = 8,
+    NoCredit = 9,
+    CloseUnanswered = 10,
+    AirNotTaken = 11,
+    StoreFull = 12,
+    PastGrant = 13,
+    WiresNotEmpty = 14,
+}
+
+/// What a call did. A refused call has a number for its answer and nothing else.
+#[derive(Clone, Debug, Default, PartialEq, Eq)]
+pub struct Outcome {
+    /// 0 taken, else the refusal.
+    pub answer: u8,
+    /// A packet was dropped, or an entry of a credit notice.
+    pub drop: bool,
+    /// Packets put on the down wire.
+    pub down: Vec<Vec<u8>>,
+    /// Packets put on the up wire.
+    pub up: Vec<Vec<u8>>,
+    /// The message handed out; for report its five octets.
+    pub message: Option<Vec<u8>>,
+}
+
+impl Outcome {
+    pub fn refused(refusal: Refusal) -> Outcome {
+        Outcome { answer: refusal as u8, ..Outcome::default() }
+    }
+
+    pub fn taken(&self) -> bool {
+        self.answer == 0
+    }
+}

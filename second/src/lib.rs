@@ -1,0 +1,29 @@
+//! The NCI exam bench of document 01: a host and an NCI 2.0 controller joined
+//! by two wires.
+//!
+//! This is a second implementation, written from document 01, the decisions on
+//! its open points and the standard (003, NCI 2.0) alone, for comparison with the
+//! proved one. It keeps packets as vectors and wires as queues; what concerns
+//! octet areas (refusals 1 and 2, the record) does not arise here.
+//!
+//! From the bottom up: `packet` (header, segments, reassembly) and `layout`
+//! (control messages) know octets; `profile` and `connection` have the terms and
+//! IDs of connections, `air` the argument of the call air; `controller` and
+//! `host` are the two ends; `call` and `bench` join them by the twelve calls;
+//! `sheet` is the text front end. `observer` holds demand 3's account, which sees
+//! calls and outcomes alone, `player` deals random lists of calls, and `trial`
+//! plays them, checks each call and counts what was met.
+
+pub mod air;
+pub mod bench;
+pub mod call;
+pub mod connection;
+pub mod controller;
+pub mod host;
+pub mod layout;
+pub mod observer;
+pub mod packet;
+pub mod player;
+pub mod profile;
+pub mod sheet;
+pub mod trial;

@@ -1,0 +1,175 @@
+//! A trial: a list of calls played on a bench with the observer watching, and the
+//! tally of what has been met.
+
+use crate::bench::Bench;
+use crate::call::{Call, Outcome};
+use crate::observer::{Event, Observer};
+use crate::sheet;
+
+/// The refusals that each call knows here, 1 and 2 left out (decision on
+/// refusals), in the order of `Call::NAMES`.
+pub const REFUSALS_OF: [&[u8]; 12] = [
+    &[3],
+    &[],
+    &[3, 4, 5],
+    &[3, 6, 7],
+    &[3, 4, 6, 8, 9, 10],
+    &[4, 8, 12],
+    &[3, 4, 6, 8, 13],
+    &[4, 8],
+    &[3, 4, 7, 11, 14],
+    &[4, 8],
+    &[8, 13],
+    &[3, 6],
+];
+
+/// The one refusal that no list of calls from fresh should reach.
+pub const UNREACHED: u8 = 13;
+
+/// What a number of lists has met.
+#[derive(Clone, Debug, Default)]
+pub struct Tally {
+    pub calls: u64,
+    pub lists: u64,
+    /// Taken, for each call.
+    pub taken: [u64; 12],
+    /// Refused, for each call and number.
+    pub refused: [[u64; 15]; 12],
+    pub messages: u64,
+    pub drops: u64,
+    /// Lists brought to rest.
+    pub rests: u64,
+}
+
+impl Tally {
+    fn count(&mut self, call: &Call, outcome: &Outcome) {
+        self.calls += 1;
+        if outcome.taken() {
+            self.taken[call.index()] += 1;
+        } else {
+            self.refused[call.index()][usize::from(outcome.answer)] += 1;
+        }
+        let handed_out = outcome.message.is_some() && !matches!(call, Call::Report(_));
+        self.messages += u64::from(handed_out);
+        self.drops += u64::from(outcome.drop);
+    }
+
+    pub fn refusals(&self, number: u8) -> u64 {
+        self.refused.iter().map(|of_call| of_call[usize::from(number)]).sum()
+    }
+
+    /// Refusals 3 to 14 that never occurred.
+    pub fn never(&self) -> Vec<u8> {
+        (3..=14).filter(|number| self.refusals(*number) == 0).collect()
+    }
+
+    /// Calls never taken, and pairs of call and refusal never met, as `call` and
+    /// `call:number`; those of 13 are left out.
+    pub fn gaps(&self) -> Vec<String> {
+        let mut gaps = Vec::new();
+        for (index, name) in Call::NAMES.iter().enumerate() {
+            if self.taken[index] == 0 {
+                gaps.push(name.to_string());
+            }
+            for number in REFUSALS_OF[index].iter().filter(|number| **number != UNREACHED) {
+                if self.refused[index][usize::from(*number)] == 0 {
+                    gaps.push(format!("{name}:{number}"));
+                }
+            }
+        }
+        gaps
+    }
+
+    /// Fields `key=value` for one line.
+    pub fn fields(&self) -> String {
+        let mut fields = format!("calls={} lists={}", self.calls, self.lists);
+        for (index, name) in Call::NAMES.iter().enumerate() {
+            fields += &format!(" {name}={}", self.taken[index]);
+        }
+        for number in 3..=14 {
+            fields += &format!(" refusal{number}={}", self.refusals(number));
+        }
+        let never: Vec<String> = self.never().iter().map(u8::to_string).collect();
+        fields += &format!(" messages={} drops={} rests={}", self.messages, self.drops, self.rests);
+        fields + &format!(" never={} gaps={}", list_or_none(&never), list_or_none(&self.gaps()))
+    }
+}
+
+fn list_or_none(items: &[String]) -> String {
+    if items.is_empty() {
+        "none".to_string()
+    } else {
+        items.join(",")
+    }
+}
+
+/// One list from fresh on.
+pub struct Trial {
+    pub bench: Bench,
+    pub observer: Observer,
+    pub events: Vec<Event>,
+}
+
+impl Trial {
+    /// Begins with fresh, which the profile must allow.
+    pub fn begin(profile: [u8; 5], tally: &mut Tally) -> Result<Trial, String> {
+        let bench = Bench::new(profile).ok_or("profile outside its limits")?;
+        let mut trial = Trial { bench, observer: Observer::new(), events: Vec::new() };
+        tally.lists += 1;
+        trial.step(Call::Fresh(profile), tally)?;
+        Ok(trial)
+    }
+
+    /// Makes a call and checks all that demand 3 says of it.
+    pub fn step(&mut self, call: Call, tally: &mut Tally) -> Result<&Event, String> {
+        let before = self.bench.clone();
+        let outcome = self.bench.play(&call);
+        tally.count(&call, &outcome);
+        self.events.push(Event { call, outcome });
+        let event = &self.events[self.events.len() - 1];
+        check_refusal(event, &before, &self.bench)?;
+        self.observer.see(event)?;
+        self.observer.sum_to_grant()?;
+        check_reports(&self.observer, &self.bench)?;
+        Ok(event)
+    }
+
+    /// The list so far as sheet lines, each with its answer.
+    pub fn lines(&self) -> String {
+        let line = |event: &Event| {
+            format!(
+                "{}\n{}\n",
+                sheet::write_call(&event.call),
+                sheet::write_outcome(&event.call, &event.outcome)
+            )
+        };
+        self.events.iter().map(line).collect()
+    }
+}
+
+/// A refused call changes nothing, its number is one of the call's own, and 13
+/// does not occur.
+fn check_refusal(event: &Event, before: &Bench, after: &Bench) -> Result<(), String> {
+    let answer = event.outcome.answer;
+    if answer == 0 {
+        return Ok(());
+    }
+    if answer == UNREACHED || !REFUSALS_OF[event.call.index()].contains(&answer) {
+        return Err(format!("{} answered {answer}", event.call.name()));
+    }
+    if before != after {
+        return Err(format!("{} refused with {answer}, yet the bench changed", event.call.name()));
+    }
+    Ok(())
+}
+
+/// Every report is the observer's.
+pub fn check_reports(observer: &Observer, bench: &Bench) -> Result<(), String> {
+    for conn in (0..=15).chain([255]) {
+        let (expected, given) = (observer.expected_report(conn), bench.report(conn));
+        if expected != given {
+            return Err(format!("report of {conn}: {given:?} where {expected:?} was due"));
+        }
+    }
+    Ok(())
+}

@@ -1,0 +1,840 @@
+//! The points that were decided where document 01 is open. Points on octet areas
+//! and the C interface do not arise here; refusals and the sheet have their own
+//! files.
+
+mod common;
+use common::*;
+use exam_bench::bench::Bench;
+use exam_bench::controller::{Pair, Rf};
+
+/// The controller's answer alone, the bench left as it was.
+fn answer_of(bench: &Bench, gid: u8, oid: u8, payload: &[u8]) -> Vec<Vec<u8>> {
+    answers(&mut bench.clone(), gid, oid, payload)
+}
+
+fn status_of(bench: &Bench, gid: u8, oid: u8, payload: &[u8]) -> u8 {
+    let put = answer_of(bench, gid, oid, payload);
+    assert_eq!(put[0][..2], [0x40 | gid, oid]);
+    if put[0][3] != 0 {
+        assert_eq!((put.len(), put[0].len()), (1, 4), "a status other than OK stands alone");
+    }
+    put[0][3]
+}
+
+// Deactivation in DISCOVERY
+
+#[test]
+fn deactivation_in_discovery_ignores_the_type() {
+    for bench in [discovery(PROFILE), w4_all(PROFILE), w4_select(PROFILE), selected(PROFILE)] {
+        for deactivation_type in 0..=255 {
+            let mut bench = bench.clone();
+            assert_eq!(answers(&mut bench, 1, 6, &[deactivation_type]), packets("41 06 01 00"));
+            assert_eq!(bench.controller().rf(), Rf::Idle);
+            assert_eq!(bench.controller().pairs(), []);
+        }
+    }
+}
+
+#[test]
+fn deactivation_in_listen_sleep() {
+    let bench = listen_sleep(PROFILE);
+    let mut idle = bench.clone();
+    assert_eq!(answers(&mut idle, 1, 6, &[0]), packets("41 06 01 00"));
+    assert_eq!(idle.controller().rf(), Rf::Idle);
+    for deactivation_type in 1..=255 {
+        let mut bench = bench.clone();
+        let status = if deactivation_type <= 3 { 6 } else { 5 };
+        assert_eq!(answers(&mut bench, 1, 6, &[deactivation_type]), [[0x41, 6, 1, status]]);
+        assert_eq!(bench.controller().rf(), Rf::ListenSleep);
+    }
+}
+
+#[test]
+fn a_deactivation_without_type_is_a_syntax_error_in_every_state() {
+    for (name, bench) in rf_states() {
+        assert_eq!(status_of(&bench, 1, 6, &[]), 5, "{name}");
+    }
+    assert_eq!(status_of(&fresh(PROFILE), 1, 6, &[]), 5);
+}
+
+// Deactivation in the active states
+
+#[test]
+fn listen_f_has_no_sleep_and_listen_b_no_sleep_af() {
+    for mode in [0x80, 0x81, 0x82, 0x83] {
+        for deactivation_type in 0..=4 {
+            let mut bench = active(PROFILE, mode);
+            let before = bench.controller().rf();
+            let put = answers(&mut bench, 1, 6, &[deactivation_type]);
+            let rejected = (mode, deactivation_type) == (0x82, 1) || (mode, deactivation_type) == (0x81, 2);
+            if rejected || deactivation_type == 4 {
+                let status = if rejected { 1 } else { 5 };
+                assert_eq!(put, [[0x41, 6, 1, status]]);
+                assert_eq!(bench.controller().rf(), before);
+                takes(&bench, |bench| bench.report(0));
+                read_up(&mut bench);
+                takes(&bench, |bench| bench.send(0, &[1]));
+                continue;
+            }
+            assert_eq!(put, [octets("41 06 01 00"), vec![0x61, 6, 2, deactivation_type, 0]]);
+            let next = match deactivation_type {
+                0 => Rf::Idle,
+                3 => Rf::Discovery,
+                _ => Rf::ListenSleep,
+            };
+            assert_eq!(bench.controller().rf(), next);
+            refuses(&bench, 6, |bench| bench.report(0));
+        }
+    }
+}
+
+#[test]
+fn poll_active_takes_every_type_in_every_mode() {
+    for mode in [0, 1, 2, 3, 6] {
+        for deactivation_type in 0..=4 {
+            let mut bench = active(PROFILE, mode);
+            let put = answers(&mut bench, 1, 6, &[deactivation_type]);
+            if deactivation_type == 4 {
+                assert_eq!(put, packets("41 06 01 05"));
+                takes(&bench, |bench| bench.report(0));
+                continue;
+            }
+            assert_eq!(put, [octets("41 06 01 00"), vec![0x61, 6, 2, deactivation_type, 0]]);
+            let next = match deactivation_type {
+                0 => Rf::Idle,
+                3 => Rf::Discovery,
+                _ => Rf::W4HostSelect(None),
+            };
+            assert_eq!(bench.controller().rf(), next);
+            refuses(&bench, 6, |bench| bench.report(0));
+        }
+    }
+}
+
+// INIT
+
+#[test]
+fn init_response() {
+    for control_payload in [32, 33, 255] {
+        let mut bench = fresh([control_payload, 4, 2, 4, 1]);
+        assert_eq!(status_of(&bench, 0, 1, &[0, 0]), 6);
+        command(&mut bench, 0, 0, &[1]);
+        assert_eq!(status_of(&bench, 0, 1, &[0]), 5);
+        let mut response = octets("40 01 10 00 00 00 00 00 04 00 00 20 00 00 00 00 01 01 00");
+        response[11] = control_payload;
+        assert_eq!(command(&mut bench, 0, 1, &[0xAB, 0xCD, 0xEF]), [response]);
+        assert_eq!(status_of(&bench, 0, 1, &[0, 0]), 6);
+        // A refused RESET does not open the way for another INIT.
+        command(&mut bench, 0, 0, &[2]);
+        assert_eq!(status_of(&bench, 0, 1, &[0, 0]), 6);
+    }
+}
+
+// The rest as document 01 has it
+
+#[test]
+fn discover_values() {
+    let bench = ready(PROFILE);
+    assert_eq!(status_of(&bench, 1, 3, &[0]), 0);
+    for mode in 0..=255u8 {
+        for frequency in [0, 1, 2, 10, 11, 255] {
+            let poll = matches!(mode, 0..=3 | 6) && (1..=10).contains(&frequency);
+            let listen = (0x80..=0x83).contains(&mode) && frequency == 1;
+            let status = if poll || listen { 0 } else { 1 };
+            assert_eq!(status_of(&bench, 1, 3, &[1, mode, frequency]), status, "{mode:02X} {frequency}");
+            assert_eq!(status_of(&bench, 1, 3, &[2, 0, 1, mode, frequency, 99]), status);
+        }
+    }
+    for count in [8, 9] {
+        let payload = [&[count][..], &[6, 10].repeat(usize::from(count))].concat();
+        assert_eq!(status_of(&bench, 1, 3, &payload), if count == 8 { 0 } else { 1 });
+        assert_eq!(status_of(&bench, 1, 3, &payload[..payload.len() - 1]), 5);
+    }
+    assert_eq!(status_of(&bench, 1, 3, &[127; 255]), 1);
+    assert_eq!(status_of(&bench, 1, 3, &[128; 255]), 5);
+}
+
+#[test]
+fn commands_that_document_01_leaves_aside_are_unknown() {
+    let known = [(0, 0), (0, 1), (0, 4), (0, 5), (1, 3), (1, 4), (1, 6)];
+    for bench in [fresh(PROFILE), ready(PROFILE)] {
+        for gid in 0..=15 {
+            for oid in 0..=63 {
+                if !known.contains(&(gid, oid)) {
+                    assert_eq!(status_of(&bench, gid, oid, &[0; 8]), 5, "{gid} {oid}");
+                }
+            }
+        }
+    }
+}
+
+#[test]
+fn an_endpoint_s_message_is_neither_lengthened_nor_shortened() {
+    let mut bench = active(PROFILE, 0);
+    taken(bench.air(&[8, 0xAA, 0xBB]));
+    assert_eq!(taken(bench.reply()).up, packets("00 00 02 AA BB"));
+    assert_eq!(taken(bench.up()).message, Some(vec![0xAA, 0xBB]));
+}
+
+#[test]
+fn closing_0_discards_the_endpoint_s_message() {
+    for end in [&[5][..], &[6], &[7]] {
+        let mut bench = active(PROFILE, 0x80);
+        taken(bench.air(&[8, 1, 2, 3]));
+        taken(bench.air(end));
+        refuses(&bench, 8, |bench| bench.reply());
+    }
+    let mut bench = active(PROFILE, 0);
+    taken(bench.air(&[8, 1, 2, 3]));
+    answers(&mut bench, 1, 6, &[3]);
+    refuses(&bench, 8, |bench| bench.reply());
+    read_up(&mut bench);
+    taken(bench.air(&[2, 1, 4, 0]));
+    refuses(&bench, 8, |bench| bench.reply());
+    taken(bench.air(&[8]));
+    answers(&mut bench, 0, 0, &[0]);
+    refuses(&bench, 8, |bench| bench.reply());
+}
+
+// CONN_CREATE
+
+#[test]
+fn create_takes_01_00_and_rejects_all_else() {
+    let bench = ready(PROFILE);
+    for payload in [&[][..], &[1]] {
+        assert_eq!(status_of(&bench, 0, 4, payload), 5);
+    }
+    for payload in [&[1, 1][..], &[0, 0], &[2, 0], &[1, 1, 0, 0], &[3, 1, 1, 2, 0x10, 0]] {
+        assert_eq!(status_of(&bench, 0, 4, payload), 1);
+    }
+    assert_eq!(answer_of(&bench, 0, 4, &[1, 0, 9, 9]), packets("40 04 04 00 04 02 02"));
+    let four = loopbacks(PROFILE, 4);
+    assert_eq!(answer_of(&four, 0, 4, &[1, 0]), packets("40 04 01 01"));
+}
+
+// Messages in hand
+
+#[test]
+fn a_push_that_is_not_the_last_leaves_the_message_in_hand() {
+    let mut bench = loopbacks(PROFILE, 1);
+    taken(bench.send(2, &[1; 5]));
+    taken(bench.push(2));
+    refuses(&bench, 7, |bench| bench.send(2, &[]));
+    taken(bench.push(2));
+    takes(&bench, |bench| bench.send(2, &[]));
+}
+
+#[test]
+fn an_empty_message_in_hand_is_in_hand() {
+    let mut bench = loopbacks(PROFILE, 1);
+    taken(bench.send(2, &[]));
+    refuses(&bench, 7, |bench| bench.send(2, &[]));
+    taken(bench.push(2));
+    taken(bench.down());
+    assert_eq!(taken(bench.consume(2)).message, Some(vec![]));
+    assert_eq!(taken(bench.up()).message, Some(vec![]));
+}
+
+// Conn IDs
+
+#[test]
+fn conn_ids_go_round_and_pass_open_ones() {
+    fn create(bench: &mut Bench) -> Option<u8> {
+        command(bench, 0, 4, &[1, 0])[0].get(6).copied()
+    }
+    let mut bench = ready(PROFILE);
+    assert_eq!(create(&mut bench), Some(2));
+    command(&mut bench, 0, 5, &[2]);
+    assert_eq!(create(&mut bench), Some(3));
+    assert_eq!(command(&mut bench, 0, 4, &[2, 0]), packets("40 04 01 01"));
+    assert_eq!(create(&mut bench), Some(4));
+    assert_eq!(create(&mut bench), Some(5));
+    assert_eq!(create(&mut bench), Some(2));
+    assert_eq!(create(&mut bench), None);
+    command(&mut bench, 0, 5, &[4]);
+    command(&mut bench, 0, 5, &[5]);
+    assert_eq!(create(&mut bench), Some(4));
+    assert_eq!(create(&mut bench), Some(5));
+    command(&mut bench, 0, 5, &[3]);
+    assert_eq!(create(&mut bench), Some(3));
+    command(&mut bench, 0, 0, &[0]);
+    command(&mut bench, 0, 1, &[0, 0]);
+    assert_eq!(create(&mut bench), Some(2));
+    taken(bench.power());
+    command(&mut bench, 0, 0, &[1]);
+    command(&mut bench, 0, 1, &[0, 0]);
+    assert_eq!(create(&mut bench), Some(2));
+}
+
+// CONN_CLOSE
+
+#[test]
+fn close_names_its_connection_by_the_low_four_bits() {
+    let mut bench = loopbacks(PROFILE, 2);
+    assert_eq!(answers(&mut bench, 0, 5, &[0xF3, 2]), packets("40 05 01 00"));
+    refuses(&bench, 6, |bench| bench.report(3));
+    takes(&bench, |bench| bench.send(3, &[1]));
+    taken(bench.up());
+    refuses(&bench, 6, |bench| bench.send(3, &[1]));
+    takes(&bench, |bench| bench.send(2, &[1]));
+    for conn in [0, 1, 3, 4, 5, 6, 15] {
+        assert_eq!(status_of(&bench, 0, 5, &[conn]), 1);
+    }
+    assert_eq!(status_of(&bench, 0, 5, &[]), 5);
+}
+
+#[test]
+fn a_refused_close_closes_nothing_at_the_host() {
+    let mut bench = active(PROFILE, 0);
+    command(&mut bench, 0, 5, &[0]);
+    takes(&bench, |bench| bench.send(0, &[1]));
+}
+
+// The order of judgement
+
+#[test]
+fn before_init_unknown_and_short_are_syntax_errors_and_the_rest_semantic() {
+    let mut reset = fresh(PROFILE);
+    command(&mut reset, 0, 0, &[0]);
+    for bench in [fresh(PROFILE), reset] {
+        for (gid, oid, enough) in
+            [(0, 4, &[9, 9][..]), (0, 5, &[9]), (1, 3, &[1, 9, 9]), (1, 4, &[9, 9, 9]), (1, 6, &[9])]
+        {
+            assert_eq!(status_of(&bench, gid, oid, enough), 6);
+            assert_eq!(status_of(&bench, gid, oid, &enough[..enough.len() - 1]), 5);
+        }
+        assert_eq!(status_of(&bench, 0, 2, &[]), 5);
+    }
+}
+
+#[test]
+fn state_is_judged_before_values_and_length_before_state() {
+    for (name, bench) in rf_states() {
+        let idle = name == "IDLE";
+        assert_eq!(status_of(&bench, 1, 3, &[1, 4, 0]), if idle { 1 } else { 0xA0 }, "{name}");
+        assert_eq!(status_of(&bench, 1, 3, &[1, 4]), 5, "{name}");
+        assert_eq!(status_of(&bench, 1, 3, &[]), 5, "{name}");
+        let selecting = name.starts_with("W4_HOST_SELECT");
+        assert_eq!(status_of(&bench, 1, 4, &[99, 99, 99]), if selecting { 1 } else { 6 }, "{name}");
+        assert_eq!(status_of(&bench, 1, 4, &[1, 4]), 5, "{name}");
+    }
+}
+
+#[test]
+fn reset_is_taken_in_every_state_and_a_type_over_1_changes_nothing() {
+    let states = rf_states().into_iter().map(|state| state.1).chain([fresh(PROFILE), loopbacks(PROFILE, 4)]);
+    for bench in states {
+        for reset_type in 0..=255 {
+            let mut played = bench.clone();
+            let put = answers(&mut played, 0, 0, &[reset_type]);
+            if reset_type > 1 {
+                assert_eq!(put, packets("40 00 01 05"));
+                assert_eq!(played.controller(), bench.controller());
+                continue;
+            }
+            assert_eq!(put, [octets("40 00 01 00"), vec![0x60, 0, 5, 2, reset_type, 0x20, 0, 0]]);
+            assert_eq!(played.controller().rf(), Rf::Idle);
+            assert_eq!(played.controller().pairs(), []);
+        }
+        assert_eq!(status_of(&bench, 0, 0, &[]), 5);
+    }
+}
+
+// Pairs and selections
+
+const PAIR_1_4: Pair = Pair { id: 1, protocol: 4 };
+const PAIR_2_5: Pair = Pair { id: 2, protocol: 5 };
+
+#[test]
+fn a_later_selection_replaces_the_earlier_and_a_rejected_one_keeps_it() {
+    let mut bench = selected(PROFILE);
+    assert_eq!(bench.controller().rf(), Rf::W4HostSelect(Some(PAIR_1_4)));
+    for rejected in [[1, 5, 1], [3, 4, 1], [2, 5, 0], [2, 5, 2]] {
+        assert_eq!(command(&mut bench, 1, 4, &rejected), packets("41 04 01 01"));
+        assert_eq!(bench.controller().rf(), Rf::W4HostSelect(Some(PAIR_1_4)));
+    }
+    assert_eq!(command(&mut bench, 1, 4, &[2, 5, 1]), packets("41 04 01 00"));
+    assert_eq!(bench.controller().rf(), Rf::W4HostSelect(Some(PAIR_2_5)));
+    refuses(&bench, 11, |bench| bench.air(&[2, 1, 4, 0]));
+    refuses(&bench, 11, |bench| bench.air(&[2, 2, 4, 0]));
+    assert_eq!(taken(bench.air(&[4])).up, packets("60 07 01 A1"));
+    assert_eq!(bench.controller().rf(), Rf::W4HostSelect(None));
+    refuses(&bench, 11, |bench| bench.air(&[4]));
+}
+
+#[test]
+fn the_list_stays_through_a_selected_activation_and_sleep() {
+    for sleep in [1, 2] {
+        let mut bench = selected(PROFILE);
+        taken(bench.air(&[2, 1, 4, 6]));
+        assert_eq!(bench.controller().pairs(), [PAIR_1_4, PAIR_2_5]);
+        read_up(&mut bench);
+        command(&mut bench, 1, 6, &[sleep]);
+        assert_eq!(bench.controller().rf(), Rf::W4HostSelect(None));
+        refuses(&bench, 11, |bench| bench.air(&[2, 1, 4, 6]));
+        assert_eq!(status_of(&bench, 1, 4, &[2, 5, 1]), 0);
+    }
+}
+
+#[test]
+fn a_poll_activation_from_discovery_makes_the_list_that_one_pair() {
+    let mut bench = active(PROFILE, 0);
+    assert_eq!(bench.controller().pairs(), [PAIR_1_4]);
+    command(&mut bench, 1, 6, &[1]);
+    assert_eq!(status_of(&bench, 1, 4, &[1, 4, 1]), 0);
+    assert_eq!(status_of(&bench, 1, 4, &[2, 5, 1]), 1);
+}
+
+#[test]
+fn type_3_and_listen_activations_leave_the_list_and_a_found_begins_a_new_one() {
+    let mut bench = selected(PROFILE);
+    taken(bench.air(&[2, 1, 4, 6]));
+    read_up(&mut bench);
+    command(&mut bench, 1, 6, &[3]);
+    assert_eq!(bench.controller().pairs(), [PAIR_1_4, PAIR_2_5]);
+    taken(bench.air(&[3, 9, 9, 0x80]));
+    read_up(&mut bench);
+    taken(bench.air(&[6]));
+    read_up(&mut bench);
+    assert_eq!(bench.controller().pairs(), [PAIR_1_4, PAIR_2_5]);
+    // A repeated pair is none in a new list.
+    taken(bench.air(&[1, 1, 4, 0, 2]));
+    assert_eq!(bench.controller().pairs(), [PAIR_1_4]);
+    taken(bench.air(&[1, 7, 7, 0, 1]));
+    assert_eq!(bench.controller().rf(), Rf::W4HostSelect(None));
+    command(&mut bench, 1, 6, &[0]);
+    assert_eq!(bench.controller().pairs(), []);
+}
+
+#[test]
+fn repeated_pairs_and_an_eighth_with_more_to_follow_are_not_taken() {
+    let mut bench = discovery(PROFILE);
+    for notification_type in [0, 1] {
+        refuses(&bench, 11, |bench| bench.air(&[1, 1, 4, 0, notification_type]));
+    }
+    for id in 1..=7 {
+        assert_eq!(taken(bench.air(&[1, id, 4, 0, 2])).up, [[0x61, 3, 5, id, 4, 0, 0, 2]]);
+        for notification_type in 0..=2 {
+            refuses(&bench, 11, |bench| bench.air(&[1, id, 4, 0, notification_type]));
+        }
+        takes(&bench, |bench| bench.air(&[1, id, 5, 0, 0]));
+    }
+    refuses(&bench, 11, |bench| bench.air(&[1, 8, 4, 0, 2]));
+    for notification_type in [0, 1] {
+        takes(&bench, |bench| bench.air(&[1, 8, 4, 0, notification_type]));
+    }
+    taken(bench.air(&[1, 8, 4, 0, 0]));
+    assert_eq!(bench.controller().pairs().len(), 8);
+    read_up(&mut bench);
+    assert_eq!(status_of(&bench, 1, 4, &[8, 4, 1]), 0);
+    refuses(&bench, 11, |bench| bench.air(&[1, 9, 4, 0, 0]));
+}
+
+// The air, state by state
+
+#[test]
+fn which_state_takes_which_kind() {
+    let kinds: [(&[u8], &[&str]); 9] = [
+        (&[1, 9, 4, 0, 2], &["DISCOVERY", "W4_ALL_DISCOVERIES"]),
+        (&[1, 9, 4, 0, 1], &["W4_ALL_DISCOVERIES"]),
+        (&[2, 1, 4, 0], &["DISCOVERY", "W4_HOST_SELECT selected"]),
+        (&[3, 1, 4, 0x80], &["DISCOVERY", "LISTEN_SLEEP"]),
+        (&[4], &["W4_HOST_SELECT selected"]),
+        (&[5], &["LISTEN_ACTIVE"]),
+        (&[6], &["LISTEN_ACTIVE", "LISTEN_SLEEP"]),
+        (&[7], &["LISTEN_ACTIVE"]),
+        (&[8, 1], &["POLL_ACTIVE", "LISTEN_ACTIVE"]),
+    ];
+    for (name, bench) in rf_states().into_iter().chain([("cold", fresh(PROFILE))]) {
+        for (octets, states) in &kinds {
+            if states.contains(&name) {
+                takes(&bench, |bench| bench.air(octets));
+            } else {
+                refuses(&bench, 11, |bench| bench.air(octets));
+            }
+        }
+    }
+}
+
+#[test]
+fn notifications_of_the_air() {
+    let mut bench = discovery([0x20, 4, 2, 0x20, 0xFF]);
+    assert_eq!(
+        takes(&bench, |bench| bench.air(&[1, 7, 0xFE, 6, 2, 0xAA, 0xBB])).up,
+        packets("61 03 07 07 FE 06 02 AA BB 02")
+    );
+    assert_eq!(
+        takes(&bench, |bench| bench.air(&[2, 7, 0xFE, 6, 0xAA, 0xBB])).up,
+        packets("61 05 0D 07 01 FE 06 20 FF 02 AA BB 06 00 00 00")
+    );
+    assert_eq!(
+        taken(bench.air(&[3, 7, 0xFE, 0x82])).up,
+        packets("61 05 0B 07 01 FE 82 20 FF 00 82 00 00 00")
+    );
+    assert_eq!(takes(&bench, |bench| bench.air(&[5])).up, packets("61 06 02 01 01"));
+    assert_eq!(takes(&bench, |bench| bench.air(&[6])).up, packets("61 06 02 03 02"));
+    assert_eq!(takes(&bench, |bench| bench.air(&[7])).up, packets("61 06 02 03 01"));
+}
+
+// Connection 0 at the host
+
+#[test]
+fn the_deactivation_notification_closes_0_at_the_host_and_its_response_does_not() {
+    let mut bench = active(PROFILE, 0);
+    answers(&mut bench, 1, 6, &[0]);
+    taken(bench.up());
+    takes(&bench, |bench| bench.send(0, &[1]));
+    taken(bench.up());
+    refuses(&bench, 6, |bench| bench.send(0, &[1]));
+}
+
+#[test]
+fn an_ok_close_response_closes_whatever_the_command_named() {
+    let mut bench = active(PROFILE, 0);
+    taken(bench.command(0, 5, &[0x10]));
+    bench.forge_up(&octets("40 05 01 00"));
+    assert!(!taken(bench.up()).drop);
+    refuses(&bench, 6, |bench| bench.send(0, &[1]));
+    // A Conn ID that isn't there: nothing to close.
+    for payload in [&[1][..], &[15], &[]] {
+        let mut bench = active(PROFILE, 0);
+        taken(bench.command(0, 5, payload));
+        bench.forge_up(&octets("40 05 01 00"));
+        assert!(!taken(bench.up()).drop);
+        takes(&bench, |bench| bench.send(0, &[1]));
+    }
+}
+
+// Contents never written
+
+#[test]
+fn a_response_never_written_leaves_its_command_unanswered() {
+    for (gid, oid, never) in [
+        (0, 0, "40 00 02 00 00"),
+        (0, 0, "40 00 00"),
+        (0, 0, "40 00 02 05 00"),
+        (0, 1, "40 01 01 00"),
+        (0, 1, "40 01 10 00 00 00 00 00 04 00 00 1F 00 00 00 00 01 01 00"),
+        (0, 1, "40 01 10 00 00 00 00 00 04 00 00 20 00 00 40 00 01 01 00"),
+        (0, 4, "40 04 01 00"),
+        (0, 4, "40 04 04 00 00 02 02"),
+        (0, 4, "40 04 04 00 04 09 02"),
+        (0, 4, "40 04 04 00 04 02 06"),
+        (0, 4, "40 04 04 01 04 02 02"),
+        (0, 0x3F, "40 3F 01 00"),
+        (1, 3, "41 03 02 00 00"),
+    ] {
+        let mut bench = active(PROFILE, 0);
+        taken(bench.command(gid, oid, &[2]));
+        let host = bench.host().clone();
+        bench.forge_up(&octets(never));
+        assert!(!taken(bench.up()).drop, "{never}");
+        assert_eq!(bench.host(), &host, "{never}");
+        assert_eq!(bench.up_wire().len(), 0);
+        refuses(&bench, 5, |bench| bench.command(0, 0, &[0]));
+    }
+}
+
+#[test]
+fn a_status_other_than_ok_alone_answers_and_does_nothing_else() {
+    for status in [1, 5, 6, 0xA0] {
+        for (gid, oid) in [(0, 0), (0, 1), (0, 4), (0, 5), (1, 3), (1, 4), (1, 6), (0, 0x3F)] {
+            let mut bench = active(PROFILE, 0);
+            let before = bench.host().clone();
+            taken(bench.command(gid, oid, &[0]));
+            bench.forge_up(&[0x40 | gid, oid, 1, status]);
+            assert!(!taken(bench.up()).drop);
+            assert_eq!(bench.host(), &before);
+        }
+    }
+}
+
+#[test]
+fn a_notification_never_written_has_no_effect() {
+    for never in [
+        "60 06 00",
+        "60 06 01 00",
+        "60 06 03 01 00 09",
+        "60 06 03 01 00 00",
+        "60 06 04 01 00 01 00",
+        "60 06 05 02 02 01 00 01",
+        "60 06 03 01 06 01",
+        "61 05 0B 01 01 04 00 04 01 00 00 00 00 01",
+        "61 05 0B 01 01 04 00 04 01 00 80 00 00 00",
+        "61 05 0B 01 02 04 00 04 01 00 00 00 00 00",
+        "61 06 02 04 00",
+        "61 06 02 00 01",
+        "61 06 01 00",
+        "61 06 03 00 00 00",
+        "60 00 05 01 01 20 00 00",
+        "60 07 01 A2",
+        "60 08 02 05 00",
+        "6F 3F 01 00",
+    ] {
+        let mut bench = active(PROFILE, 0);
+        taken(bench.send(0, &[1; 8]));
+        taken(bench.push(0));
+        let host = bench.host().clone();
+        bench.forge_up(&octets(never));
+        assert!(!taken(bench.up()).drop, "{never}");
+        assert_eq!(bench.host(), &host, "{never}");
+    }
+}
+
+#[test]
+fn notifications_that_tell_the_host_nothing() {
+    for written in ["60 00 05 02 01 20 00 00", "60 07 01 A1", "61 03 05 01 04 00 00 02"] {
+        let mut bench = active(PROFILE, 0);
+        let host = bench.host().clone();
+        bench.forge_up(&octets(written));
+        assert!(!taken(bench.up()).drop);
+        assert_eq!(bench.host(), &host);
+    }
+}
+
+#[test]
+fn commands_and_unawaited_responses_are_dropped_at_the_host() {
+    let mut bench = loopbacks(PROFILE, 1);
+    for dropped in ["20 00 01 00", "40 00 01 00", "40 05 01 00", "E0 00 00", "40 00 01", "40"] {
+        bench.forge_up(&octets(dropped));
+        assert!(taken(bench.up()).drop, "{dropped}");
+    }
+    taken(bench.command(0, 4, &[1, 0]));
+    for dropped in ["40 05 01 00", "41 04 04 00 04 02 03", "40 00 01 00"] {
+        bench.forge_up(&octets(dropped));
+        assert!(taken(bench.up()).drop, "{dropped}");
+    }
+    refuses(&bench, 5, |bench| bench.command(0, 0, &[0]));
+    // Reserved bits of octet 1 are ignored, octets past the length too.
+    bench.forge_up(&octets("40 C4 04 00 08 03 05 FF FF"));
+    assert!(!taken(bench.up()).drop);
+    takes(&bench, |bench| bench.send(5, &[1]));
+}
+
+#[test]
+fn data_for_a_connection_not_open_at_the_host_is_dropped() {
+    let mut bench = ready(PROFILE);
+    answers(&mut bench, 0, 4, &[1, 0]);
+    taken(bench.up());
+    for first in [0x00, 0x01, 0x03, 0x0F, 0x13] {
+        bench.forge_up(&[first, 0, 1, 7]);
+        assert!(taken(bench.up()).drop);
+    }
+    bench.forge_up(&[0x02, 0xFF, 1, 7]);
+    let up = taken(bench.up());
+    assert_eq!((up.drop, up.message), (false, Some(vec![7])));
+}
+
+// Credit notices
+
+#[test]
+fn an_entry_for_a_closed_connection_sets_the_flag_and_the_others_count() {
+    let mut bench = loopbacks(PROFILE, 1);
+    taken(bench.send(2, &[1; 8]));
+    taken(bench.push(2));
+    taken(bench.push(2));
+    bench.forge_up(&octets("60 06 05 02 00 08 02 01"));
+    assert!(taken(bench.up()).drop);
+    assert_eq!(report(&bench, 2)[0], 1);
+    bench.forge_up(&octets("60 06 05 02 02 01 05 01"));
+    assert!(taken(bench.up()).drop);
+    assert_eq!(report(&bench, 2)[0], 2);
+}
+
+#[test]
+fn an_entry_for_a_connection_without_flow_control_does_nothing() {
+    let mut bench = loopbacks(UNLIMITED, 1);
+    let host = bench.host().clone();
+    bench.forge_up(&octets("60 06 03 01 02 08"));
+    assert!(!taken(bench.up()).drop);
+    assert_eq!(bench.host(), &host);
+}
+
+// Control runs
+
+#[test]
+fn another_command_starts_a_new_run_at_the_controller() {
+    let mut bench = ready(PROFILE);
+    for forged in ["30 04 01 01", "30 05 01 02", "30 04 01 01", "20 04 01 00"] {
+        bench.forge_down(&octets(forged));
+    }
+    for _ in 0..3 {
+        let down = taken(bench.down());
+        assert_eq!((down.drop, down.up.len()), (false, 0));
+    }
+    assert_eq!(taken(bench.down()).up, packets("40 04 04 00 04 02 02"));
+}
+
+#[test]
+fn packets_dropped_by_their_type_neither_join_nor_end_a_run() {
+    let mut bench = ready(PROFILE);
+    bench.forge_down(&octets("30 04 01 01"));
+    taken(bench.down());
+    for dropped in ["40 04 01 00", "50 04 01 00", "60 06 01 00", "80 00 00", "20 05 01", "02 00 00"] {
+        bench.forge_down(&octets(dropped));
+        assert!(taken(bench.down()).drop);
+    }
+    bench.forge_down(&octets("20 04 01 00"));
+    assert_eq!(taken(bench.down()).up, packets("40 04 04 00 04 02 02"));
+
+    let mut bench = ready(PROFILE);
+    taken(bench.command(0, 4, &[1, 0]));
+    bench.forge_up(&octets("50 04 02 00 04"));
+    taken(bench.up());
+    for dropped in ["20 00 01 00", "30 04 01 00", "A0 00 00", "02 00 00", "40 04"] {
+        bench.forge_up(&octets(dropped));
+        assert!(taken(bench.up()).drop);
+    }
+    bench.forge_up(&octets("40 04 02 02 02"));
+    assert!(!taken(bench.up()).drop);
+    takes(&bench, |bench| bench.send(2, &[1]));
+}
+
+#[test]
+fn a_notification_starts_a_new_run_at_the_host() {
+    let mut bench = ready(PROFILE);
+    taken(bench.command(0, 4, &[1, 0]));
+    for forged in ["50 04 02 00 04", "60 07 01 A1", "40 04 02 02 02"] {
+        bench.forge_up(&octets(forged));
+        // The last is a response of its own, of contents never written.
+        assert!(!taken(bench.up()).drop);
+    }
+    refuses(&bench, 5, |bench| bench.command(0, 0, &[0]));
+    refuses(&bench, 6, |bench| bench.send(2, &[1]));
+}
+
+#[test]
+fn the_last_packet_of_a_run_past_255_is_dropped_not_answered_and_needs_two_slots() {
+    let mut bench = ready(PROFILE);
+    let part = |first: u8, length: usize| [&[first, 0, length as u8][..], &vec![0; length]].concat();
+    bench.forge_down(&part(0x30, 255));
+    bench.forge_down(&part(0x30, 1));
+    bench.forge_down(&part(0x30, 0));
+    bench.forge_down(&part(0x20, 0));
+    bench.forge_down(&part(0x20, 1));
+    assert!(!taken(bench.down()).drop);
+    assert!(taken(bench.down()).drop);
+    assert!(taken(bench.down()).drop);
+    fill_up(&mut bench, 15);
+    refuses(&bench, 4, |bench| bench.down());
+    taken(bench.up());
+    let last = taken(bench.down());
+    assert_eq!((last.drop, last.up.len()), (true, 0));
+    // The run ended with it.
+    assert_eq!(taken(bench.down()).up.len(), 2);
+}
+
+#[test]
+fn a_run_past_255_is_dropped_at_the_host() {
+    let mut bench = loopbacks(PROFILE, 1);
+    let part = |first: u8, length: usize| [&[first, 6, length as u8][..], &vec![1; length]].concat();
+    for (forged, drop) in [(part(0x70, 200), false), (part(0x70, 56), true), (part(0x60, 0), true)] {
+        bench.forge_up(&forged);
+        assert_eq!(taken(bench.up()).drop, drop);
+    }
+}
+
+// Data runs
+
+#[test]
+fn a_data_run_past_1024_is_dropped_at_both_ends() {
+    let mut bench = loopbacks([0x20, 4, 8, 4, 1], 1);
+    let part = |first: u8, length: usize| [&[first, 0, length as u8][..], &vec![1; length]].concat();
+    for (forged, drop) in [
+        (part(0x12, 255), false),
+        (part(0x12, 255), false),
+        (part(0x12, 255), false),
+        (part(0x12, 255), false),
+        (part(0x12, 5), true),
+        (part(0x02, 0), true),
+    ] {
+        bench.forge_down(&forged);
+        taken(bench.down());
+        let consumed = taken(bench.consume(2));
+        assert_eq!((consumed.drop, consumed.message), (drop, None));
+        assert_eq!(consumed.up, [forged]);
+        let up = taken(bench.up());
+        assert_eq!((up.drop, up.message), (drop, None));
+    }
+    assert_eq!(report(&bench, 2)[3], 6);
+    bench.forge_down(&part(0x02, 1));
+    taken(bench.down());
+    assert_eq!(taken(bench.consume(2)).message, Some(vec![1]));
+    assert_eq!(taken(bench.up()).message, Some(vec![1]));
+}
+
+#[test]
+fn runs_of_connections_are_separate() {
+    let mut bench = loopbacks(PROFILE, 2);
+    for forged in ["12 00 01 AA", "13 00 01 BB", "02 00 01 CC", "03 00 01 DD"] {
+        bench.forge_up(&octets(forged));
+    }
+    let messages: Vec<_> = (0..4).map(|_| taken(bench.up()).message).collect();
+    assert_eq!(messages, [None, None, Some(vec![0xAA, 0xCC]), Some(vec![0xBB, 0xDD])]);
+}
+
+// Octet for octet
+
+#[test]
+fn a_loopback_returns_reserved_bits_as_they_came() {
+    let mut bench = loopbacks(PROFILE, 1);
+    bench.forge_down(&octets("02 A5 02 11 22"));
+    taken(bench.down());
+    assert_eq!(taken(bench.consume(2)).up, packets("02 A5 02 11 22"));
+}
+
+// A stored packet that the reader drops
+
+#[test]
+fn a_stored_packet_that_the_reader_drops_counts_as_consumed() {
+    for unreadable in ["80 00 01 11", "02 00 02 11"] {
+        let mut bench = loopbacks(PROFILE, 1);
+        bench.forge_stored(2, &octets("12 00 01 AA"));
+        bench.forge_stored(2, &octets(unreadable));
+        taken(bench.consume(2));
+        let consumed = taken(bench.consume(2));
+        assert_eq!((consumed.drop, consumed.message), (true, None));
+        assert_eq!(report(&bench, 2)[2..4], [0, 2]);
+        taken(bench.credit());
+        bench.forge_stored(2, &octets("02 00 01 BB"));
+        assert_eq!(taken(bench.consume(2)).message, Some(vec![0xAA, 0xBB]));
+    }
+}
+
+// The fifth number
+
+#[test]
+fn the_fifth_number_counts_only_packets_with_written_contents() {
+    let mut bench = loopbacks([0x20, 4, 8, 4, 1], 1);
+    for never in [
+        "60 06 03 01 02 09",
+        "70 06 03 01 02 08",
+        "60 06 05 02 03 01 02 08",
+        "40 04 04 00 04 09 02",
+        "50 04 04 00 04 08 02",
+        "40 04 04 00 04 08 03",
+        "60 06 03 01 02",
+        "80 06 03 01 02 08",
+    ] {
+        bench.forge_up(&octets(never));
+    }
+    assert_eq!(report(&bench, 2)[4], 0);
+    bench.forge_up(&octets("60 06 03 01 02 08"));
+    bench.forge_up(&octets("40 04 04 00 04 08 02"));
+    assert_eq!(report(&bench, 2)[4], 16);
+    let mut bench = loopbacks([0x20, 4, 8, 4, 1], 1);
+    for _ in 0..16 {
+        bench.forge_up(&octets("60 06 03 01 02 08"));
+    }
+    assert_eq!(report(&bench, 2)[4], 128);
+}
+
+#[test]
+fn the_second_number_counts_the_connection_s_data_on_the_down_wire() {
+    let mut bench = loopbacks(PROFILE, 2);
+    for forged in ["02 00 00", "12 FF 01 AA", "03 00 00", "22 00 00", "82 00 00", "02 00 01"] {
+        bench.forge_down(&octets(forged));
+    }
+    assert_eq!(report(&bench, 2)[1], 2);
+    assert_eq!(report(&bench, 3)[1], 1);
+}

@@ -1,0 +1,228 @@
+//! The observer's account on random lists, and that the observer notices faults.
+
+mod common;
+use common::*;
+use exam_bench::bench::Bench;
+use exam_bench::call::{Call, Outcome};
+use exam_bench::controller::Rf;
+use exam_bench::observer::{Event, Observer};
+use exam_bench::player::{Lengths, Player};
+use exam_bench::trial::{check_reports, Tally, Trial};
+use std::collections::BTreeSet;
+
+/// Plays lists and lets `watch` look at each call's event and the bench after it.
+fn play(seed: u64, calls: u64, lengths: Lengths, mut watch: impl FnMut(&Event, &Bench)) -> Tally {
+    let mut tally = Tally::default();
+    let mut player = Player::new(seed, lengths);
+    while tally.calls < calls {
+        let length = player.list_length(300);
+        let mut trial = Trial::begin(player.begin(), &mut tally).unwrap();
+        while trial.events.len() < length {
+            let call = player.next_call(&trial.bench);
+            if let Err(fault) = trial.step(call, &mut tally) {
+                panic!("{fault}\n{}", trial.lines());
+            }
+            watch(trial.events.last().unwrap(), &trial.bench);
+        }
+    }
+    tally
+}
+
+#[test]
+fn random_lists_keep_the_account_and_meet_every_call_and_refusal() {
+    let tally = play(11, 150_000, Lengths::Any, |_, _| {});
+    assert_eq!(tally.never(), [13]);
+    assert_eq!(tally.gaps(), Vec::<String>::new());
+}
+
+#[test]
+fn random_lists_meet_every_status_and_every_rf_state() {
+    let mut statuses = BTreeSet::new();
+    let mut states = BTreeSet::new();
+    let mut notifications = BTreeSet::new();
+    play(12, 150_000, Lengths::Any, |event, bench| {
+        for packet in &event.outcome.up {
+            match packet[0] >> 5 {
+                2 if packet[0] < 0x42 => {
+                    statuses.insert((packet[0] & 15, packet[1], packet[3]));
+                }
+                3 => {
+                    notifications.insert((packet[0] & 15, packet[1]));
+                }
+                _ => {}
+            }
+        }
+        states.insert(match bench.controller().rf() {
+            Rf::Idle => 0,
+            Rf::Discovery => 1,
+            Rf::W4AllDiscoveries => 2,
+            Rf::W4HostSelect(None) => 3,
+            Rf::W4HostSelect(Some(_)) => 4,
+            Rf::PollActive(_) => 5,
+            Rf::ListenActive(_) => 6,
+            Rf::ListenSleep => 7,
+        });
+    });
+    assert_eq!(states.len(), 8);
+    assert_eq!(notifications, BTreeSet::from([(0, 0), (0, 6), (0, 7), (1, 3), (1, 5), (1, 6)]));
+    let expected: [(u8, u8, &[u8]); 7] = [
+        (0, 0, &[0, 5]),
+        (0, 1, &[0, 5, 6]),
+        (0, 4, &[0, 1, 5, 6]),
+        (0, 5, &[0, 1, 5, 6]),
+        (1, 3, &[0, 1, 5, 6, 0xA0]),
+        (1, 4, &[0, 1, 5, 6]),
+        (1, 6, &[0, 1, 5, 6]),
+    ];
+    for (gid, oid, status) in expected {
+        let met: Vec<u8> =
+            statuses.iter().filter(|met| (met.0, met.1) == (gid, oid)).map(|met| met.2).collect();
+        assert_eq!(met, status, "GID {gid} OID {oid}");
+    }
+}
+
+#[test]
+fn the_player_deals_the_same_lists_from_the_same_seed() {
+    let mut runs = [7, 7, 8].map(|seed| {
+        let mut calls = Vec::new();
+        play(seed, 2_000, Lengths::Short, |event, _| calls.push(event.call.clone()));
+        calls
+    });
+    assert_ne!(runs[1], runs[2]);
+    runs[1].truncate(runs[0].len());
+    assert_eq!(runs[0], runs[1]);
+}
+
+#[test]
+fn every_call_of_short_lists_fits_a_sheet_line() {
+    play(9, 30_000, Lengths::Short, |event, _| {
+        let line = exam_bench::sheet::write_call(&event.call);
+        assert_eq!(exam_bench::sheet::read_line(line.as_bytes()), Some(event.call.clone()));
+    });
+}
+
+// Faults that the observer must notice.
+
+/// A course on a loopback: a message of two packets there and back, its credits
+/// still on the up wire at the end.
+fn course() -> (Vec<Event>, Bench) {
+    let mut bench = fresh(PROFILE);
+    let command = |gid, oid, payload: &[u8]| Call::Command { gid, oid, payload: payload.to_vec() };
+    let calls = [
+        command(0, 0, &[0]),
+        Call::Down,
+        Call::Up,
+        Call::Up,
+        command(0, 1, &[0, 0]),
+        Call::Down,
+        Call::Up,
+        command(0, 4, &[1, 0]),
+        Call::Down,
+        Call::Up,
+        Call::Send { conn: 2, message: vec![1, 2, 3, 4, 5] },
+        Call::Push(2),
+        Call::Push(2),
+        Call::Down,
+        Call::Down,
+        Call::Consume(2),
+        Call::Consume(2),
+        Call::Up,
+        Call::Up,
+        Call::Report(2),
+        Call::Credit,
+    ];
+    let events = calls.into_iter().map(|call| Event { outcome: taken(bench.play(&call)), call }).collect();
+    (events, bench)
+}
+
+/// What the observer and the checker say of the course with one event changed.
+fn verdict(change: impl FnOnce(&mut Vec<Event>)) -> Result<(), String> {
+    let (mut events, bench) = course();
+    change(&mut events);
+    let mut observer = Observer::new();
+    for event in &events {
+        observer.see(event)?;
+        observer.sum_to_grant()?;
+    }
+    check_reports(&observer, &bench)
+}
+
+fn place_of(events: &[Event], name: &str) -> usize {
+    events.iter().rposition(|event| event.call.name() == name).unwrap()
+}
+
+#[test]
+fn an_unchanged_course_passes() {
+    verdict(|_| {}).unwrap();
+}
+
+#[test]
+fn a_message_changed_on_its_way_is_noticed() {
+    for name in ["consume", "up"] {
+        let fault = verdict(|events| {
+            let place = place_of(events, name);
+            events[place].outcome.message.as_mut().unwrap()[0] ^= 1;
+        });
+        assert!(fault.unwrap_err().contains("is not the one taken"));
+    }
+}
+
+#[test]
+fn a_message_handed_out_twice_is_noticed() {
+    let fault = verdict(|events| {
+        let place = place_of(events, "up");
+        let again = events[place].clone();
+        events.push(again);
+    });
+    assert!(fault.is_err());
+}
+
+#[test]
+fn a_wrong_drop_flag_is_noticed() {
+    let fault = verdict(|events| events[13].outcome.drop = true);
+    assert!(fault.unwrap_err().contains("drop flag"));
+}
+
+#[test]
+fn a_credit_too_many_or_too_few_is_noticed() {
+    for credits in [1, 3] {
+        let fault = verdict(|events| {
+            let place = place_of(events, "credit");
+            events[place].outcome.up[0][5] = credits;
+        });
+        assert!(fault.is_err());
+    }
+    assert!(verdict(|events| events.truncate(events.len() - 1)).is_err());
+}
+
+#[test]
+fn a_grant_other_than_the_one_reported_is_noticed() {
+    assert!(verdict(|events| events[8].outcome.up[0][5] = 3).is_err());
+}
+
+#[test]
+fn a_wrong_report_is_noticed() {
+    let fault = verdict(|events| {
+        let place = place_of(events, "report");
+        events[place].outcome.message = Some(vec![0, 0, 0, 1, 1]);
+    });
+    assert!(fault.unwrap_err().contains("report of 2"));
+}
+
+#[test]
+fn a_push_that_did_not_happen_is_noticed() {
+    let fault = verdict(|events| {
+        let outcome = Outcome { down: packets("02 00 00"), ..Outcome::default() };
+        events.push(Event { call: Call::Push(2), outcome });
+    });
+    assert!(fault.is_err());
+}
+
+#[test]
+fn a_refusal_that_did_something_is_noticed() {
+    let fault = verdict(|events| {
+        let place = place_of(events, "consume");
+        events[place].outcome.answer = 8;
+    });
+    assert!(fault.unwrap_err().contains("refused"));
+}
