@@ -7,3 +7,5 @@ pub mod Hearing
 pub mod RoundTrips
 pub mod Whole
 pub mod Places
+pub mod CommandTrips
+pub mod Backwards

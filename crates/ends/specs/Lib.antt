@@ -11,3 +11,5 @@ pub mod Hearing
 pub mod Credited
 pub mod RoundTrips
 pub mod Table
+pub mod CommandTrips
+pub mod Backwards

@@ -1,5 +1,5 @@
 -- Octets and fields, both ways: what the controller writes is what the host takes for written and reads back, and what the host takes for
--- written is what its fields make. Every message that the controller sends has its laws here, and so have the octets of the air's events.
+-- written is what its fields make. Every message that the controller sends has its laws here or in Backwards, and so have the air's events.
 -- Assumes nothing.
 use Prim.Native.Nat.{ℕ, _≤_, _<_}
 use mathlib.Core.Path.{_≡_}
