@@ -2,9 +2,9 @@
 use crate::command::put_packet;
 use crate::state;
 use crate::state::State;
-use ends::air;
-use ends::air::Aired;
-use ends::air::Event;
+use nfcc::air;
+use nfcc::air::Aired;
+use nfcc::air::Event;
 
 // The fields of an event that the controller's state takes.
 fn put_taken(out: &mut [u8], at: usize, s: State, m: &[u8], a: Aired) -> usize {

@@ -1,12 +1,12 @@
 // A command through the controller's judgement: its response, the notification after it, and the state after both.
 use crate::state;
 use crate::state::State;
-use ends::conn;
-use ends::controller;
-use ends::kinds::Counts;
-use ends::kinds::Terms;
-use ends::layout;
-use ends::layout::Note;
+use state::conn;
+use nfcc::controller;
+use state::kinds::Counts;
+use state::kinds::Terms;
+use nfcc::layout;
+use nfcc::layout::Note;
 use packets::Header;
 
 // The packet of a message that was written to the front of a buffer; no octets for no message.

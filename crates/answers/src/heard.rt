@@ -2,15 +2,15 @@
 // connections that it has open, as in a controller's state; and the GID, OID and aim of the unanswered command, if there is
 // one.
 use crate::state;
-use ends::conn;
-use ends::host;
-use ends::host::Answer;
-use ends::host::Heard;
-use ends::kinds::Asked;
-use ends::kinds::Counts;
-use ends::kinds::Host;
-use ends::kinds::Pending;
-use ends::kinds::Terms;
+use state::conn;
+use dh::host;
+use dh::host::Answer;
+use dh::host::Heard;
+use state::kinds::Asked;
+use state::kinds::Counts;
+use state::kinds::Host;
+use state::kinds::Pending;
+use state::kinds::Terms;
 
 fn pending_of(o: &[u8]) -> Pending {
     let gid = octets::octet_at(o, 2);

@@ -1,18 +1,18 @@
 // A controller's state as octets: the profile (5); the phase, 0 cold, 1 after RESET, 2 after INIT; the Conn ID last given; the
 // connections that are open, bit 0 for connection 0, bits 1 to 4 for 2 to 5; the RF state by its number (rf_octets) with the
 // three octets that it carries; the number of pairs found, and each pair's ID and protocol.
-use ends::conn;
-use ends::kinds::Activation;
-use ends::kinds::Controller;
-use ends::kinds::Counts;
-use ends::kinds::Pair;
-use ends::kinds::Pairs;
-use ends::kinds::Phase;
-use ends::kinds::Profile;
-use ends::kinds::Rf;
-use ends::kinds::Selection;
-use ends::kinds::Terms;
-use ends::radio;
+use state::conn;
+use state::kinds::Activation;
+use state::kinds::Controller;
+use state::kinds::Counts;
+use state::kinds::Pair;
+use state::kinds::Pairs;
+use state::kinds::Phase;
+use state::kinds::Profile;
+use state::kinds::Rf;
+use state::kinds::Selection;
+use state::kinds::Terms;
+use state::radio;
 ghost use Prim.Native.Nat.{_≤_};
 
 pub struct State {

@@ -12,16 +12,16 @@ use lib.Seq.{getD-append-add, drop-cons, take-append-seam, drop-drop}
 use lib.Dec.{eqb, ltb, leb, eqb·suc-zero}
 use borrow.Author.Tests.{ltb-true, ltb-false, leb-true, eqb-true, eq-eqb, ne-eqb}
 use Rattle.octets.specs.Octets.{Octets, pick, cut}
-use Rattle.ends.specs.declared.kinds.Activation.{Activation}
-use Rattle.ends.specs.declared.contents.Notice.the-variants as notice
-use Rattle.ends.specs.Commands.{activationFailed}
-use Rattle.ends.specs.Conn.{placeOf, connOf}
-use Rattle.ends.specs.Radio.{polls, idOk}
-use Rattle.ends.specs.Layout.{resetNtf, initRsp, entriesFrom, entryCount, creditsNtf, genericErrorNtf, discoverNtf, deactivateNtf}
-use Rattle.ends.specs.Contents.{zeros, initWritten, resetWritten, entryId, entryCredits, entryOk, entriesOk, creditsWritten, discoverWritten, deactivateWritten, noticeWritten}
-use Rattle.ends.specs.Host.{creditsIn, creditsFor}
-use Rattle.ends.proofs.Places.{place-conn, conn-place}
-use Rattle.ends.proofs.Chains.{every-at, elements, elements-are}
+use Rattle.state.specs.declared.kinds.Activation.{Activation}
+use Rattle.dh.specs.declared.contents.Notice.the-variants as notice
+use Rattle.state.specs.Commands.{activationFailed}
+use Rattle.state.specs.Conn.{placeOf, connOf}
+use Rattle.state.specs.Radio.{polls, idOk}
+use Rattle.nfcc.specs.Layout.{resetNtf, initRsp, entriesFrom, entryCount, creditsNtf, genericErrorNtf, discoverNtf, deactivateNtf}
+use Rattle.dh.specs.Contents.{zeros, initWritten, resetWritten, entryId, entryCredits, entryOk, entriesOk, creditsWritten, discoverWritten, deactivateWritten, noticeWritten}
+use Rattle.dh.specs.Host.{creditsIn, creditsFor}
+use Rattle.state.proofs.Places.{place-conn, conn-place}
+use Rattle.state.proofs.Chains.{every-at, elements, elements-are}
 use Rattle.ends.specs.Backwards.{discoverTarget, discoverType, discoverParams, Backwards}
 
 -- an octet that was tested stands there

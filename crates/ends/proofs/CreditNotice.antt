@@ -12,12 +12,12 @@ use lib.Seq.{getD-append-add}
 use lib.Dec.{eqb, ltb, eqb·suc-zero}
 use borrow.Author.Tests.{le-leb, lt-ltb, eq-eqb, ne-eqb}
 use Rattle.octets.specs.Octets.{Octets}
-use Rattle.ends.specs.Conn.{connOf}
-use Rattle.ends.specs.Layout.{entriesFrom, entryCount, creditsNtf}
-use Rattle.ends.specs.Contents.{noticeOf, entryId, entryCredits, entriesOk, creditsWritten, written}
-use Rattle.ends.specs.Host.{creditsIn, creditsFor}
-use Rattle.ends.proofs.Places.{place-conn}
-use Rattle.ends.proofs.Messages.{entries-length}
+use Rattle.state.specs.Conn.{connOf}
+use Rattle.nfcc.specs.Layout.{entriesFrom, entryCount, creditsNtf}
+use Rattle.dh.specs.Contents.{noticeOf, entryId, entryCredits, entriesOk, creditsWritten, written}
+use Rattle.dh.specs.Host.{creditsIn, creditsFor}
+use Rattle.state.proofs.Places.{place-conn}
+use Rattle.nfcc.proofs.Messages.{entries-length}
 
 -- ---- Conn IDs and places
 

@@ -1,11 +1,3 @@
-pub mod Progress
-pub mod Chains
-pub mod Messages
-pub mod Events
 pub mod CreditNotice
-pub mod Hearing
 pub mod RoundTrips
-pub mod Whole
-pub mod Places
-pub mod CommandTrips
 pub mod Backwards

@@ -11,22 +11,22 @@ use lib.Seq.{getD-append-add, drop-drop}
 use lib.Dec.{eqb, leb}
 use borrow.Author.Tests.{le-leb, eq-eqb, ne-eqb, eqb-true}
 use Rattle.octets.specs.Octets.{Octets, cut}
-use Rattle.ends.specs.declared.kinds.Terms.{Terms}
-use Rattle.ends.specs.declared.kinds.Activation.{Activation}
-use Rattle.ends.specs.declared.controller.Command.{Command}
-use Rattle.ends.specs.declared.controller.Command.the-variants as command
-use Rattle.ends.specs.declared.contents.Notice.the-variants as notice
-use Rattle.ends.specs.declared.host.Answer.the-variants.{Done, ClosesAll, Sized, Opens, Closes}
-use Rattle.ends.specs.declared.host.Heard.the-variants.{Nothing, Activated, Deactivated}
-use Rattle.ends.specs.declared.air.Event.the-variants.{Found, Poll, Listen}
-use Rattle.ends.specs.Commands.{commandOf}
-use Rattle.ends.specs.Radio.{polls, listens, idOk}
-use Rattle.ends.specs.Layout.{resetNtf, initRsp, createRsp, genericErrorNtf, discoverNtf, activatedNtf, deactivateNtf}
-use Rattle.ends.specs.Contents.{noticeOf, creditsOk, zeros, initWritten, createWritten, discoverWritten, activatedWritten, deactivateWritten, written}
-use Rattle.ends.specs.Host.{answerOf, noticed}
-use Rattle.ends.specs.Air.{foundIn, pollIn, listenIn, eventOf}
-use Rattle.ends.proofs.Messages.{length-discover, length-activated}
-use Rattle.ends.proofs.Chains.{every-at, elements, elements-are}
+use Rattle.state.specs.declared.kinds.Terms.{Terms}
+use Rattle.state.specs.declared.kinds.Activation.{Activation}
+use Rattle.state.specs.declared.commands.Command.{Command}
+use Rattle.state.specs.declared.commands.Command.the-variants as command
+use Rattle.dh.specs.declared.contents.Notice.the-variants as notice
+use Rattle.dh.specs.declared.host.Answer.the-variants.{Done, ClosesAll, Sized, Opens, Closes}
+use Rattle.dh.specs.declared.host.Heard.the-variants.{Nothing, Activated, Deactivated}
+use Rattle.nfcc.specs.declared.air.Event.the-variants.{Found, Poll, Listen}
+use Rattle.state.specs.Commands.{commandOf}
+use Rattle.state.specs.Radio.{polls, listens, idOk}
+use Rattle.nfcc.specs.Layout.{resetNtf, initRsp, createRsp, genericErrorNtf, discoverNtf, activatedNtf, deactivateNtf}
+use Rattle.dh.specs.Contents.{noticeOf, creditsOk, zeros, initWritten, createWritten, discoverWritten, activatedWritten, deactivateWritten, written}
+use Rattle.dh.specs.Host.{answerOf, noticed}
+use Rattle.nfcc.specs.Air.{foundIn, pollIn, listenIn, eventOf}
+use Rattle.nfcc.proofs.Messages.{length-discover, length-activated}
+use Rattle.state.proofs.Chains.{every-at, elements, elements-are}
 use Rattle.ends.proofs.CreditNotice.{credits-written, credits-read}
 use Rattle.ends.specs.RoundTrips.{TermsOk, TargetOk, createTerms, activatedTarget, activatedTerms, activatedParams, foundOctets, activeOctets, RoundTrips}
 

@@ -7,11 +7,11 @@ use mathlib.Core.Bool.{true}
 use mathlib.Core.List.{[], _∷_, map}
 use lib.ListN.{getD}
 use Rattle.octets.specs.Octets.{Octets, cut}
-use Rattle.ends.specs.declared.kinds.Activation.{Activation}
-use Rattle.ends.specs.declared.contents.Notice.the-variants as notice
-use Rattle.ends.specs.Layout.{resetNtf, initRsp, creditsNtf, genericErrorNtf, discoverNtf, deactivateNtf}
-use Rattle.ends.specs.Contents.{initWritten, resetWritten, creditsWritten, discoverWritten, deactivateWritten, noticeWritten}
-use Rattle.ends.specs.Host.{creditsFor}
+use Rattle.state.specs.declared.kinds.Activation.{Activation}
+use Rattle.dh.specs.declared.contents.Notice.the-variants as notice
+use Rattle.nfcc.specs.Layout.{resetNtf, initRsp, creditsNtf, genericErrorNtf, discoverNtf, deactivateNtf}
+use Rattle.dh.specs.Contents.{initWritten, resetWritten, creditsWritten, discoverWritten, deactivateWritten, noticeWritten}
+use Rattle.dh.specs.Host.{creditsFor}
 
 -- ---- the fields of a discovery
 

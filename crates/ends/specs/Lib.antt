@@ -1,15 +1,2 @@
-pub mod Conn
-pub mod Radio
-pub mod Runs
-pub mod Commands
-pub mod Controller
-pub mod Layout
-pub mod Air
-pub mod Contents
-pub mod Host
-pub mod Hearing
-pub mod Credited
 pub mod RoundTrips
-pub mod Table
-pub mod CommandTrips
 pub mod Backwards

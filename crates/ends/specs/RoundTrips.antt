@@ -7,20 +7,20 @@ use mathlib.Core.Bool.{true, _||_}
 use mathlib.Core.List.{List, [], _∷_}
 use lib.ListN.{length, getD}
 use Rattle.octets.specs.Octets.{Octets, cut}
-use Rattle.ends.specs.declared.kinds.Terms.{Terms}
-use Rattle.ends.specs.declared.kinds.Activation.{Activation}
-use Rattle.ends.specs.declared.controller.Command.{Command}
-use Rattle.ends.specs.declared.controller.Command.the-variants as command
-use Rattle.ends.specs.declared.contents.Notice.the-variants as notice
-use Rattle.ends.specs.declared.host.Answer.the-variants.{Done, ClosesAll, Sized, Opens, Closes}
-use Rattle.ends.specs.declared.host.Heard.the-variants.{Nothing, Activated, Deactivated}
-use Rattle.ends.specs.declared.air.Event.the-variants.{Found, Poll, Listen}
-use Rattle.ends.specs.Conn.{connOf}
-use Rattle.ends.specs.Radio.{polls, listens, idOk}
-use Rattle.ends.specs.Layout.{resetNtf, initRsp, createRsp, creditsNtf, genericErrorNtf, discoverNtf, activatedNtf, deactivateNtf}
-use Rattle.ends.specs.Contents.{creditsOk, createWritten, activatedWritten, written}
-use Rattle.ends.specs.Host.{answerOf, noticed, creditsFor}
-use Rattle.ends.specs.Air.{eventOf}
+use Rattle.state.specs.declared.kinds.Terms.{Terms}
+use Rattle.state.specs.declared.kinds.Activation.{Activation}
+use Rattle.state.specs.declared.commands.Command.{Command}
+use Rattle.state.specs.declared.commands.Command.the-variants as command
+use Rattle.dh.specs.declared.contents.Notice.the-variants as notice
+use Rattle.dh.specs.declared.host.Answer.the-variants.{Done, ClosesAll, Sized, Opens, Closes}
+use Rattle.dh.specs.declared.host.Heard.the-variants.{Nothing, Activated, Deactivated}
+use Rattle.nfcc.specs.declared.air.Event.the-variants.{Found, Poll, Listen}
+use Rattle.state.specs.Conn.{connOf}
+use Rattle.state.specs.Radio.{polls, listens, idOk}
+use Rattle.nfcc.specs.Layout.{resetNtf, initRsp, createRsp, creditsNtf, genericErrorNtf, discoverNtf, activatedNtf, deactivateNtf}
+use Rattle.dh.specs.Contents.{creditsOk, createWritten, activatedWritten, written}
+use Rattle.dh.specs.Host.{answerOf, noticed, creditsFor}
+use Rattle.nfcc.specs.Air.{eventOf}
 
 -- ---- fields inside document 01's limits
 

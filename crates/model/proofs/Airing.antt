@@ -10,20 +10,20 @@ use lib.ListN.{length, getD, drop, length-append}
 use borrow.Author.Tests.{not-false}
 use Rattle.octets.specs.Octets.{Octets, pick}
 use Rattle.packets.specs.Segments.{segments}
-use Rattle.ends.specs.declared.kinds.Terms.{Terms}
-use Rattle.ends.specs.declared.kinds.Profile.{Profile}
-use Rattle.ends.specs.declared.kinds.Pairs.{Pairs}
-use Rattle.ends.specs.declared.kinds.Rf.{Rf}
-use Rattle.ends.specs.declared.kinds.Controller.{Controller}
-use Rattle.ends.specs.declared.air.Event.{Event}
-use Rattle.ends.specs.declared.air.Event.the-variants.{Bad, Found, Poll, Listen, Failed, Sleeps, LinkLost, Releases, Endpoint}
-use Rattle.ends.specs.declared.air.Aired.{Aired}
-use Rattle.ends.specs.declared.air.Aired.the-variants.{Refused, Goes, Activates, Ends, Speaks}
-use Rattle.ends.specs.Conn.{placeOf, termsOf}
-use Rattle.ends.specs.Radio.{isActive, isListening, isAsleep}
-use Rattle.ends.specs.Runs.{dataLimit}
-use Rattle.ends.specs.Layout.{nothing, genericErrorNtf, discoverNtf, activatedNtf, deactivateNtf}
-use Rattle.ends.specs.Air.{eventOf, airedBy, airMessage, controllerAired}
+use Rattle.state.specs.declared.kinds.Terms.{Terms}
+use Rattle.state.specs.declared.kinds.Profile.{Profile}
+use Rattle.state.specs.declared.kinds.Pairs.{Pairs}
+use Rattle.state.specs.declared.kinds.Rf.{Rf}
+use Rattle.state.specs.declared.kinds.Controller.{Controller}
+use Rattle.nfcc.specs.declared.air.Event.{Event}
+use Rattle.nfcc.specs.declared.air.Event.the-variants.{Bad, Found, Poll, Listen, Failed, Sleeps, LinkLost, Releases, Endpoint}
+use Rattle.nfcc.specs.declared.air.Aired.{Aired}
+use Rattle.nfcc.specs.declared.air.Aired.the-variants.{Refused, Goes, Activates, Ends, Speaks}
+use Rattle.state.specs.Conn.{placeOf, termsOf}
+use Rattle.state.specs.Radio.{isActive, isListening, isAsleep}
+use Rattle.state.specs.Runs.{dataLimit}
+use Rattle.nfcc.specs.Layout.{nothing, genericErrorNtf, discoverNtf, activatedNtf, deactivateNtf}
+use Rattle.nfcc.specs.Air.{eventOf, airedBy, airMessage, controllerAired}
 use Rattle.model.specs.Connection.{Connection, withController, spoken}
 use Rattle.model.specs.Packets.{noticePackets}
 use Rattle.model.specs.State.{State, withConns, withUp, withControllerState, at}

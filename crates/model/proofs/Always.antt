@@ -3,7 +3,7 @@
 use Prim.Native.Nat.{ℕ}
 use mathlib.Core.Path.{_≡_, refl}
 use mathlib.Core.List.{List, [], _∷_}
-use Rattle.ends.specs.declared.kinds.Profile.{Profile}
+use Rattle.state.specs.declared.kinds.Profile.{Profile}
 use Rattle.model.specs.State.{State, cold, profileIn}
 use Rattle.model.specs.Bench.{Call, Result, taken, refused, first, rules, act, judged, step}
 use Rattle.model.specs.Observer.{Ledger, Account, opening, observe, eventOf, after}

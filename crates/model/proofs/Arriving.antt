@@ -9,8 +9,8 @@ use Rattle.octets.specs.Octets.{Octets, pick}
 use Rattle.packets.specs.Segments.{Segment, more, last}
 use Rattle.packets.specs.Reassembly.{Run, run, grown, finished, flagged}
 use Rattle.packets.proofs.Reassembly.{within}
-use Rattle.ends.specs.Runs.{controlLimit}
-use Rattle.ends.specs.Controller.{judgeOf}
+use Rattle.state.specs.Runs.{controlLimit}
+use Rattle.nfcc.specs.Controller.{judgeOf}
 use Rattle.model.specs.Connection.{withController, stored}
 use Rattle.model.specs.Packets.{Meaning, datum, control, junk, meaning}
 use Rattle.model.specs.State.{State, isOpen, at, withDown, withConns, withAsking}

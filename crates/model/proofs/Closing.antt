@@ -9,19 +9,19 @@ use lib.ListN.{getD}
 use borrow.Author.Tests.{eq-eqb}
 use Rattle.octets.specs.Octets.{Octets, pick}
 use Rattle.packets.specs.Segments.{more, last}
-use Rattle.ends.specs.declared.kinds.Pending.{Pending}
-use Rattle.ends.specs.declared.kinds.Pending.the-variants as pending
-use Rattle.ends.specs.declared.controller.Command.{Command}
-use Rattle.ends.specs.declared.controller.Command.the-variants as command
-use Rattle.ends.specs.declared.contents.Notice.{Notice}
-use Rattle.ends.specs.declared.contents.Notice.the-variants as notice
-use Rattle.ends.specs.declared.host.Answer.{Answer}
-use Rattle.ends.specs.declared.host.Answer.the-variants.{Done}
-use Rattle.ends.specs.declared.host.Heard.{Heard}
-use Rattle.ends.specs.declared.host.Heard.the-variants.{Nothing, Answered}
-use Rattle.ends.specs.Commands.{commandOf}
-use Rattle.ends.specs.Contents.{noticeOf, written}
-use Rattle.ends.specs.Host.{okAnswer, answerOf, noticed, heardAlone, creditsFor}
+use Rattle.state.specs.declared.kinds.Pending.{Pending}
+use Rattle.state.specs.declared.kinds.Pending.the-variants as pending
+use Rattle.state.specs.declared.commands.Command.{Command}
+use Rattle.state.specs.declared.commands.Command.the-variants as command
+use Rattle.dh.specs.declared.contents.Notice.{Notice}
+use Rattle.dh.specs.declared.contents.Notice.the-variants as notice
+use Rattle.dh.specs.declared.host.Answer.{Answer}
+use Rattle.dh.specs.declared.host.Answer.the-variants.{Done}
+use Rattle.dh.specs.declared.host.Heard.{Heard}
+use Rattle.dh.specs.declared.host.Heard.the-variants.{Nothing, Answered}
+use Rattle.state.specs.Commands.{commandOf}
+use Rattle.dh.specs.Contents.{noticeOf, written}
+use Rattle.dh.specs.Host.{okAnswer, answerOf, noticed, heardAlone, creditsFor}
 use Rattle.model.specs.Packets.{Meaning, datum, control, junk, meaning, says}
 use Rattle.model.specs.Bench.{Change, stays, opens, changeHeard, isClosing}
 use Rattle.model.proofs.Items.{Item, carry, credit, opened, closed, itemsBy, itemsIn, itemsOf}

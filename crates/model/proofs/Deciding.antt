@@ -11,20 +11,20 @@ use lib.ListN.{length}
 use borrow.Author.Tests.{ne-eqb, eqb-false}
 use Rattle.octets.specs.Octets.{Octets, pick}
 use Rattle.packets.specs.Segments.{last}
-use Rattle.ends.specs.declared.kinds.Terms.{Terms}
-use Rattle.ends.specs.declared.kinds.Profile.{Profile}
+use Rattle.state.specs.declared.kinds.Terms.{Terms}
+use Rattle.state.specs.declared.kinds.Profile.{Profile}
 use Rattle.packets.specs.Reassembly.{run}
-use Rattle.ends.specs.declared.controller.Verdict.{Verdict}
-use Rattle.ends.specs.declared.controller.Verdict.the-variants as verdict
-use Rattle.ends.specs.declared.host.Answer.{Answer}
-use Rattle.ends.specs.declared.host.Heard.the-variants.{Nothing, Answered}
-use Rattle.ends.specs.Contents.{written}
-use Rattle.ends.specs.Host.{heardAlone}
-use Rattle.ends.specs.Conn.{placeOf}
-use Rattle.ends.specs.Radio.{isActive}
-use Rattle.ends.specs.Runs.{controlLimit}
-use Rattle.ends.specs.Controller.{controllerAfter}
-use Rattle.ends.specs.Layout.{responseOf, responseMessage, noticeMessage, resetNtf, deactivateNtf}
+use Rattle.nfcc.specs.declared.controller.Verdict.{Verdict}
+use Rattle.nfcc.specs.declared.controller.Verdict.the-variants as verdict
+use Rattle.dh.specs.declared.host.Answer.{Answer}
+use Rattle.dh.specs.declared.host.Heard.the-variants.{Nothing, Answered}
+use Rattle.dh.specs.Contents.{written}
+use Rattle.dh.specs.Host.{heardAlone}
+use Rattle.state.specs.Conn.{placeOf}
+use Rattle.state.specs.Radio.{isActive}
+use Rattle.state.specs.Runs.{controlLimit}
+use Rattle.nfcc.specs.Controller.{controllerAfter}
+use Rattle.nfcc.specs.Layout.{responseOf, responseMessage, noticeMessage, resetNtf, deactivateNtf}
 use Rattle.model.specs.Connection.{Connection}
 use Rattle.model.specs.Packets.{aimedAt, says, responsePacket, noticePacket, noticePackets}
 use Rattle.model.specs.State.{State, isOpen}

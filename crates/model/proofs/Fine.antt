@@ -12,13 +12,13 @@ use borrow.Author.Tests.{eqb-true, leb-false}
 use Rattle.octets.specs.Octets.{Octets, pick}
 use Rattle.packets.specs.Segments.{Segment, more, last}
 use Rattle.packets.specs.Reassembly.{run}
-use Rattle.ends.specs.declared.kinds.Profile.{Profile}
-use Rattle.ends.specs.declared.kinds.Pending.{Pending}
-use Rattle.ends.specs.declared.kinds.Pending.the-variants as pending
-use Rattle.ends.specs.Conn.{placeOf, termsOf}
-use Rattle.ends.specs.Radio.{isActive}
-use Rattle.ends.specs.Runs.{controlLimit}
-use Rattle.ends.specs.Contents.{written}
+use Rattle.state.specs.declared.kinds.Profile.{Profile}
+use Rattle.state.specs.declared.kinds.Pending.{Pending}
+use Rattle.state.specs.declared.kinds.Pending.the-variants as pending
+use Rattle.state.specs.Conn.{placeOf, termsOf}
+use Rattle.state.specs.Radio.{isActive}
+use Rattle.state.specs.Runs.{controlLimit}
+use Rattle.dh.specs.Contents.{written}
 use Rattle.model.specs.Connection.{Connection, ControllerEnd, withHost, withController}
 use Rattle.model.specs.Packets.{Meaning, datum, control, junk, meaning}
 use Rattle.model.specs.State.{State, cold, at}

@@ -11,19 +11,19 @@ use borrow.Author.Tests.{eq-eqb}
 use Rattle.octets.specs.Octets.{Octets, pick}
 use Rattle.packets.specs.Segments.{Segment, more, last}
 use Rattle.packets.specs.Reassembly.{Run, run, grown, finished, flagged}
-use Rattle.ends.specs.declared.kinds.Pending.{Pending}
-use Rattle.ends.specs.declared.kinds.Pending.the-variants as pending
-use Rattle.ends.specs.declared.kinds.Host.{Host}
-use Rattle.ends.specs.declared.host.Answer.{Answer}
-use Rattle.ends.specs.declared.host.Answer.the-variants.{Done, ClosesAll, Sized, Opens, Closes}
-use Rattle.ends.specs.declared.host.Heard.{Heard}
-use Rattle.ends.specs.declared.host.Heard.the-variants.{Nothing, Answered, Activated, Credits}
-use Rattle.ends.specs.Runs.{dataLimit, controlLimit}
-use Rattle.ends.specs.Commands.{commandOf}
-use Rattle.ends.specs.Contents.{written, noticeOf}
-use Rattle.ends.specs.Host.{noticed, answerOf, heardAlone, hearOf, hostAfter}
-use Rattle.ends.specs.declared.contents.Notice.{Notice}
-use Rattle.ends.specs.declared.contents.Notice.the-variants as notice
+use Rattle.state.specs.declared.kinds.Pending.{Pending}
+use Rattle.state.specs.declared.kinds.Pending.the-variants as pending
+use Rattle.state.specs.declared.kinds.Host.{Host}
+use Rattle.dh.specs.declared.host.Answer.{Answer}
+use Rattle.dh.specs.declared.host.Answer.the-variants.{Done, ClosesAll, Sized, Opens, Closes}
+use Rattle.dh.specs.declared.host.Heard.{Heard}
+use Rattle.dh.specs.declared.host.Heard.the-variants.{Nothing, Answered, Activated, Credits}
+use Rattle.state.specs.Runs.{dataLimit, controlLimit}
+use Rattle.state.specs.Commands.{commandOf}
+use Rattle.dh.specs.Contents.{written, noticeOf}
+use Rattle.dh.specs.Host.{noticed, answerOf, heardAlone, hearOf, hostAfter}
+use Rattle.dh.specs.declared.contents.Notice.{Notice}
+use Rattle.dh.specs.declared.contents.Notice.the-variants as notice
 use Rattle.packets.proofs.Reassembly.{within}
 use Rattle.model.specs.Connection.{Connection, withHost, heardData}
 use Rattle.model.specs.Packets.{Meaning, datum, control, junk, meaning, says}

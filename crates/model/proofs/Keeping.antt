@@ -12,10 +12,10 @@ use borrow.Author.Tests.{leb-true, ltb-false, not-false}
 use Rattle.octets.specs.Octets.{Octets, pick}
 use Rattle.packets.specs.Segments.{Segment, more, last, segments, segmentPacket, packetsOf}
 use Rattle.packets.specs.Reassembly.{run, grown, finished}
-use Rattle.ends.specs.Conn.{flows}
-use Rattle.ends.specs.Layout.{creditsNtf, entriesFrom}
-use Rattle.ends.specs.Contents.{creditsOk}
-use Rattle.ends.specs.Runs.{dataLimit, controlLimit}
+use Rattle.state.specs.Conn.{flows}
+use Rattle.nfcc.specs.Layout.{creditsNtf, entriesFrom}
+use Rattle.dh.specs.Contents.{creditsOk}
+use Rattle.state.specs.Runs.{dataLimit, controlLimit}
 use Rattle.model.specs.Connection.{ControllerEnd, withHost, withController, sent, pushed, consumed, spoken}
 use Rattle.model.specs.Packets.{noticePacket, dataHeader, controlHeader, Meaning, datum, control, junk, meaning}
 use Rattle.model.specs.State.{State, profileIn, withConns, withUp, at}

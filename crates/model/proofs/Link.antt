@@ -11,8 +11,8 @@ use lib.ListN.{length}
 use Rattle.octets.specs.Octets.{Octets, pick}
 use Rattle.packets.specs.Segments.{Segment}
 use Rattle.packets.specs.Reassembly.{Run, run, Flow}
-use Rattle.ends.specs.Conn.{flows}
-use Rattle.ends.specs.Runs.{dataLimit}
+use Rattle.state.specs.Conn.{flows}
+use Rattle.state.specs.Runs.{dataLimit}
 use Rattle.model.specs.Connection.{Connection, closed as coldConnection}
 use Rattle.model.specs.Packets.{meaning}
 use Rattle.model.specs.Bench.{Change, stays, opens, closes, gives, creditsOf, segmentIn}

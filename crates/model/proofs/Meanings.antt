@@ -14,17 +14,17 @@ use Rattle.packets.specs.declared.Reading.the-variants.{Packet}
 use Rattle.packets.specs.Packet.{packetOf, readOf, payloadOf, Writable}
 use Rattle.packets.specs.Segments.{Segment, more, last, segment, body, flag, marked, segments, segmentPacket, packetsOf}
 use Rattle.packets.proofs.RoundTrip.{read-written, payload-written}
-use Rattle.ends.specs.declared.kinds.Asked.{Asked}
-use Rattle.ends.specs.declared.kinds.Pending.{Pending}
-use Rattle.ends.specs.declared.kinds.Pending.the-variants as pending
-use Rattle.ends.specs.declared.controller.Command.{Command}
-use Rattle.ends.specs.declared.controller.Command.the-variants.{Reset, Init, ConnCreate, ConnClose, Discover, Select, Deactivate, Unknown}
-use Rattle.ends.specs.declared.host.Answer.the-variants.{Done, ClosesAll, Sized, Opens, Closes}
-use Rattle.ends.specs.declared.host.Heard.{Heard}
-use Rattle.ends.specs.declared.host.Heard.the-variants.{Nothing, Dropped, Answered, Activated, Deactivated, Credits}
-use Rattle.ends.specs.Commands.{commandOf}
-use Rattle.ends.specs.Contents.{written, noticeOf}
-use Rattle.ends.specs.Host.{heardAlone, hearOf, answerOf, okAnswer, noticed, creditsFor}
+use Rattle.state.specs.declared.kinds.Asked.{Asked}
+use Rattle.state.specs.declared.kinds.Pending.{Pending}
+use Rattle.state.specs.declared.kinds.Pending.the-variants as pending
+use Rattle.state.specs.declared.commands.Command.{Command}
+use Rattle.state.specs.declared.commands.Command.the-variants.{Reset, Init, ConnCreate, ConnClose, Discover, Select, Deactivate, Unknown}
+use Rattle.dh.specs.declared.host.Answer.the-variants.{Done, ClosesAll, Sized, Opens, Closes}
+use Rattle.dh.specs.declared.host.Heard.{Heard}
+use Rattle.dh.specs.declared.host.Heard.the-variants.{Nothing, Dropped, Answered, Activated, Deactivated, Credits}
+use Rattle.state.specs.Commands.{commandOf}
+use Rattle.dh.specs.Contents.{written, noticeOf}
+use Rattle.dh.specs.Host.{heardAlone, hearOf, answerOf, okAnswer, noticed, creditsFor}
 use Rattle.model.specs.Packets.{dataHeader, controlHeader, responsePacket, noticePacket, Meaning, datum, control, junk, meant, meaning, isDataFor, dataCount, aimedAt, says, saysIn, contents, creditsSaid, creditsUp}
 use Rattle.model.specs.Bench.{stays, opens, closes, gives, changeHeard}
 use Rattle.model.proofs.Items.{Item, carry, credit, opened, closed, loaded, itemsBy, itemsIn, itemsOf, segsIn, segsOf, storeSegs, upCredits}

@@ -12,30 +12,30 @@ use lib.ListN.{length, getD, drop}
 use borrow.Author.Tests.{eqb-true, eqb-false, ne-eqb, ltb-true, leb-true, leb-false}
 use Rattle.octets.specs.Octets.{Octets, pick}
 use Rattle.packets.specs.Segments.{last}
-use Rattle.ends.specs.declared.kinds.Terms.{Terms}
-use Rattle.ends.specs.declared.kinds.Profile.{Profile}
-use Rattle.ends.specs.declared.kinds.Activation.{Activation}
-use Rattle.ends.specs.declared.kinds.Pairs.{Pairs}
-use Rattle.ends.specs.declared.kinds.Rf.{Rf}
-use Rattle.ends.specs.declared.controller.Verdict.{Verdict}
-use Rattle.ends.specs.declared.controller.Verdict.the-variants as verdict
-use Rattle.ends.specs.declared.air.Event.{Event}
-use Rattle.ends.specs.declared.air.Event.the-variants.{Bad, Found, Poll, Listen, Failed, Sleeps, LinkLost, Releases, Endpoint}
-use Rattle.ends.specs.declared.air.Aired.{Aired}
-use Rattle.ends.specs.declared.air.Aired.the-variants.{Refused}
-use Rattle.ends.specs.declared.host.Answer.{Answer}
-use Rattle.ends.specs.declared.host.Answer.the-variants.{Done, ClosesAll, Sized, Opens, Closes}
-use Rattle.ends.specs.declared.host.Heard.{Heard}
-use Rattle.ends.specs.declared.host.Heard.the-variants.{Nothing, Answered, Activated, Deactivated, Credits}
-use Rattle.ends.specs.Conn.{placeOf, connOf, termsOf}
-use Rattle.ends.specs.Commands.{commandOf}
-use Rattle.ends.specs.Layout.{Message, resetNtf, creditsNtf, genericErrorNtf, discoverNtf, activatedNtf, deactivateNtf, responseOf, responseMessage, noticeMessage}
-use Rattle.ends.specs.Radio.{isActive, isListening, isAsleep, polls}
-use Rattle.ends.specs.Contents.{creditsOk, written, noticeOf, entryId, entryCredits, entryOk, entriesOk, creditsWritten}
-use Rattle.ends.specs.Host.{answerOf, heardAlone, creditsFor, creditsIn}
-use Rattle.ends.specs.Air.{airMessage, airedBy}
+use Rattle.state.specs.declared.kinds.Terms.{Terms}
+use Rattle.state.specs.declared.kinds.Profile.{Profile}
+use Rattle.state.specs.declared.kinds.Activation.{Activation}
+use Rattle.state.specs.declared.kinds.Pairs.{Pairs}
+use Rattle.state.specs.declared.kinds.Rf.{Rf}
+use Rattle.nfcc.specs.declared.controller.Verdict.{Verdict}
+use Rattle.nfcc.specs.declared.controller.Verdict.the-variants as verdict
+use Rattle.nfcc.specs.declared.air.Event.{Event}
+use Rattle.nfcc.specs.declared.air.Event.the-variants.{Bad, Found, Poll, Listen, Failed, Sleeps, LinkLost, Releases, Endpoint}
+use Rattle.nfcc.specs.declared.air.Aired.{Aired}
+use Rattle.nfcc.specs.declared.air.Aired.the-variants.{Refused}
+use Rattle.dh.specs.declared.host.Answer.{Answer}
+use Rattle.dh.specs.declared.host.Answer.the-variants.{Done, ClosesAll, Sized, Opens, Closes}
+use Rattle.dh.specs.declared.host.Heard.{Heard}
+use Rattle.dh.specs.declared.host.Heard.the-variants.{Nothing, Answered, Activated, Deactivated, Credits}
+use Rattle.state.specs.Conn.{placeOf, connOf, termsOf}
+use Rattle.state.specs.Commands.{commandOf}
+use Rattle.nfcc.specs.Layout.{Message, resetNtf, creditsNtf, genericErrorNtf, discoverNtf, activatedNtf, deactivateNtf, responseOf, responseMessage, noticeMessage}
+use Rattle.state.specs.Radio.{isActive, isListening, isAsleep, polls}
+use Rattle.dh.specs.Contents.{creditsOk, written, noticeOf, entryId, entryCredits, entryOk, entriesOk, creditsWritten}
+use Rattle.dh.specs.Host.{answerOf, heardAlone, creditsFor, creditsIn}
+use Rattle.nfcc.specs.Air.{airMessage, airedBy}
 use Rattle.ends.specs.RoundTrips.{TermsOk, TargetOk}
-use Rattle.ends.proofs.Chains.{every-at}
+use Rattle.state.proofs.Chains.{every-at}
 use Rattle.ends.proofs.RoundTrips.{round-trips}
 use Rattle.model.specs.Packets.{responsePacket, noticePacket, noticePackets, control, meaning, says}
 use Rattle.model.specs.State.{profileOk, profileIn}

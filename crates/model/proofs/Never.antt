@@ -13,16 +13,16 @@ use Rattle.octets.specs.Octets.{Octets, pick}
 use Rattle.packets.specs.Segments.{more, last}
 use Rattle.packets.specs.Reassembly.{Run, run, finished}
 use Rattle.packets.proofs.Reassembly.{within}
-use Rattle.ends.specs.declared.kinds.Pending.{Pending}
-use Rattle.ends.specs.declared.host.Answer.{Answer}
-use Rattle.ends.specs.declared.host.Answer.the-variants.{Done, ClosesAll, Sized, Opens, Closes}
-use Rattle.ends.specs.declared.host.Heard.{Heard}
-use Rattle.ends.specs.declared.host.Heard.the-variants.{Answered}
-use Rattle.ends.specs.Conn.{flows}
-use Rattle.ends.specs.Runs.{controlLimit}
-use Rattle.ends.specs.Commands.{commandOf}
-use Rattle.ends.specs.Contents.{written}
-use Rattle.ends.specs.Host.{answerOf, heardAlone, aimOf, expected, hearOf}
+use Rattle.state.specs.declared.kinds.Pending.{Pending}
+use Rattle.dh.specs.declared.host.Answer.{Answer}
+use Rattle.dh.specs.declared.host.Answer.the-variants.{Done, ClosesAll, Sized, Opens, Closes}
+use Rattle.dh.specs.declared.host.Heard.{Heard}
+use Rattle.dh.specs.declared.host.Heard.the-variants.{Answered}
+use Rattle.state.specs.Conn.{flows}
+use Rattle.state.specs.Runs.{controlLimit}
+use Rattle.state.specs.Commands.{commandOf}
+use Rattle.dh.specs.Contents.{written}
+use Rattle.dh.specs.Host.{answerOf, heardAlone, aimOf, expected, hearOf}
 use Rattle.model.specs.Packets.{Meaning, datum, control, junk, meaning, says}
 use Rattle.model.specs.State.{State, isOpen, withUp}
 use Rattle.model.specs.Bench.{Call, fresh, power, command, send, push, down, consume, credit, air, reply, up, report, Result, taken, refused, Rule, rule, first, rules, judged, step, isNil, noConn, isLoop, isHeld, full, ids, Change, creditsOf, changeHeard, above, anyOf, tooMany, firstTooMany, sameRun, wholeBy}

@@ -13,9 +13,9 @@ use Rattle.packets.specs.Segments.{Segment, more, last, segment, segmentsWithin
 use Rattle.packets.specs.Reassembly.{Run, run, grown, Fit}
 use Rattle.packets.proofs.Reassembly.{run-fits, within}
 use Rattle.packets.proofs.Segments.{parse-segments, left-segments}
-use Rattle.ends.specs.declared.kinds.Pending.{Pending}
-use Rattle.ends.specs.declared.kinds.Pending.the-variants as pending
-use Rattle.ends.specs.Runs.{controlLimit}
+use Rattle.state.specs.declared.kinds.Pending.{Pending}
+use Rattle.state.specs.declared.kinds.Pending.the-variants as pending
+use Rattle.state.specs.Runs.{controlLimit}
 use Rattle.model.specs.Packets.{controlHeader, Meaning, datum, control, junk, meaning}
 use Rattle.model.specs.State.{noRun, ControlRun}
 use Rattle.model.specs.Bench.{Rule, taken, first, isNil, isBusy, runFor, sameRun}

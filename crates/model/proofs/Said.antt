@@ -9,25 +9,25 @@ use lib.Dec.{eqb}
 use lib.ListN.{length, getD, drop}
 use Rattle.octets.specs.Octets.{Octets, pick}
 use Rattle.packets.specs.Segments.{Segment, more, last}
-use Rattle.ends.specs.declared.kinds.Terms.{Terms}
-use Rattle.ends.specs.declared.kinds.Profile.{Profile}
-use Rattle.ends.specs.declared.kinds.Pending.{Pending}
-use Rattle.ends.specs.declared.controller.Command.{Command}
-use Rattle.ends.specs.declared.controller.Command.the-variants.{Reset, Init, ConnCreate, ConnClose, Discover, Select, Deactivate, Unknown}
-use Rattle.ends.specs.declared.controller.Verdict.{Verdict}
-use Rattle.ends.specs.declared.controller.Verdict.the-variants as verdict
-use Rattle.ends.specs.declared.air.Event.{Event}
-use Rattle.ends.specs.declared.air.Event.the-variants.{Bad, Found, Poll, Listen, Failed, Sleeps, LinkLost, Releases, Endpoint}
-use Rattle.ends.specs.declared.host.Answer.{Answer}
-use Rattle.ends.specs.declared.host.Answer.the-variants.{Done, ClosesAll, Sized, Opens, Closes}
-use Rattle.ends.specs.declared.host.Heard.{Heard}
-use Rattle.ends.specs.declared.host.Heard.the-variants.{Nothing, Dropped, Answered, Activated, Deactivated, Credits}
-use Rattle.ends.specs.Conn.{placeOf, termsOf}
-use Rattle.ends.specs.Commands.{commandOf}
-use Rattle.ends.specs.Layout.{resetNtf, creditsNtf, genericErrorNtf, discoverNtf, activatedNtf, deactivateNtf, responseOf, noticeMessage}
-use Rattle.ends.specs.Contents.{written, noticeOf}
-use Rattle.ends.specs.Host.{answerOf, okAnswer, aimOf, noticed, heardAlone, expected, hearOf, creditsFor}
-use Rattle.ends.specs.Air.{airMessage}
+use Rattle.state.specs.declared.kinds.Terms.{Terms}
+use Rattle.state.specs.declared.kinds.Profile.{Profile}
+use Rattle.state.specs.declared.kinds.Pending.{Pending}
+use Rattle.state.specs.declared.commands.Command.{Command}
+use Rattle.state.specs.declared.commands.Command.the-variants.{Reset, Init, ConnCreate, ConnClose, Discover, Select, Deactivate, Unknown}
+use Rattle.nfcc.specs.declared.controller.Verdict.{Verdict}
+use Rattle.nfcc.specs.declared.controller.Verdict.the-variants as verdict
+use Rattle.nfcc.specs.declared.air.Event.{Event}
+use Rattle.nfcc.specs.declared.air.Event.the-variants.{Bad, Found, Poll, Listen, Failed, Sleeps, LinkLost, Releases, Endpoint}
+use Rattle.dh.specs.declared.host.Answer.{Answer}
+use Rattle.dh.specs.declared.host.Answer.the-variants.{Done, ClosesAll, Sized, Opens, Closes}
+use Rattle.dh.specs.declared.host.Heard.{Heard}
+use Rattle.dh.specs.declared.host.Heard.the-variants.{Nothing, Dropped, Answered, Activated, Deactivated, Credits}
+use Rattle.state.specs.Conn.{placeOf, termsOf}
+use Rattle.state.specs.Commands.{commandOf}
+use Rattle.nfcc.specs.Layout.{resetNtf, creditsNtf, genericErrorNtf, discoverNtf, activatedNtf, deactivateNtf, responseOf, noticeMessage}
+use Rattle.dh.specs.Contents.{written, noticeOf}
+use Rattle.dh.specs.Host.{answerOf, okAnswer, aimOf, noticed, heardAlone, expected, hearOf, creditsFor}
+use Rattle.nfcc.specs.Air.{airMessage}
 use Rattle.model.specs.Packets.{Meaning, datum, control, junk, meaning, aimedAt, says, noticePacket, noticePackets}
 use Rattle.model.specs.Bench.{answers, noConn, Change, stays, opens, closes, gives, changeHeard}
 use Rattle.model.specs.Reachable.{TermsWithin}

@@ -14,14 +14,14 @@ use Rattle.packets.specs.declared.Header.{Header}
 use Rattle.packets.specs.Packet.{packetOf, readOf, Writable}
 use Rattle.packets.specs.Segments.{Segment, body, flag, marked, segmentsWithin, segments, segmentPacket}
 use Rattle.packets.proofs.RoundTrip.{read-written}
-use Rattle.ends.specs.declared.kinds.Profile.{Profile}
-use Rattle.ends.specs.declared.controller.Verdict.{Verdict}
-use Rattle.ends.specs.declared.controller.Verdict.the-variants as verdict
-use Rattle.ends.specs.declared.air.Event.{Event}
-use Rattle.ends.specs.declared.air.Event.the-variants.{Bad, Found, Poll, Listen, Failed, Sleeps, LinkLost, Releases, Endpoint}
-use Rattle.ends.specs.Conn.{termsOf}
-use Rattle.ends.specs.Layout.{resetNtf, creditsNtf, genericErrorNtf, discoverNtf, activatedNtf, deactivateNtf, responseOf, noticeMessage}
-use Rattle.ends.specs.Air.{airMessage}
+use Rattle.state.specs.declared.kinds.Profile.{Profile}
+use Rattle.nfcc.specs.declared.controller.Verdict.{Verdict}
+use Rattle.nfcc.specs.declared.controller.Verdict.the-variants as verdict
+use Rattle.nfcc.specs.declared.air.Event.{Event}
+use Rattle.nfcc.specs.declared.air.Event.the-variants.{Bad, Found, Poll, Listen, Failed, Sleeps, LinkLost, Releases, Endpoint}
+use Rattle.state.specs.Conn.{termsOf}
+use Rattle.nfcc.specs.Layout.{resetNtf, creditsNtf, genericErrorNtf, discoverNtf, activatedNtf, deactivateNtf, responseOf, noticeMessage}
+use Rattle.nfcc.specs.Air.{airMessage}
 use Rattle.model.specs.Connection.{Connection, withHost, withController}
 use Rattle.model.specs.Packets.{dataHeader, controlHeader, noticePacket, noticePackets, meaning}
 use Rattle.model.specs.State.{State, cold}

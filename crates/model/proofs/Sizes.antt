@@ -11,23 +11,23 @@ use borrow.Author.Tests.{ltb-false, leb-false, not-false}
 use Rattle.octets.specs.Octets.{Octets, pick}
 use Rattle.packets.specs.Segments.{Segment, more, last, segments, segmentPacket}
 use Rattle.packets.specs.Reassembly.{Run, run}
-use Rattle.ends.specs.declared.kinds.Profile.{Profile}
-use Rattle.ends.specs.declared.kinds.Host.{Host}
-use Rattle.ends.specs.declared.controller.Verdict.{Verdict}
-use Rattle.ends.specs.declared.controller.Verdict.the-variants as verdict
-use Rattle.ends.specs.declared.air.Event.{Event}
-use Rattle.ends.specs.declared.air.Event.the-variants.{Bad, Found, Poll, Listen, Failed, Sleeps, LinkLost, Releases, Endpoint}
-use Rattle.ends.specs.declared.air.Aired.{Aired}
-use Rattle.ends.specs.declared.air.Aired.the-variants.{Refused, Goes, Activates, Ends, Speaks}
-use Rattle.ends.specs.declared.host.Answer.the-variants.{Done, ClosesAll, Sized, Opens, Closes}
-use Rattle.ends.specs.declared.host.Heard.{Heard}
-use Rattle.ends.specs.declared.host.Heard.the-variants.{Nothing, Dropped, Answered, Activated, Deactivated, Credits}
-use Rattle.ends.specs.Conn.{placeOf, termsOf}
-use Rattle.ends.specs.Runs.{dataLimit, controlLimit}
-use Rattle.ends.specs.Controller.{judgeOf}
-use Rattle.ends.specs.Layout.{noticeMessage}
-use Rattle.ends.specs.Host.{hostAfter, hearOf}
-use Rattle.ends.specs.Air.{eventOf, airMessage}
+use Rattle.state.specs.declared.kinds.Profile.{Profile}
+use Rattle.state.specs.declared.kinds.Host.{Host}
+use Rattle.nfcc.specs.declared.controller.Verdict.{Verdict}
+use Rattle.nfcc.specs.declared.controller.Verdict.the-variants as verdict
+use Rattle.nfcc.specs.declared.air.Event.{Event}
+use Rattle.nfcc.specs.declared.air.Event.the-variants.{Bad, Found, Poll, Listen, Failed, Sleeps, LinkLost, Releases, Endpoint}
+use Rattle.nfcc.specs.declared.air.Aired.{Aired}
+use Rattle.nfcc.specs.declared.air.Aired.the-variants.{Refused, Goes, Activates, Ends, Speaks}
+use Rattle.dh.specs.declared.host.Answer.the-variants.{Done, ClosesAll, Sized, Opens, Closes}
+use Rattle.dh.specs.declared.host.Heard.{Heard}
+use Rattle.dh.specs.declared.host.Heard.the-variants.{Nothing, Dropped, Answered, Activated, Deactivated, Credits}
+use Rattle.state.specs.Conn.{placeOf, termsOf}
+use Rattle.state.specs.Runs.{dataLimit, controlLimit}
+use Rattle.nfcc.specs.Controller.{judgeOf}
+use Rattle.nfcc.specs.Layout.{noticeMessage}
+use Rattle.dh.specs.Host.{hostAfter, hearOf}
+use Rattle.nfcc.specs.Air.{eventOf, airMessage}
 use Rattle.model.specs.Connection.{Connection, withHost, withController, sent, pushed, heardData, stored, consumed, noticed, spoken}
 use Rattle.model.specs.Packets.{dataHeader, noticePackets, Meaning, datum, control, junk, meaning}
 use Rattle.model.specs.State.{State, isOpen, at, withConns, withDown, withUp, withAsking, withHearing, ControlRun, profileIn, withHostState}

@@ -13,21 +13,21 @@ use borrow.Author.Tests.{ltb-false, ltb-true}
 use Rattle.octets.specs.Octets.{Octets, pick}
 use Rattle.packets.specs.Segments.{Segment, more, last, segmentsWithin, segments}
 use Rattle.packets.specs.Reassembly.{Run, run, lost, grown, finished}
-use Rattle.ends.specs.declared.kinds.Profile.{Profile}
-use Rattle.ends.specs.declared.kinds.Pairs.{Pairs}
-use Rattle.ends.specs.declared.kinds.Rf.{Rf}
-use Rattle.ends.specs.declared.kinds.Controller.{Controller}
-use Rattle.ends.specs.declared.controller.Verdict.{Verdict}
-use Rattle.ends.specs.declared.controller.Verdict.the-variants as verdict
-use Rattle.ends.specs.declared.air.Listing.{Listing}
-use Rattle.ends.specs.declared.air.Listing.the-variants.{Keeps, Starts, Adds}
-use Rattle.ends.specs.declared.air.Aired.{Aired}
-use Rattle.ends.specs.declared.air.Aired.the-variants.{Refused, Goes, Activates, Ends, Speaks}
-use Rattle.ends.specs.declared.host.Answer.the-variants.{Opens, Closes}
-use Rattle.ends.specs.Radio.{isIdle, addedTo}
-use Rattle.ends.specs.Runs.{dataLimit, controlLimit}
-use Rattle.ends.specs.Controller.{turned, controllerAfter}
-use Rattle.ends.specs.Air.{listedAfter, controllerAired}
+use Rattle.state.specs.declared.kinds.Profile.{Profile}
+use Rattle.state.specs.declared.kinds.Pairs.{Pairs}
+use Rattle.state.specs.declared.kinds.Rf.{Rf}
+use Rattle.state.specs.declared.kinds.Controller.{Controller}
+use Rattle.nfcc.specs.declared.controller.Verdict.{Verdict}
+use Rattle.nfcc.specs.declared.controller.Verdict.the-variants as verdict
+use Rattle.nfcc.specs.declared.air.Listing.{Listing}
+use Rattle.nfcc.specs.declared.air.Listing.the-variants.{Keeps, Starts, Adds}
+use Rattle.nfcc.specs.declared.air.Aired.{Aired}
+use Rattle.nfcc.specs.declared.air.Aired.the-variants.{Refused, Goes, Activates, Ends, Speaks}
+use Rattle.dh.specs.declared.host.Answer.the-variants.{Opens, Closes}
+use Rattle.state.specs.Radio.{isIdle, addedTo}
+use Rattle.state.specs.Runs.{dataLimit, controlLimit}
+use Rattle.nfcc.specs.Controller.{turned, controllerAfter}
+use Rattle.nfcc.specs.Air.{listedAfter, controllerAired}
 use Rattle.model.specs.Connection.{Connection, HostEnd, ControllerEnd, withHost, withController, closed, stored}
 use Rattle.model.specs.State.{State, cold, at}
 use Rattle.model.specs.Bench.{down, up, noConn, Change, stays, opens, closes, gives, atController, atHost, hearing}

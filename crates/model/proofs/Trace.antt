@@ -8,7 +8,7 @@ use mathlib.Core.List.{List, [], _∷_}
 use Rattle.octets.specs.Octets.{Octets, pick}
 use Rattle.packets.specs.Reassembly.{Prefix}
 use Rattle.packets.proofs.Reassembly.{flow-prefix}
-use Rattle.ends.specs.Conn.{flows}
+use Rattle.state.specs.Conn.{flows}
 use Rattle.model.specs.Packets.{dataCount, creditsUp}
 use Rattle.model.specs.State.{State, cold, profileIn, profileOk}
 use Rattle.model.specs.Bench.{Call, fresh, power, command, send, push, down, consume, credit, air, reply, up, report, Result, taken, refused, rules, first, act, judged, step, noConn, isLoop, reportOf}

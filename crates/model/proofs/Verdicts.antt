@@ -11,30 +11,30 @@ use lib.Dec.{eqb, ltb, leb}
 use lib.ListN.{length, getD, drop, length-drop}
 use borrow.Author.Tests.{eqb-true, ltb-true, ltb-false, leb-true, not-true}
 use Rattle.octets.specs.Octets.{Octets, pick}
-use Rattle.ends.specs.declared.kinds.Profile.{Profile}
-use Rattle.ends.specs.declared.kinds.Controller.{Controller}
-use Rattle.ends.specs.declared.kinds.Pair.{Pair}
-use Rattle.ends.specs.declared.kinds.Pairs.{Pairs}
-use Rattle.ends.specs.declared.kinds.Activation.{Activation}
-use Rattle.ends.specs.declared.kinds.Selection.the-variants.{Nothing, Chosen}
-use Rattle.ends.specs.declared.kinds.Rf.{Rf}
-use Rattle.ends.specs.declared.kinds.Rf.the-variants.{Idle, Discovery, AllDiscoveries, HostSelect, PollActive, ListenActive, ListenSleep}
-use Rattle.ends.specs.declared.controller.Command.{Command}
-use Rattle.ends.specs.declared.controller.Command.the-variants as command
-use Rattle.ends.specs.declared.controller.Verdict.{Verdict}
-use Rattle.ends.specs.declared.controller.Verdict.the-variants as verdict
-use Rattle.ends.specs.declared.air.Event.{Event}
-use Rattle.ends.specs.declared.air.Event.the-variants.{Bad, Found, Poll, Listen, Failed, Sleeps, LinkLost, Releases, Endpoint}
-use Rattle.ends.specs.declared.air.Listing.{Listing}
-use Rattle.ends.specs.declared.air.Listing.the-variants.{Keeps, Starts, Adds}
-use Rattle.ends.specs.declared.air.Aired.{Aired}
-use Rattle.ends.specs.declared.air.Aired.the-variants.{Refused, Goes, Activates, Ends, Speaks}
-use Rattle.ends.specs.Conn.{termsOf}
-use Rattle.ends.specs.Commands.{commandOf}
-use Rattle.ends.specs.Controller.{shortest, allowed, resetBy, after, seek, nextId, createBy, closeBy, configsOk, discoverBy, selectBy, sleepRejected, restState, deactivateBy, valuesOf, judgeOf}
-use Rattle.ends.specs.Radio.{isIdle, isActive, isListening, isAsleep, polls, listens, idOk, pairOf, samePair, listed}
-use Rattle.ends.specs.Air.{foundIn, pollIn, listenIn, eventOf, noRoom, foundTo, foundBy, pollBy, listenBy, failedBy, airedBy}
-use Rattle.ends.proofs.Chains.{every-at}
+use Rattle.state.specs.declared.kinds.Profile.{Profile}
+use Rattle.state.specs.declared.kinds.Controller.{Controller}
+use Rattle.state.specs.declared.kinds.Pair.{Pair}
+use Rattle.state.specs.declared.kinds.Pairs.{Pairs}
+use Rattle.state.specs.declared.kinds.Activation.{Activation}
+use Rattle.state.specs.declared.kinds.Selection.the-variants.{Nothing, Chosen}
+use Rattle.state.specs.declared.kinds.Rf.{Rf}
+use Rattle.state.specs.declared.kinds.Rf.the-variants.{Idle, Discovery, AllDiscoveries, HostSelect, PollActive, ListenActive, ListenSleep}
+use Rattle.state.specs.declared.commands.Command.{Command}
+use Rattle.state.specs.declared.commands.Command.the-variants as command
+use Rattle.nfcc.specs.declared.controller.Verdict.{Verdict}
+use Rattle.nfcc.specs.declared.controller.Verdict.the-variants as verdict
+use Rattle.nfcc.specs.declared.air.Event.{Event}
+use Rattle.nfcc.specs.declared.air.Event.the-variants.{Bad, Found, Poll, Listen, Failed, Sleeps, LinkLost, Releases, Endpoint}
+use Rattle.nfcc.specs.declared.air.Listing.{Listing}
+use Rattle.nfcc.specs.declared.air.Listing.the-variants.{Keeps, Starts, Adds}
+use Rattle.nfcc.specs.declared.air.Aired.{Aired}
+use Rattle.nfcc.specs.declared.air.Aired.the-variants.{Refused, Goes, Activates, Ends, Speaks}
+use Rattle.state.specs.Conn.{termsOf}
+use Rattle.state.specs.Commands.{commandOf}
+use Rattle.nfcc.specs.Controller.{shortest, allowed, resetBy, after, seek, nextId, createBy, closeBy, configsOk, discoverBy, selectBy, sleepRejected, restState, deactivateBy, valuesOf, judgeOf}
+use Rattle.state.specs.Radio.{isIdle, isActive, isListening, isAsleep, polls, listens, idOk, pairOf, samePair, listed}
+use Rattle.nfcc.specs.Air.{foundIn, pollIn, listenIn, eventOf, noRoom, foundTo, foundBy, pollBy, listenBy, failedBy, airedBy}
+use Rattle.state.proofs.Chains.{every-at}
 
 -- a test goes one way or the other
 pub on : {A : Type 0} (P : A → Type 0) (b : Bool) {x y : A} → (b ≡ true → P x) → (b ≡ false → P y) → P (pick b x y)

@@ -10,13 +10,13 @@ use lib.ListN.{length, drop}
 use borrow.Author.Tests.{ltb-false, not-false}
 use Rattle.octets.specs.Octets.{Octets, pick}
 use Rattle.packets.specs.Segments.{Segment, segments, segmentPacket, packetsOf}
-use Rattle.ends.specs.declared.controller.Verdict.{Verdict}
-use Rattle.ends.specs.declared.air.Aired.{Aired}
-use Rattle.ends.specs.declared.air.Aired.the-variants.{Refused, Goes, Activates, Ends, Speaks}
-use Rattle.ends.specs.Conn.{placeOf, termsOf}
-use Rattle.ends.specs.Controller.{judgeOf}
-use Rattle.ends.specs.Host.{hearOf}
-use Rattle.ends.specs.Air.{eventOf}
+use Rattle.nfcc.specs.declared.controller.Verdict.{Verdict}
+use Rattle.nfcc.specs.declared.air.Aired.{Aired}
+use Rattle.nfcc.specs.declared.air.Aired.the-variants.{Refused, Goes, Activates, Ends, Speaks}
+use Rattle.state.specs.Conn.{placeOf, termsOf}
+use Rattle.nfcc.specs.Controller.{judgeOf}
+use Rattle.dh.specs.Host.{hearOf}
+use Rattle.nfcc.specs.Air.{eventOf}
 use Rattle.model.specs.Connection.{Connection, withHost, withController, sent, pushed, heardData, stored, consumed, spoken}
 use Rattle.model.specs.Packets.{dataHeader, controlHeader, Meaning, datum, control, junk, meaning}
 use Rattle.model.specs.State.{State, profileIn, isOpen, at, withConns, withDown, withUp, withAsking, withHearing}

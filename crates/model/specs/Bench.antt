@@ -9,26 +9,26 @@ use lib.ListN.{length, drop}
 use Rattle.octets.specs.Octets.{Octets, pick}
 use Rattle.packets.specs.Segments.{Segment, more, last, segments, segmentPacket, packetsOf}
 use Rattle.packets.specs.Reassembly.{Run, run, grown, finished, flagged}
-use Rattle.ends.specs.declared.kinds.Terms.{Terms}
-use Rattle.ends.specs.declared.kinds.Profile.{Profile}
-use Rattle.ends.specs.declared.kinds.Pending.{Pending}
-use Rattle.ends.specs.declared.kinds.Pending.the-variants as pending
-use Rattle.ends.specs.declared.controller.Verdict.{Verdict}
-use Rattle.ends.specs.declared.controller.Verdict.the-variants as verdict
-use Rattle.ends.specs.declared.air.Event.{Event}
-use Rattle.ends.specs.declared.air.Event.the-variants.{Bad, Found, Poll, Listen, Failed, Sleeps, LinkLost, Releases, Endpoint}
-use Rattle.ends.specs.declared.air.Aired.{Aired}
-use Rattle.ends.specs.declared.air.Aired.the-variants.{Refused, Goes, Activates, Ends, Speaks}
-use Rattle.ends.specs.declared.host.Answer.{Answer}
-use Rattle.ends.specs.declared.host.Answer.the-variants.{Done, ClosesAll, Sized, Opens, Closes}
-use Rattle.ends.specs.declared.host.Heard.{Heard}
-use Rattle.ends.specs.declared.host.Heard.the-variants.{Nothing, Dropped, Answered, Activated, Deactivated, Credits}
-use Rattle.ends.specs.Conn.{placeOf, termsOf, flows}
-use Rattle.ends.specs.Runs.{dataLimit, controlLimit}
-use Rattle.ends.specs.Controller.{judgeOf, controllerAfter}
-use Rattle.ends.specs.Layout.{responseMessage, noticeMessage, creditsNtf}
-use Rattle.ends.specs.Air.{eventOf, airedBy, airMessage, controllerAired}
-use Rattle.ends.specs.Host.{askedOf, hearOf, hostAfter, creditsFor, dropHeard}
+use Rattle.state.specs.declared.kinds.Terms.{Terms}
+use Rattle.state.specs.declared.kinds.Profile.{Profile}
+use Rattle.state.specs.declared.kinds.Pending.{Pending}
+use Rattle.state.specs.declared.kinds.Pending.the-variants as pending
+use Rattle.nfcc.specs.declared.controller.Verdict.{Verdict}
+use Rattle.nfcc.specs.declared.controller.Verdict.the-variants as verdict
+use Rattle.nfcc.specs.declared.air.Event.{Event}
+use Rattle.nfcc.specs.declared.air.Event.the-variants.{Bad, Found, Poll, Listen, Failed, Sleeps, LinkLost, Releases, Endpoint}
+use Rattle.nfcc.specs.declared.air.Aired.{Aired}
+use Rattle.nfcc.specs.declared.air.Aired.the-variants.{Refused, Goes, Activates, Ends, Speaks}
+use Rattle.dh.specs.declared.host.Answer.{Answer}
+use Rattle.dh.specs.declared.host.Answer.the-variants.{Done, ClosesAll, Sized, Opens, Closes}
+use Rattle.dh.specs.declared.host.Heard.{Heard}
+use Rattle.dh.specs.declared.host.Heard.the-variants.{Nothing, Dropped, Answered, Activated, Deactivated, Credits}
+use Rattle.state.specs.Conn.{placeOf, termsOf, flows}
+use Rattle.state.specs.Runs.{dataLimit, controlLimit}
+use Rattle.nfcc.specs.Controller.{judgeOf, controllerAfter}
+use Rattle.nfcc.specs.Layout.{responseMessage, noticeMessage, creditsNtf}
+use Rattle.nfcc.specs.Air.{eventOf, airedBy, airMessage, controllerAired}
+use Rattle.dh.specs.Host.{askedOf, hearOf, hostAfter, creditsFor, dropHeard}
 use Rattle.model.specs.Connection.{Connection, HostEnd, ControllerEnd, withHost, withController, closedHost, openedHost, closedController, openedController, sent, pushed, heardData, credited, stored, consumed, noticed, spoken}
 use Rattle.model.specs.Packets.{dataHeader, controlHeader, responsePacket, noticePackets, noticePacket, Meaning, datum, control, junk, meaning, dataCount, creditsUp}
 use Rattle.model.specs.State.{ControlRun, State, isOpen, at, withConns, withDown, withUp, withHostState, withControllerState, withHearing, withAsking, cold, profileOk, profileIn}

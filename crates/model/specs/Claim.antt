@@ -7,7 +7,7 @@ use mathlib.Core.Bool.{true, false}
 use mathlib.Core.List.{List, [], _∷_}
 use Rattle.octets.specs.Octets.{Octets, pick}
 use Rattle.packets.specs.Reassembly.{Prefix}
-use Rattle.ends.specs.Conn.{flows}
+use Rattle.state.specs.Conn.{flows}
 use Rattle.model.specs.Packets.{dataCount, creditsUp}
 use Rattle.model.specs.State.{State, cold, profileOk, profileIn}
 use Rattle.model.specs.Bench.{Call, report, taken, isLoop, step}

@@ -6,9 +6,9 @@ use mathlib.Core.List.{List, [], _∷_, _++_}
 use Rattle.octets.specs.Octets.{Octets, pick}
 use Rattle.packets.specs.Segments.{Segment, segments}
 use Rattle.packets.specs.Reassembly.{Run, run, grown}
-use Rattle.ends.specs.declared.kinds.Terms.{Terms}
-use Rattle.ends.specs.Conn.{flows}
-use Rattle.ends.specs.Runs.{dataLimit}
+use Rattle.state.specs.declared.kinds.Terms.{Terms}
+use Rattle.state.specs.Conn.{flows}
+use Rattle.state.specs.Runs.{dataLimit}
 
 -- at the host: the terms it was opened with, the credits held, the segments of the message in hand still to go, reassembly
 pub record HostEnd : Type 0 where

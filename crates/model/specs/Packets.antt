@@ -11,14 +11,14 @@ use Rattle.packets.specs.declared.Reading.{Reading}
 use Rattle.packets.specs.declared.Reading.the-variants.{Packet, Drop}
 use Rattle.packets.specs.Packet.{packetOf, readOf, payloadOf}
 use Rattle.packets.specs.Segments.{Segment, segment, more, last}
-use Rattle.ends.specs.declared.kinds.Pending.{Pending}
-use Rattle.ends.specs.declared.kinds.Pending.the-variants.{Command}
-use Rattle.ends.specs.declared.host.Answer.the-variants.{Done, ClosesAll, Sized, Opens, Closes}
-use Rattle.ends.specs.declared.host.Heard.{Heard}
-use Rattle.ends.specs.declared.host.Heard.the-variants.{Nothing, Dropped, Answered, Activated, Deactivated, Credits}
-use Rattle.ends.specs.Layout.{Message}
-use Rattle.ends.specs.Contents.{written}
-use Rattle.ends.specs.Host.{heardAlone, creditsFor}
+use Rattle.state.specs.declared.kinds.Pending.{Pending}
+use Rattle.state.specs.declared.kinds.Pending.the-variants.{Command}
+use Rattle.dh.specs.declared.host.Answer.the-variants.{Done, ClosesAll, Sized, Opens, Closes}
+use Rattle.dh.specs.declared.host.Heard.{Heard}
+use Rattle.dh.specs.declared.host.Heard.the-variants.{Nothing, Dropped, Answered, Activated, Deactivated, Credits}
+use Rattle.nfcc.specs.Layout.{Message}
+use Rattle.dh.specs.Contents.{written}
+use Rattle.dh.specs.Host.{heardAlone, creditsFor}
 
 -- ---- headers
 

@@ -12,9 +12,9 @@ use Rattle.packets.specs.declared.Reading.the-variants.{Packet}
 use Rattle.packets.specs.Packet.{readOf}
 use Rattle.packets.specs.Segments.{Segment, more, last, body}
 use Rattle.packets.specs.Reassembly.{Run, run, lost}
-use Rattle.ends.specs.declared.kinds.Profile.{Profile}
-use Rattle.ends.specs.Contents.{creditsOk}
-use Rattle.ends.specs.Host.{aimOf}
+use Rattle.state.specs.declared.kinds.Profile.{Profile}
+use Rattle.dh.specs.Contents.{creditsOk}
+use Rattle.dh.specs.Host.{aimOf}
 use Rattle.model.specs.Connection.{HostEnd, ControllerEnd, closed}
 use Rattle.model.specs.Packets.{Meaning, datum, control, junk, meaning}
 use Rattle.model.specs.State.{State, cold, profileOk, profileIn}

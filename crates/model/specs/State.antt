@@ -7,17 +7,17 @@ use lib.Dec.{eqb, leb}
 use lib.ListN.{length, getD}
 use Rattle.octets.specs.Octets.{Octets, pick}
 use Rattle.packets.specs.Reassembly.{Run, run}
-use Rattle.ends.specs.declared.kinds.Profile.{Profile}
-use Rattle.ends.specs.declared.kinds.Rf.the-variants.{Idle}
-use Rattle.ends.specs.declared.kinds.Phase.the-variants.{Cold}
-use Rattle.ends.specs.declared.kinds.Pending.the-variants as pending
-use Rattle.ends.specs.declared.kinds.Host.{Host}
-use Rattle.ends.specs.declared.kinds.Controller.{Controller}
-use Rattle.ends.specs.declared.controller.Verdict.the-variants as verdict
-use Rattle.ends.specs.declared.host.Heard.the-variants.{Nothing}
-use Rattle.ends.specs.Radio.{noPairs}
-use Rattle.ends.specs.Contents.{creditsOk}
-use Rattle.ends.specs.Host.{leastSize}
+use Rattle.state.specs.declared.kinds.Profile.{Profile}
+use Rattle.state.specs.declared.kinds.Rf.the-variants.{Idle}
+use Rattle.state.specs.declared.kinds.Phase.the-variants.{Cold}
+use Rattle.state.specs.declared.kinds.Pending.the-variants as pending
+use Rattle.state.specs.declared.kinds.Host.{Host}
+use Rattle.state.specs.declared.kinds.Controller.{Controller}
+use Rattle.nfcc.specs.declared.controller.Verdict.the-variants as verdict
+use Rattle.dh.specs.declared.host.Heard.the-variants.{Nothing}
+use Rattle.state.specs.Radio.{noPairs}
+use Rattle.dh.specs.Contents.{creditsOk}
+use Rattle.dh.specs.Host.{leastSize}
 use Rattle.model.specs.Connection.{Connection, closed}
 use Rattle.model.specs.Packets.{control}
 

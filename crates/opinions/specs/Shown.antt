@@ -6,14 +6,14 @@ use mathlib.Core.List.{List, [], _∷_, _++_}
 use Rattle.octets.specs.Octets.{Octets, cut}
 use Rattle.packets.specs.Packet.{octet0, octet1, packetOf, oidOf, spareOf, headerOf, readOf}
 use Rattle.packets.specs.Segments.{segmentsWithin, segments}
-use Rattle.ends.specs.Conn.{placeOf, connOf, termsOf}
-use Rattle.ends.specs.Radio.{listedIn, addedTo}
-use Rattle.ends.specs.Commands.{commandOf}
-use Rattle.ends.specs.Controller.{shortest, allowed, resetBy, after, seek, nextId, createBy, closeBy, configsOk, discoverBy, deactivateBy, judgeOf, controllerAfter}
-use Rattle.ends.specs.Layout.{entriesFrom, entryCount, responseOf, noticeMessage}
-use Rattle.ends.specs.Air.{foundIn, pollIn, listenIn, eventOf, foundBy, pollBy, listenBy, failedBy, airedBy, airMessage, controllerAired}
-use Rattle.ends.specs.Contents.{noticeOf, zeros, initWritten, createWritten, entriesOk, creditsWritten, discoverWritten, activatedWritten, deactivateWritten, written}
-use Rattle.ends.specs.Host.{answerOf, heardAlone, hearOf, creditsIn, namesClosed, hostAfter, dropHeard}
+use Rattle.state.specs.Conn.{placeOf, connOf, termsOf}
+use Rattle.state.specs.Radio.{listedIn, addedTo}
+use Rattle.state.specs.Commands.{commandOf}
+use Rattle.nfcc.specs.Controller.{shortest, allowed, resetBy, after, seek, nextId, createBy, closeBy, configsOk, discoverBy, deactivateBy, judgeOf, controllerAfter}
+use Rattle.nfcc.specs.Layout.{entriesFrom, entryCount, responseOf, noticeMessage}
+use Rattle.nfcc.specs.Air.{foundIn, pollIn, listenIn, eventOf, foundBy, pollBy, listenBy, failedBy, airedBy, airMessage, controllerAired}
+use Rattle.dh.specs.Contents.{noticeOf, zeros, initWritten, createWritten, entriesOk, creditsWritten, discoverWritten, activatedWritten, deactivateWritten, written}
+use Rattle.dh.specs.Host.{answerOf, heardAlone, hearOf, creditsIn, namesClosed, hostAfter, dropHeard}
 use Rattle.model.specs.Packets.{meaning, dataCount, creditsUp}
 use Rattle.model.specs.State.{State, cold, profileIn}
 use Rattle.model.specs.Bench.{Call, Result, taken, refused, Outcome, first, allZero, anyOf, step}

@@ -1,0 +1,14 @@
+-- `dh::contents::status_alone` meets its contract, by that of `octet_at`.
+-- Assumes nothing.
+use borrow.Author.Needs.{needs}
+use Rattle.dh.proofs.contents.status_alone.Statement.{statement}
+use Rattle.dh.proofs.contents.status_alone.Tie as tie
+
+octet-at-requires : tie.Need-octet-at-requires
+octet-at-requires c κs = search needs
+
+returns : tie.Need-returns
+returns c = rw (c .octet-at .ensures)
+
+pub status-alone-spec : {M : Type 1} → statement M
+status-alone-spec = tie.close (tie.spec octet-at-requires returns)

@@ -1,0 +1,39 @@
+-- `dh::host::side_of` meets its contract: a place of the array, or none.
+-- Assumes nothing.
+use Prim.Native.Nat.{_≤_, ℕ}
+use mathlib.Core.Path.{sym, ap, _∙_}
+use native.Mathlib.Omega.{arith}
+use lib.ListN.{length, getD, List·getD-eq-default}
+use Rattle.state.specs.declared.kinds.Counts.{Counts}
+use Rattle.state.specs.Conn.{placeOf, closedCounts}
+use borrow.Author.Needs.{needs}
+use Rattle.dh.proofs.host.side_of.Statement.{statement}
+use Rattle.dh.proofs.host.side_of.Tie as tie
+
+place-of-requires : tie.Need-place-of-requires
+place-of-requires c κs = search needs
+
+mul-c : tie.Need-mul-c
+mul-c c = search needs
+
+array-copy-out-c : tie.Need-array-copy-out-c
+array-copy-out-c c = search needs
+
+closed-host-requires : tie.Need-closed-host-requires
+closed-host-requires c κs = search needs
+
+returns : tie.Need-returns
+returns c =
+    let a = c .before .before .before .before .args in
+    ap (λ (p : ℕ). getD (a .t1) p closedCounts .host) (c .before .before .before .place-of .ensures)
+
+returns-2 : tie.Need-returns-2
+returns-2 c =
+    let a = c .before .before .before .args in
+    let past : length (a .t1) ≤ placeOf (a .conn) = omega (arith, c .before .before .place-of .ensures, c .before .before .before .fits) in
+    c .closed-host .ensures ∙ sym (ap (λ (k : Counts). k .host) (List·getD-eq-default (a .t1) closedCounts past))
+
+pub side-of-spec : {M : Type 1} → statement M
+side-of-spec =
+    tie.close
+    (tie.spec place-of-requires mul-c array-copy-out-c closed-host-requires returns returns-2)

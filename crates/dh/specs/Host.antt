@@ -1,0 +1,161 @@
+-- The host's reading of a whole control message (document 01, up under "Calls"): what a host that stands alone makes of it, behind
+-- one guard, `written` of Contents: could the bench's controller have written these contents?
+-- Assumes nothing.
+use Prim.Native.Nat.{ℕ, zero, suc, _+_, _%_}
+use mathlib.Core.Bool.{Bool, true, false, _&&_, _||_, not}
+use mathlib.Core.List.{List}
+use lib.ListN.{getD}
+use lib.Dec.{eqb}
+use Rattle.octets.specs.Octets.{Octets, pick}
+use Rattle.state.specs.declared.kinds.Asked.{Asked}
+use Rattle.state.specs.declared.kinds.Pending.{Pending}
+use Rattle.state.specs.declared.kinds.Pending.the-variants as pending
+use Rattle.state.specs.declared.kinds.Host.{Host}
+use Rattle.state.specs.declared.kinds.HostSide.{HostSide}
+use Rattle.state.specs.declared.kinds.Counts.{Counts}
+use Rattle.state.specs.declared.commands.Command.{Command}
+use Rattle.state.specs.declared.commands.Command.the-variants as command
+use Rattle.dh.specs.declared.contents.Notice.{Notice}
+use Rattle.dh.specs.declared.contents.Notice.the-variants as notice
+use Rattle.dh.specs.declared.host.Answer.{Answer}
+use Rattle.dh.specs.declared.host.Answer.the-variants.{Done, ClosesAll, Sized, Opens, Closes}
+use Rattle.dh.specs.declared.host.Heard.{Heard}
+use Rattle.dh.specs.declared.host.Heard.the-variants.{Nothing, Dropped, Answered, Activated, Deactivated, Credits}
+use Rattle.state.specs.Conn.{flows, countsOf, withHost, leftAt, joinedAt, allLeft}
+use Rattle.state.specs.Commands.{commandOf}
+use Rattle.dh.specs.Contents.{noticeOf, entryId, entryCredits, written}
+
+-- ---- the unanswered command
+
+-- what the host remembers of a command that it sends
+abbrev pub askedOf : ℕ → ℕ → Octets → Asked
+askedOf gid oid m = record { gid = gid; oid = oid; aim = getD m 0 0 % 16 }
+
+-- a response is awaited by the command with its GID and OID
+abbrev pub awaits : Pending → ℕ → ℕ → Bool
+awaits pending.Nothing gid oid = false
+awaits (pending.Command a) gid oid = eqb (a .gid) gid && eqb (a .oid) oid
+
+abbrev pub aimOf : Pending → ℕ
+aimOf pending.Nothing = 0
+aimOf (pending.Command a) = a .aim
+
+-- ---- what they say
+
+-- an OK response; CONN_CLOSE's names no connection, so it is the one that the command named
+abbrev pub okAnswer : Command → ℕ → Octets → Answer
+okAnswer command.Reset aim m = ClosesAll
+okAnswer command.Init aim m = Sized (getD m 8 0)
+okAnswer command.ConnCreate aim m = Opens (getD m 3 0) (record { payload = getD m 1 0; credits = getD m 2 0 })
+okAnswer command.ConnClose aim m = Closes aim
+okAnswer command.Discover aim m = Done
+okAnswer command.Select aim m = Done
+okAnswer command.Deactivate aim m = Done
+okAnswer command.Unknown aim m = Done
+
+unfoldable pub answerOf : Command → ℕ → Octets → Answer
+answerOf c aim m = pick (eqb (getD m 0 0) 0x00) (okAnswer c aim m) Done
+
+abbrev pub noticed : Notice → Octets → Heard
+noticed notice.Reset m = Nothing
+noticed notice.Credits m = Credits
+noticed notice.GenericError m = Nothing
+noticed notice.Discover m = Nothing
+noticed notice.Activated m = Activated (record { payload = getD m 4 0; credits = getD m 5 0 })
+noticed notice.Deactivate m = Deactivated
+noticed notice.Unknown m = Nothing
+
+-- what a host that stands alone hears
+unfoldable pub heardAlone : Pending → ℕ → ℕ → ℕ → Octets → Heard
+heardAlone p mt gid oid m =
+    pick (eqb mt 2) (Answered (answerOf (commandOf gid oid) (aimOf p) m)) (noticed (noticeOf gid oid) m)
+
+-- notifications are always heard, a response where its command is unanswered, commands never
+abbrev pub expected : Pending → ℕ → ℕ → ℕ → Bool
+expected p mt gid oid = pick (eqb mt 2) (awaits p gid oid) (eqb mt 3)
+
+unfoldable pub hearOf : Pending → ℕ → ℕ → ℕ → Octets → Heard
+hearOf p mt gid oid m = pick (expected p mt gid oid) (pick (written mt gid oid m) (heardAlone p mt gid oid m) Nothing) Dropped
+
+-- ---- a credit notice
+
+-- the credits that the first n entries have for a Conn ID
+unfoldable pub creditsIn : Octets → ℕ → ℕ → ℕ
+creditsIn m zero c = 0
+creditsIn m (suc n) c = creditsIn m n c + pick (eqb (entryId m n) c) (entryCredits m n) 0
+
+abbrev pub creditsFor : Octets → ℕ → ℕ
+creditsFor m c = creditsIn m (getD m 0 0) c
+
+-- one of the first n entries names a connection that is not open at the host, where `isOpen` says which are
+unfoldable pub namesClosed : (ℕ → Bool) → Octets → ℕ → Bool
+namesClosed isOpen m zero = false
+namesClosed isOpen m (suc n) = namesClosed isOpen m n || not (isOpen (entryId m n))
+
+-- ---- the host after it
+
+-- the payload size of commands before an INIT response
+abbrev pub leastSize : ℕ
+leastSize = 32
+
+abbrev pub settled : Host → ℕ → Host
+settled h size = record { size = size; pending = pending.Nothing }
+
+abbrev pub hostAnswered : Host → Answer → Host
+hostAnswered h Done = settled h (h .size)
+hostAnswered h ClosesAll = settled h leastSize
+hostAnswered h (Sized n) = settled h n
+hostAnswered h (Opens c t) = settled h (h .size)
+hostAnswered h (Closes c) = settled h (h .size)
+
+unfoldable pub hostAfter : Host → Heard → Host
+hostAfter h Nothing = h
+hostAfter h Dropped = h
+hostAfter h (Answered a) = hostAnswered h a
+hostAfter h (Activated t) = h
+hostAfter h Deactivated = h
+hostAfter h Credits = h
+
+-- ---- the connections after it
+
+-- credits for a connection that is open and flow-controlled; for any other they do nothing
+abbrev pub credited : HostSide → ℕ → HostSide
+credited h n =
+    record {
+      opened = h .opened;
+      payload = h .payload;
+      grant = h .grant;
+      held = pick (h .opened && flows (h .grant)) (h .held + n) (h .held);
+      hand = h .hand;
+      run = h .run;
+    }
+
+abbrev pub creditedAt : List Counts → Octets → ℕ → List Counts
+creditedAt conns m c = withHost conns c (credited (countsOf conns c .host) (creditsFor m c))
+
+abbrev pub allCredited : List Counts → Octets → List Counts
+allCredited conns m = creditedAt (creditedAt (creditedAt (creditedAt (creditedAt conns m 0) m 2) m 3) m 4) m 5
+
+abbrev pub connsAnswered : List Counts → Answer → List Counts
+connsAnswered conns Done = conns
+connsAnswered conns ClosesAll = allLeft conns
+connsAnswered conns (Sized n) = conns
+connsAnswered conns (Opens c t) = joinedAt conns c t
+connsAnswered conns (Closes c) = leftAt conns c
+
+unfoldable pub connsHeard : List Counts → Octets → Heard → List Counts
+connsHeard conns m Nothing = conns
+connsHeard conns m Dropped = conns
+connsHeard conns m (Answered a) = connsAnswered conns a
+connsHeard conns m (Activated t) = joinedAt conns 0 t
+connsHeard conns m Deactivated = leftAt conns 0
+connsHeard conns m Credits = allCredited conns m
+
+-- the drop flag
+unfoldable pub dropHeard : (ℕ → Bool) → Octets → Heard → Bool
+dropHeard isOpen m Nothing = false
+dropHeard isOpen m Dropped = true
+dropHeard isOpen m (Answered a) = false
+dropHeard isOpen m (Activated t) = false
+dropHeard isOpen m Deactivated = false
+dropHeard isOpen m Credits = namesClosed isOpen m (getD m 0 0)

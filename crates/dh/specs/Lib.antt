@@ -1,0 +1,4 @@
+pub mod Contents
+pub mod Hearing
+pub mod Host
+pub mod Credited

@@ -1,0 +1,282 @@
+// Contents that the bench's controller writes (document 01, "Contents never written here have no effect", up under "Calls"): its
+// layouts at their exact lengths, with values inside its limits.
+use state::conn;
+use state::commands;
+use state::commands::Command;
+use state::radio;
+ghost use mathlib.Core.Path.{_≡_};
+ghost use Prim.Native.Nat.{_≤_};
+ghost use Rattle.dh.specs.Contents.{noticeOf, creditsOk, statusAlone, okAlone, zeros, initWritten, createWritten, okWritten, resetWritten, entryOk, entriesOk, creditsWritten, discoverWritten, activatedWritten, deactivateWritten, noticeWritten, written};
+ghost use Rattle.dh.specs.Hearing.{initFront, activatedFront, ascends};
+
+// The notifications that the bench knows.
+pub enum Notice {
+    Reset,
+    Credits,
+    GenericError,
+    Discover,
+    Activated,
+    Deactivate,
+    Unknown,
+}
+
+// The notification with this GID and OID (003, Table 139).
+pub fn notice_of(gid: u8, oid: u8) -> Notice
+    ensures { λ r. ⌜ r ≡ noticeOf gid oid ⌝ }
+{
+    match gid {
+        0 => match oid {
+            0 => Notice::Reset,
+            6 => Notice::Credits,
+            7 => Notice::GenericError,
+            _ => Notice::Unknown,
+        },
+        1 => match oid {
+            3 => Notice::Discover,
+            5 => Notice::Activated,
+            6 => Notice::Deactivate,
+            _ => Notice::Unknown,
+        },
+        _ => Notice::Unknown,
+    }
+}
+
+// Credits that a profile can have: 1-8, or 255 for no flow control.
+fn credits_ok(n: u8) -> bool
+    ensures { λ r. ⌜ r ≡ creditsOk n ⌝ }
+{
+    ((1 <= n) & (n <= 8)) | (n == 255)
+}
+
+// A response of one octet, a status other than STATUS_OK.
+fn status_alone(m: &[u8]) -> bool
+    ensures { λ r. ⌜ r ≡ statusAlone (now (m .entry)) ⌝ }
+{
+    let status = octets::octet_at(m, 0);
+    (m.len() == 1) & (status != 0x00)
+}
+
+// A response of one octet, STATUS_OK.
+fn ok_alone(m: &[u8]) -> bool
+    ensures { λ r. ⌜ r ≡ okAlone (now (m .entry)) ⌝ }
+{
+    let status = octets::octet_at(m, 0);
+    (m.len() == 1) & (status == 0x00)
+}
+
+// Whether the n octets from index i on are all 00: fields that the bench's controller has nothing to say in.
+fn zeros(m: &[u8], i: usize, n: usize) -> bool
+    requires { ⌜ (i ≤ 1024) × (n ≤ 16) ⌝ }
+    ensures { λ r. ⌜ r ≡ zeros (now (m .entry)) i n ⌝ }
+{
+    let mut all = true;
+    let mut k: usize = 0;
+    while k < n {
+        let o = octets::octet_at(m, i + k);
+        all = all & (o == 0x00);
+        k += 1;
+    }
+    all
+}
+
+// The front of a CORE_INIT_RSP, up to the control payload.
+fn init_front(m: &[u8]) -> bool
+    ensures { λ r. ⌜ r ≡ initFront (now (m .entry)) ⌝ }
+{
+    let status = zeros(m, 0, 5);
+    let most = octets::octet_at(m, 5);
+    let routes = zeros(m, 6, 2);
+    (m.len() == 16) & status & (most == 0x04) & routes
+}
+
+// A CORE_INIT_RSP of the bench: 16 octets, of which the control payload alone is free.
+fn init_written(m: &[u8]) -> bool
+    ensures { λ r. ⌜ r ≡ initWritten (now (m .entry)) ⌝ }
+{
+    let front = init_front(m);
+    let size = octets::octet_at(m, 8);
+    let hci = zeros(m, 9, 4);
+    let count = octets::octet_at(m, 13);
+    let frame = octets::octet_at(m, 14);
+    let extension = zeros(m, 15, 1);
+    front & (32 <= size) & hci & (count == 0x01) & (frame == 0x01) & extension
+}
+
+// A CORE_CONN_CREATE_RSP that opens one of the connections 2-5.
+fn create_written(m: &[u8]) -> bool
+    ensures { λ r. ⌜ r ≡ createWritten (now (m .entry)) ⌝ }
+{
+    let status = octets::octet_at(m, 0);
+    let payload = octets::octet_at(m, 1);
+    let credits = octets::octet_at(m, 2);
+    let id = octets::octet_at(m, 3);
+    let ok = credits_ok(credits);
+    (m.len() == 4) & (status == 0x00) & (1 <= payload) & ok & (2 <= id) & (id <= 5)
+}
+
+// An OK response as the bench's controller writes it.
+fn ok_written(c: Command, m: &[u8]) -> bool
+    ensures { λ r. ⌜ r ≡ okWritten c (now (m .entry)) ⌝ }
+{
+    match c {
+        Command::Reset => ok_alone(m),
+        Command::Init => init_written(m),
+        Command::ConnCreate => create_written(m),
+        Command::ConnClose => ok_alone(m),
+        Command::Discover => ok_alone(m),
+        Command::Select => ok_alone(m),
+        Command::Deactivate => ok_alone(m),
+        Command::Unknown => false,
+    }
+}
+
+// A CORE_RESET_NTF of the bench: after a command, NCI 2.0, no manufacturer.
+fn reset_written(m: &[u8]) -> bool
+    ensures { λ r. ⌜ r ≡ resetWritten (now (m .entry)) ⌝ }
+{
+    let trigger = octets::octet_at(m, 0);
+    let config = octets::octet_at(m, 1);
+    let version = octets::octet_at(m, 2);
+    let maker = zeros(m, 3, 2);
+    (m.len() == 5) & (trigger == 0x02) & (config <= 1) & (version == 0x20) & maker
+}
+
+// Entry i of a CORE_CONN_CREDITS_NTF: a Conn ID that there is, with 1-8 credits.
+fn entry_ok(m: &[u8], i: usize) -> bool
+    requires { ⌜ i ≤ 255 ⌝ }
+    ensures { λ r. ⌜ r ≡ entryOk (now (m .entry)) i ⌝ }
+{
+    let id = octets::octet_at(m, 1 + 2 * i);
+    let credits = octets::octet_at(m, 2 + 2 * i);
+    let place = conn::place_of(id);
+    (place < 5) & (1 <= credits) & (credits <= 8)
+}
+
+// Whether entry i's Conn ID is above that of the entry before it.
+fn ascends(m: &[u8], i: usize) -> bool
+    requires { ⌜ i ≤ 255 ⌝ }
+    ensures { λ r. ⌜ r ≡ ascends (now (m .entry)) i ⌝ }
+{
+    if i == 0 {
+        return true;
+    }
+    let last = octets::octet_at(m, 1 + 2 * (i - 1));
+    let id = octets::octet_at(m, 1 + 2 * i);
+    last < id
+}
+
+// The first n entries, each with its Conn ID above the last one's.
+fn entries_ok(m: &[u8], n: usize) -> bool
+    requires { ⌜ n ≤ 255 ⌝ }
+    ensures { λ r. ⌜ r ≡ entriesOk (now (m .entry)) n ⌝ }
+{
+    let mut all = true;
+    let mut i: usize = 0;
+    while i < n {
+        let ok = entry_ok(m, i);
+        let above = ascends(m, i);
+        all = all & ok & above;
+        i += 1;
+    }
+    all
+}
+
+// A CORE_CONN_CREDITS_NTF of the bench: 1-5 entries, and no octet more.
+fn credits_written(m: &[u8]) -> bool
+    ensures { λ r. ⌜ r ≡ creditsWritten (now (m .entry)) ⌝ }
+{
+    let n = octets::octet_at(m, 0) as usize;
+    let ok = entries_ok(m, n);
+    (1 <= n) & (n <= 5) & (m.len() == 1 + 2 * n) & ok
+}
+
+// An RF_DISCOVER_NTF of the bench.
+fn discover_written(m: &[u8]) -> bool
+    ensures { λ r. ⌜ r ≡ discoverWritten (now (m .entry)) ⌝ }
+{
+    let id = octets::octet_at(m, 0);
+    let mode = octets::octet_at(m, 2);
+    let n = octets::octet_at(m, 3) as usize;
+    let kind = octets::octet_at(m, 4 + n);
+    let named = radio::id_ok(id);
+    let polled = radio::polls(mode);
+    named & polled & (n <= 32) & (m.len() == 5 + n) & (kind <= 2)
+}
+
+// The front of an RF_INTF_ACTIVATED_NTF, up to the payload size of connection 0: the Frame interface alone.
+fn activated_front(m: &[u8]) -> bool
+    ensures { λ r. ⌜ r ≡ activatedFront (now (m .entry)) ⌝ }
+{
+    let id = octets::octet_at(m, 0);
+    let interface = octets::octet_at(m, 1);
+    let mode = octets::octet_at(m, 3);
+    let payload = octets::octet_at(m, 4);
+    let named = radio::id_ok(id);
+    let polled = radio::polls(mode);
+    let listened = radio::listens(mode);
+    named & (interface == 0x01) & (polled | listened) & (1 <= payload)
+}
+
+// An RF_INTF_ACTIVATED_NTF of the bench: its mode stands twice, and it has no activation parameters.
+fn activated_written(m: &[u8]) -> bool
+    ensures { λ r. ⌜ r ≡ activatedWritten (now (m .entry)) ⌝ }
+{
+    let mode = octets::octet_at(m, 3);
+    let credits = octets::octet_at(m, 5);
+    let n = octets::octet_at(m, 6) as usize;
+    let again = octets::octet_at(m, 7 + n);
+    let rest = zeros(m, 8 + n, 3);
+    let ok = credits_ok(credits);
+    let front = activated_front(m);
+    front & ok & (n <= 32) & (m.len() == 11 + n) & (again == mode) & rest
+}
+
+// An RF_DEACTIVATE_NTF of the bench: of any type where the host asked, or the endpoint's sleep, lost link or release.
+fn deactivate_written(m: &[u8]) -> bool
+    ensures { λ r. ⌜ r ≡ deactivateWritten (now (m .entry)) ⌝ }
+{
+    let kind = octets::octet_at(m, 0);
+    let reason = octets::octet_at(m, 1);
+    (m.len() == 2)
+        & (((kind <= 3) & (reason == 0x00))
+            | ((kind == 1) & (reason == 0x01))
+            | ((kind == 3) & (1 <= reason) & (reason <= 2)))
+}
+
+// A CORE_GENERIC_ERROR_NTF of the bench: the activation failed.
+fn error_written(m: &[u8]) -> bool
+    ensures { λ r. ⌜ r ≡ noticeWritten Notice.GenericError (now (m .entry)) ⌝ }
+{
+    let status = octets::octet_at(m, 0);
+    (m.len() == 1) & (status == 0xA1)
+}
+
+// A notification as the bench's controller writes it.
+fn notice_written(n: Notice, m: &[u8]) -> bool
+    ensures { λ r. ⌜ r ≡ noticeWritten n (now (m .entry)) ⌝ }
+{
+    match n {
+        Notice::Reset => reset_written(m),
+        Notice::Credits => credits_written(m),
+        Notice::GenericError => error_written(m),
+        Notice::Discover => discover_written(m),
+        Notice::Activated => activated_written(m),
+        Notice::Deactivate => deactivate_written(m),
+        Notice::Unknown => false,
+    }
+}
+
+// The one guard: contents of a response or a notification that the bench's own controller could have written.
+pub fn written(mt: u8, gid: u8, oid: u8, m: &[u8]) -> bool
+    ensures { λ r. ⌜ r ≡ written mt gid oid (now (m .entry)) ⌝ }
+{
+    if mt == packets::RESPONSE {
+        let c = commands::command_of(gid, oid);
+        let alone = status_alone(m);
+        let ok = ok_written(c, m);
+        alone | ok
+    } else {
+        let n = notice_of(gid, oid);
+        notice_written(n, m)
+    }
+}

@@ -1,0 +1,147 @@
+-- `nfcc::layout::response` meets its contract: by the verdict's cases.
+-- Assumes nothing.
+use Rattle.nfcc.specs.Layout.{responseOf}
+use borrow.Author.Needs.{needs}
+use Rattle.nfcc.proofs.layout.response.Statement.{statement}
+use Rattle.nfcc.proofs.layout.response.Tie as tie
+
+enum-known-v : tie.Need-enum-known-v
+enum-known-v c = search needs
+
+status-requires : tie.Need-status-requires
+status-requires c κs = search needs
+
+enum-told : tie.Need-enum-told
+enum-told c = search needs
+
+status-requires-2 : tie.Need-status-requires-2
+status-requires-2 c κs = search needs
+
+enum-told-2 : tie.Need-enum-told-2
+enum-told-2 c = search needs
+
+init-rsp-requires : tie.Need-init-rsp-requires
+init-rsp-requires c κs = search needs
+
+enum-known-v-2 : tie.Need-enum-known-v-2
+enum-known-v-2 c = search needs
+
+create-rsp-requires : tie.Need-create-rsp-requires
+create-rsp-requires c κs = search needs
+
+enum-told-3 : tie.Need-enum-told-3
+enum-told-3 c = search needs
+
+status-requires-3 : tie.Need-status-requires-3
+status-requires-3 c κs = search needs
+
+enum-told-4 : tie.Need-enum-told-4
+enum-told-4 c = search needs
+
+status-requires-4 : tie.Need-status-requires-4
+status-requires-4 c κs = search needs
+
+enum-told-5 : tie.Need-enum-told-5
+enum-told-5 c = search needs
+
+status-requires-5 : tie.Need-status-requires-5
+status-requires-5 c κs = search needs
+
+enum-told-6 : tie.Need-enum-told-6
+enum-told-6 c = search needs
+
+status-requires-6 : tie.Need-status-requires-6
+status-requires-6 c κs = search needs
+
+same-length : tie.Need-same-length
+same-length c = search needs
+
+returns : tie.Need-returns
+unfolding responseOf
+returns c = rw (c .before .before .before .before .before .v .given .1) (c .before .before .status .ensures)
+
+same-length-2 : tie.Need-same-length-2
+same-length-2 c = search needs
+
+returns-2 : tie.Need-returns-2
+unfolding responseOf
+returns-2 c = rw (c .before .before .before .before .enum-told .given .1) (c .before .before .status2 .ensures)
+
+same-length-3 : tie.Need-same-length-3
+same-length-3 c = search needs
+
+returns-3 : tie.Need-returns-3
+unfolding responseOf
+returns-3 c = rw (c .before .before .before .before .enum-told2 .given .1) (c .before .before .init-rsp .ensures)
+
+same-length-4 : tie.Need-same-length-4
+same-length-4 c = search needs
+
+returns-4 : tie.Need-returns-4
+unfolding responseOf
+returns-4 c = rw (c .before .before .before .before .before .v2 .given .1) (c .before .before .create-rsp .ensures)
+
+same-length-5 : tie.Need-same-length-5
+same-length-5 c = search needs
+
+returns-5 : tie.Need-returns-5
+unfolding responseOf
+returns-5 c = rw (c .before .before .before .before .enum-told3 .given .1) (c .before .before .status3 .ensures)
+
+same-length-6 : tie.Need-same-length-6
+same-length-6 c = search needs
+
+returns-6 : tie.Need-returns-6
+unfolding responseOf
+returns-6 c = rw (c .before .before .before .before .enum-told4 .given .1) (c .before .before .status4 .ensures)
+
+same-length-7 : tie.Need-same-length-7
+same-length-7 c = search needs
+
+returns-7 : tie.Need-returns-7
+unfolding responseOf
+returns-7 c = rw (c .before .before .before .before .enum-told5 .given .1) (c .before .before .status5 .ensures)
+
+same-length-8 : tie.Need-same-length-8
+same-length-8 c = search needs
+
+returns-8 : tie.Need-returns-8
+unfolding responseOf
+returns-8 c = rw (c .before .before .before .before .enum-told6 .given .1) (c .before .before .status6 .ensures)
+
+pub response-spec : {M : Type 1} → statement M
+response-spec =
+    tie.close
+    (tie.spec
+    enum-known-v
+    status-requires
+    enum-told
+    status-requires-2
+    enum-told-2
+    init-rsp-requires
+    enum-known-v-2
+    create-rsp-requires
+    enum-told-3
+    status-requires-3
+    enum-told-4
+    status-requires-4
+    enum-told-5
+    status-requires-5
+    enum-told-6
+    status-requires-6
+    same-length
+    returns
+    same-length-2
+    returns-2
+    same-length-3
+    returns-3
+    same-length-4
+    returns-4
+    same-length-5
+    returns-5
+    same-length-6
+    returns-6
+    same-length-7
+    returns-7
+    same-length-8
+    returns-8)

@@ -1,0 +1,5 @@
+pub mod Controller
+pub mod Layout
+pub mod Air
+pub mod Table
+pub mod CommandTrips

@@ -1,0 +1,457 @@
+// The controller's judgement of a whole command (document 01, "What the controller answers"), and what follows from it.
+use state::commands;
+use state::commands::Command;
+use state::conn::all_shut;
+use state::conn::open_at;
+use state::conn::opened_at;
+use state::conn::shut_at;
+use state::conn::terms_of;
+use state::kinds::Activation;
+use state::kinds::Controller;
+use state::kinds::Counts;
+use state::kinds::Pair;
+use state::kinds::Pairs;
+use state::kinds::Phase;
+use state::kinds::Profile;
+use state::kinds::Rf;
+use state::kinds::Selection;
+use state::kinds::Terms;
+use state::radio::is_idle;
+use state::radio::is_listed;
+use state::radio::listens;
+use state::radio::no_pairs;
+use state::radio::polls;
+ghost use mathlib.Core.Path.{_≡_};
+ghost use Rattle.state.specs.declared.kinds.Rf.the-variants.{ListenActive, ListenSleep};
+ghost use Rattle.state.specs.Conn.{openAt};
+ghost use Rattle.nfcc.specs.Controller.{shortest, isReset, isReady, allowed, resetBy, after, nextId, opensAs, createBy, closeBy, configOk, configsOk, discoverBy, selectBy, sleepRejected, restState, ended, deactivateBy, valuesOf, judgeOf, turned, controllerAfter, connsAfter, closesZero};
+
+// What the controller decides. Refuses: a status other than OK, alone, and nothing changes.
+pub enum Verdict {
+    Refuses(u8),
+    Resets(u8),
+    Initialises,
+    Opens(u8, Terms),
+    Closes(u8),
+    Turns(Rf),
+    Selects(Pair),
+    Deactivates(u8, Rf),
+}
+
+// The statuses of a refusal (003, Table 129).
+pub const REJECTED: u8 = 0x01;
+
+pub const SYNTAX_ERROR: u8 = 0x05;
+
+pub const SEMANTIC_ERROR: u8 = 0x06;
+
+pub const DISCOVERY_ALREADY_STARTED: u8 = 0xA0;
+
+// The octets that a command must have; an unknown one is judged whatever its payload.
+fn shortest(c: Command, m: &[u8]) -> usize
+    ensures { λ r. ⌜ r ≡ shortest c (now (m .entry)) ⌝ }
+{
+    match c {
+        Command::Reset => 1,
+        Command::Init => 2,
+        Command::ConnCreate => 2,
+        Command::ConnClose => 1,
+        Command::Discover => 1 + 2 * (octets::octet_at(m, 0) as usize),
+        Command::Select => 3,
+        Command::Deactivate => 1,
+        Command::Unknown => 0,
+    }
+}
+
+// After a RESET that no INIT has followed.
+fn is_reset(p: Phase) -> bool
+    ensures { λ r. ⌜ r ≡ isReset p ⌝ }
+{
+    match p {
+        Phase::Cold => false,
+        Phase::Reset => true,
+        Phase::Ready => false,
+    }
+}
+
+// After INIT.
+fn is_ready(p: Phase) -> bool
+    ensures { λ r. ⌜ r ≡ isReady p ⌝ }
+{
+    match p {
+        Phase::Cold => false,
+        Phase::Reset => false,
+        Phase::Ready => true,
+    }
+}
+
+// Whether a command is taken in a phase: RESET in every one, INIT once after each RESET, the others after INIT.
+fn allowed(p: Phase, c: Command) -> bool
+    ensures { λ r. ⌜ r ≡ allowed p c ⌝ }
+{
+    let reset = is_reset(p);
+    let ready = is_ready(p);
+    match c {
+        Command::Reset => true,
+        Command::Init => reset,
+        Command::ConnCreate => ready,
+        Command::ConnClose => ready,
+        Command::Discover => ready,
+        Command::Select => ready,
+        Command::Deactivate => ready,
+        Command::Unknown => true,
+    }
+}
+
+// CORE_RESET_CMD: type 0 or 1.
+fn reset_by(kind: u8) -> Verdict
+    ensures { λ r. ⌜ r ≡ resetBy kind ⌝ }
+{
+    if 1 < kind {
+        Verdict::Refuses(SYNTAX_ERROR)
+    } else {
+        Verdict::Resets(kind)
+    }
+}
+
+// The Conn ID after another, round 2-5; 2 after none.
+fn after(id: u8) -> u8
+    ensures { λ r. ⌜ r ≡ after id ⌝ }
+{
+    if id < 2 {
+        2
+    } else if id < 5 {
+        id + 1
+    } else {
+        2
+    }
+}
+
+// The next Conn ID after the last given, passing open ones; 0 where all four are open.
+fn next_id(conns: [Counts; 5], given: u8) -> u8
+    ensures { λ r. ⌜ r ≡ nextId (openAt conns) given ⌝ }
+{
+    let mut id = after(given);
+    let mut tries: usize = 4;
+    while 0 < tries {
+        if !open_at(conns, id) {
+            return id;
+        }
+        id = after(id);
+        tries -= 1;
+    }
+    0
+}
+
+// A loopback connection opens with the Conn ID that is next, if there is one.
+fn opens_as(p: Profile, id: u8) -> Verdict
+    ensures { λ r. ⌜ r ≡ opensAs p id ⌝ }
+{
+    if id == 0 {
+        Verdict::Refuses(REJECTED)
+    } else {
+        let t = terms_of(p, id);
+        Verdict::Opens(id, t)
+    }
+}
+
+// CORE_CONN_CREATE_CMD: destination 01, the loopback, with 00 parameters.
+fn create_by(p: Profile, conns: [Counts; 5], given: u8, m: &[u8]) -> Verdict
+    ensures { λ r. ⌜ r ≡ createBy p (openAt conns) given (now (m .entry)) ⌝ }
+{
+    let destination = octets::octet_at(m, 0);
+    let parameters = octets::octet_at(m, 1);
+    if (destination == 0x01) & (parameters == 0x00) {
+        let id = next_id(conns, given);
+        opens_as(p, id)
+    } else {
+        Verdict::Refuses(REJECTED)
+    }
+}
+
+// CORE_CONN_CLOSE_CMD: the low four bits name an open dynamic connection.
+fn close_by(conns: [Counts; 5], octet: u8) -> Verdict
+    ensures { λ r. ⌜ r ≡ closeBy (openAt conns) octet ⌝ }
+{
+    let id = octet % 16;
+    let opened = open_at(conns, id);
+    if (id != 0) & opened {
+        Verdict::Closes(id)
+    } else {
+        Verdict::Refuses(REJECTED)
+    }
+}
+
+// A mode and frequency that RF_DISCOVER_CMD may have: a listening mode is discovered in every period, a polling one in each or
+// in one of up to ten.
+fn config_ok(mode: u8, frequency: u8) -> bool
+    ensures { λ r. ⌜ r ≡ configOk mode frequency ⌝ }
+{
+    let polling = polls(mode);
+    let listening = listens(mode);
+    (polling & ((0x01 <= frequency) & (frequency <= 0x0A))) | (listening & (frequency == 0x01))
+}
+
+// Whether the first n pairs of mode and frequency, after the octet that counts them, are such.
+fn configs_ok(m: &[u8], n: u8) -> bool
+    ensures { λ r. ⌜ r ≡ configsOk (now (m .entry)) n ⌝ }
+{
+    let count = n as usize;
+    let mut ok = true;
+    let mut i: usize = 0;
+    while i < count {
+        let mode = octets::octet_at(m, 1 + 2 * i);
+        let frequency = octets::octet_at(m, 2 + 2 * i);
+        ok = ok & config_ok(mode, frequency);
+        i += 1;
+    }
+    ok
+}
+
+// RF_DISCOVER_CMD, in IDLE alone: up to eight pairs of mode and frequency.
+fn discover_by(rf: Rf, m: &[u8]) -> Verdict
+    ensures { λ r. ⌜ r ≡ discoverBy rf (now (m .entry)) ⌝ }
+{
+    let idle = is_idle(rf);
+    let n = octets::octet_at(m, 0);
+    let ok = configs_ok(m, n);
+    if !idle {
+        Verdict::Refuses(DISCOVERY_ALREADY_STARTED)
+    } else if (n <= 8) & ok {
+        Verdict::Turns(Rf::Discovery)
+    } else {
+        Verdict::Refuses(REJECTED)
+    }
+}
+
+// RF_DISCOVER_SELECT_CMD, in W4_HOST_SELECT alone: the pair is in the list, and the interface is Frame.
+fn select_by(rf: Rf, ps: Pairs, p: Pair, interface: u8) -> Verdict
+    ensures { λ r. ⌜ r ≡ selectBy rf ps p interface ⌝ }
+{
+    match rf {
+        Rf::HostSelect(_) => {
+            let found = is_listed(ps, p);
+            if found & (interface == 0x01) {
+                Verdict::Selects(p)
+            } else {
+                Verdict::Refuses(REJECTED)
+            }
+        }
+        Rf::Idle => Verdict::Refuses(SEMANTIC_ERROR),
+        Rf::Discovery => Verdict::Refuses(SEMANTIC_ERROR),
+        Rf::AllDiscoveries => Verdict::Refuses(SEMANTIC_ERROR),
+        Rf::PollActive(_) => Verdict::Refuses(SEMANTIC_ERROR),
+        Rf::ListenActive(_) => Verdict::Refuses(SEMANTIC_ERROR),
+        Rf::ListenSleep => Verdict::Refuses(SEMANTIC_ERROR),
+    }
+}
+
+// On the Frame interface a listening NFC-F endpoint (mode 82) is not put to Sleep, nor an NFC-B one (81) to Sleep_AF
+// (003, L3696 and L3704). Document 01 would take both.
+fn sleep_rejected(a: Activation, kind: u8) -> bool
+    ensures { λ r. ⌜ r ≡ sleepRejected a kind ⌝ }
+{
+    ((kind == 1) & (a.mode == 0x82)) | ((kind == 2) & (a.mode == 0x81))
+}
+
+// The state after a deactivation of type 0, 3, and 1 or 2.
+fn rest_state(kind: u8, asleep: Rf) -> Rf
+    ensures { λ r. ⌜ r ≡ restState kind asleep ⌝ }
+{
+    match kind {
+        0 => Rf::Idle,
+        3 => Rf::Discovery,
+        _ => asleep,
+    }
+}
+
+// An interface is deactivated.
+fn ended(kind: u8, asleep: Rf) -> Verdict
+    ensures { λ r. ⌜ r ≡ ended kind asleep ⌝ }
+{
+    let rf = rest_state(kind, asleep);
+    Verdict::Deactivates(kind, rf)
+}
+
+// RF_DEACTIVATE_CMD in LISTEN_ACTIVE. A type over 3 is RFU.
+fn listen_ended(a: Activation, kind: u8) -> Verdict
+    ensures { λ r. ⌜ r ≡ deactivateBy (ListenActive a) kind ⌝ }
+{
+    let kept = sleep_rejected(a, kind);
+    if 3 < kind {
+        Verdict::Refuses(SYNTAX_ERROR)
+    } else if kept {
+        Verdict::Refuses(REJECTED)
+    } else {
+        ended(kind, Rf::ListenSleep)
+    }
+}
+
+// RF_DEACTIVATE_CMD in LISTEN_SLEEP: only type 0 is taken.
+fn rested(kind: u8) -> Verdict
+    ensures { λ r. ⌜ r ≡ deactivateBy ListenSleep kind ⌝ }
+{
+    if 3 < kind {
+        Verdict::Refuses(SYNTAX_ERROR)
+    } else if kind == 0 {
+        Verdict::Turns(Rf::Idle)
+    } else {
+        Verdict::Refuses(SEMANTIC_ERROR)
+    }
+}
+
+// RF_DEACTIVATE_CMD. Where the type is ignored, any is taken as 0, to IDLE: in both W4 states, and in DISCOVERY (003, L1824),
+// where document 01 would look at it.
+fn deactivate_by(rf: Rf, kind: u8) -> Verdict
+    ensures { λ r. ⌜ r ≡ deactivateBy rf kind ⌝ }
+{
+    match rf {
+        Rf::Idle => Verdict::Refuses(SEMANTIC_ERROR),
+        Rf::Discovery => rested(0),
+        Rf::AllDiscoveries => rested(0),
+        Rf::HostSelect(_) => rested(0),
+        Rf::ListenSleep => rested(kind),
+        Rf::PollActive(_) => {
+            if 3 < kind {
+                Verdict::Refuses(SYNTAX_ERROR)
+            } else {
+                ended(kind, Rf::HostSelect(Selection::Nothing))
+            }
+        }
+        Rf::ListenActive(a) => listen_ended(a, kind),
+    }
+}
+
+// The verdict on a command that is long enough and allowed, by its values.
+fn values_of(p: Profile, k: Controller, conns: [Counts; 5], c: Command, m: &[u8]) -> Verdict
+    ensures { λ r. ⌜ r ≡ valuesOf p k (openAt conns) c (now (m .entry)) ⌝ }
+{
+    let rf = k.rf;
+    let first = octets::octet_at(m, 0);
+    match c {
+        Command::Reset => reset_by(first),
+        Command::Init => Verdict::Initialises,
+        Command::ConnCreate => create_by(p, conns, k.given, m),
+        Command::ConnClose => close_by(conns, first),
+        Command::Discover => discover_by(rf, m),
+        Command::Select => {
+            let ps = k.pairs;
+            let protocol = octets::octet_at(m, 1);
+            let interface = octets::octet_at(m, 2);
+            select_by(
+                rf,
+                ps,
+                Pair {
+                    id: first,
+                    protocol: protocol,
+                },
+                interface,
+            )
+        }
+        Command::Deactivate => deactivate_by(rf, first),
+        Command::Unknown => Verdict::Refuses(SYNTAX_ERROR),
+    }
+}
+
+// The verdict on a whole command. In order: unknown or too short, wrong state, values.
+pub fn judge(p: Profile, k: Controller, conns: [Counts; 5], gid: u8, oid: u8, m: &[u8]) -> Verdict
+    ensures { λ r. ⌜ r ≡ judgeOf p k (openAt conns) gid oid (now (m .entry)) ⌝ }
+{
+    let phase = k.phase;
+    let c = commands::command_of(gid, oid);
+    let least = shortest(c, m);
+    let taken = allowed(phase, c);
+    if m.len() < least {
+        return Verdict::Refuses(SYNTAX_ERROR);
+    }
+    if !taken {
+        return Verdict::Refuses(SEMANTIC_ERROR);
+    }
+    values_of(p, k, conns, c, m)
+}
+
+// The controller in another RF state. The list of pairs is emptied in IDLE.
+fn turned(k: Controller, rf: Rf) -> Controller
+    ensures { λ r. ⌜ r ≡ turned k rf ⌝ }
+{
+    let phase = k.phase;
+    let mut pairs = k.pairs;
+    if is_idle(rf) {
+        pairs = no_pairs();
+    }
+    Controller {
+        phase: phase,
+        given: k.given,
+        rf: rf,
+        pairs: pairs,
+    }
+}
+
+// The controller's numbers after a verdict. A refusal changes nothing, so a rejected selection keeps the earlier one.
+pub fn controller_after(k: Controller, v: Verdict) -> Controller
+    ensures { λ r. ⌜ r ≡ controllerAfter k v ⌝ }
+{
+    let phase = k.phase;
+    let rf = k.rf;
+    let pairs = k.pairs;
+    match v {
+        Verdict::Refuses(_) => k,
+        Verdict::Resets(_) => {
+            let none = no_pairs();
+            Controller {
+                phase: Phase::Reset,
+                given: 0,
+                rf: Rf::Idle,
+                pairs: none,
+            }
+        }
+        Verdict::Initialises => Controller {
+            phase: Phase::Ready,
+            given: k.given,
+            rf: rf,
+            pairs: pairs,
+        },
+        Verdict::Opens(id, _) => Controller {
+            phase: phase,
+            given: id,
+            rf: rf,
+            pairs: pairs,
+        },
+        Verdict::Closes(_) => k,
+        Verdict::Turns(next) => turned(k, next),
+        Verdict::Selects(p) => turned(k, Rf::HostSelect(Selection::Chosen(p))),
+        Verdict::Deactivates(_, next) => turned(k, next),
+    }
+}
+
+// The connections after a verdict: a deactivation closes connection 0.
+pub fn conns_after(conns: [Counts; 5], v: Verdict) -> [Counts; 5]
+    ensures { λ r. ⌜ r ≡ connsAfter conns v ⌝ }
+{
+    match v {
+        Verdict::Refuses(_) => conns,
+        Verdict::Resets(_) => all_shut(conns),
+        Verdict::Initialises => conns,
+        Verdict::Opens(id, t) => opened_at(conns, id, t),
+        Verdict::Closes(id) => shut_at(conns, id),
+        Verdict::Turns(_) => conns,
+        Verdict::Selects(_) => conns,
+        Verdict::Deactivates(_, _) => shut_at(conns, 0),
+    }
+}
+
+// Whether a verdict closes connection 0, and with it the endpoint's message.
+pub fn closes_zero(v: Verdict) -> bool
+    ensures { λ r. ⌜ r ≡ closesZero v ⌝ }
+{
+    match v {
+        Verdict::Refuses(_) => false,
+        Verdict::Resets(_) => true,
+        Verdict::Initialises => false,
+        Verdict::Opens(_, _) => false,
+        Verdict::Closes(_) => false,
+        Verdict::Turns(_) => false,
+        Verdict::Selects(_) => false,
+        Verdict::Deactivates(_, _) => true,
+    }
+}

@@ -1,0 +1,31 @@
+-- Conn IDs and places undo one another.
+-- Assumes nothing.
+use Prim.Native.Nat.{ℕ, zero, suc, _<_}
+use native.Mathlib.Omega.{arith}
+use mathlib.Core.Path.{_≡_, refl, sym, _∙_}
+use mathlib.Core.Bool.{Bool, true, false}
+use lib.Dec.{eqb}
+use borrow.Author.Tests.{eqb-true}
+use Rattle.octets.specs.Octets.{pick}
+use Rattle.state.specs.Conn.{placeOf, connOf}
+
+pub place-conn : (p : ℕ) → p < 5 → placeOf (connOf p) ≡ p
+unfolding placeOf connOf
+place-conn zero h = refl
+place-conn (suc zero) h = refl
+place-conn (suc (suc zero)) h = refl
+place-conn (suc (suc (suc zero))) h = refl
+place-conn (suc (suc (suc (suc zero)))) h = refl
+place-conn (suc (suc (suc (suc (suc p))))) h = absurd (omega arith)
+
+-- a place is that of the one Conn ID that was looked up, or none
+on-place : (c n k : ℕ) {rest : ℕ} → connOf k ≡ n → (rest < 5 → connOf rest ≡ c) → pick (eqb c n) k rest < 5 → connOf (pick (eqb c n) k rest) ≡ c
+on-place c n k {rest} e f h = go (eqb c n) refl h
+  where
+    go : (b : Bool) → eqb c n ≡ b → pick b k rest < 5 → connOf (pick b k rest) ≡ c
+    go true t h = e ∙ sym (eqb-true c n t)
+    go false t h = f h
+
+pub conn-place : (c : ℕ) → placeOf c < 5 → connOf (placeOf c) ≡ c
+unfolding placeOf connOf
+conn-place c h = on-place c 0 0 refl (on-place c 2 1 refl (on-place c 3 2 refl (on-place c 4 3 refl (on-place c 5 4 refl (λ l. absurd (omega arith)))))) h

@@ -1,0 +1,111 @@
+-- Conn IDs and their places in the record's array of five; what a connection's counts are when it opens and closes.
+-- Assumes nothing.
+use Prim.Native.Nat.{ℕ}
+use mathlib.Core.Bool.{Bool, true, false, not}
+use mathlib.Core.List.{List}
+use lib.ListN.{getD, set}
+use lib.Dec.{eqb}
+use Rattle.octets.specs.Octets.{pick}
+use Rattle.state.specs.declared.kinds.Terms.{Terms}
+use Rattle.state.specs.declared.kinds.Profile.{Profile}
+use Rattle.state.specs.declared.kinds.Progress.{Progress}
+use Rattle.state.specs.declared.kinds.Hand.{Hand}
+use Rattle.state.specs.declared.kinds.Ring.{Ring}
+use Rattle.state.specs.declared.kinds.HostSide.{HostSide}
+use Rattle.state.specs.declared.kinds.ControllerSide.{ControllerSide}
+use Rattle.state.specs.declared.kinds.Counts.{Counts}
+
+-- ---- Conn ID and place
+
+-- connections are numbered 0, 2, 3, 4, 5; any other ID has the place 5, which is none
+unfoldable pub placeOf : ℕ → ℕ
+placeOf c =
+    pick (eqb c 0) 0
+    (pick (eqb c 2) 1
+    (pick (eqb c 3) 2
+    (pick (eqb c 4) 3
+    (pick (eqb c 5) 4 5))))
+
+unfoldable pub connOf : ℕ → ℕ
+connOf p =
+    pick (eqb p 0) 0
+    (pick (eqb p 1) 2
+    (pick (eqb p 2) 3
+    (pick (eqb p 3) 4 5)))
+
+-- ---- terms
+
+-- the payload and credits that the profile has for a Conn ID
+unfoldable pub termsOf : Profile → ℕ → Terms
+termsOf p c = pick (eqb c 0) (p .fixed) (p .dynamic)
+
+-- credits 255: no flow control
+abbrev pub flows : ℕ → Bool
+flows grant = not (eqb grant 255)
+
+-- ---- counts
+
+abbrev pub start : Progress
+start = record { len = 0; lost = false }
+
+-- no message in hand
+abbrev pub empty : Hand
+empty = record { full = false; len = 0; at = 0 }
+
+abbrev pub emptyRing : Ring
+emptyRing = record { head = 0; count = 0 }
+
+-- closing discards store, message in hand and reassembly at that end
+abbrev pub closedHost : HostSide
+closedHost = record { opened = false; payload = 0; grant = 0; held = 0; hand = empty; run = start }
+
+abbrev pub openedHost : Terms → HostSide
+openedHost t = record { opened = true; payload = t .payload; grant = t .credits; held = t .credits; hand = empty; run = start }
+
+abbrev pub closedController : ControllerSide
+closedController = record { opened = false; grant = 0; owed = 0; store = emptyRing; run = start }
+
+abbrev pub openedController : Terms → ControllerSide
+openedController t = record { opened = true; grant = t .credits; owed = 0; store = emptyRing; run = start }
+
+abbrev pub closedCounts : Counts
+closedCounts = record { host = closedHost; controller = closedController }
+
+-- the counts of a Conn ID; past the array's end those of a closed connection
+abbrev pub countsOf : List Counts → ℕ → Counts
+countsOf conns c = getD conns (placeOf c) closedCounts
+
+unfoldable pub openAt : List Counts → ℕ → Bool
+openAt conns c = countsOf conns c .controller .opened
+
+unfoldable pub heldOpen : List Counts → ℕ → Bool
+heldOpen conns c = countsOf conns c .host .opened
+
+-- the array with another host's or controller's side for a Conn ID
+abbrev pub withHost : List Counts → ℕ → HostSide → List Counts
+withHost conns c h = set conns (placeOf c) (record { host = h; controller = countsOf conns c .controller })
+
+abbrev pub withController : List Counts → ℕ → ControllerSide → List Counts
+withController conns c k = set conns (placeOf c) (record { host = countsOf conns c .host; controller = k })
+
+-- ---- closing and opening at the controller
+
+abbrev pub shutAt : List Counts → ℕ → List Counts
+shutAt conns c = withController conns c closedController
+
+abbrev pub openedAt : List Counts → ℕ → Terms → List Counts
+openedAt conns c t = withController conns c (openedController t)
+
+abbrev pub allShut : List Counts → List Counts
+allShut conns = shutAt (shutAt (shutAt (shutAt (shutAt conns 0) 2) 3) 4) 5
+
+-- ---- closing and opening at the host
+
+abbrev pub leftAt : List Counts → ℕ → List Counts
+leftAt conns c = withHost conns c closedHost
+
+abbrev pub joinedAt : List Counts → ℕ → Terms → List Counts
+joinedAt conns c t = withHost conns c (openedHost t)
+
+abbrev pub allLeft : List Counts → List Counts
+allLeft conns = leftAt (leftAt (leftAt (leftAt (leftAt conns 0) 2) 3) 4) 5

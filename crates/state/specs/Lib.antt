@@ -1,0 +1,4 @@
+pub mod Conn
+pub mod Radio
+pub mod Runs
+pub mod Commands

@@ -1,0 +1,250 @@
+// Conn IDs, their places in the record's array, and the terms that the profile has for them.
+use crate::kinds::ControllerSide;
+use crate::kinds::Counts;
+use crate::kinds::Hand;
+use crate::kinds::HostSide;
+use crate::kinds::Profile;
+use crate::kinds::Progress;
+use crate::kinds::Ring;
+use crate::kinds::Terms;
+ghost use mathlib.Core.Path.{_≡_};
+ghost use Rattle.state.specs.Conn.{placeOf, connOf, termsOf, heldOpen, openAt, start, empty, closedController, openedController, closedHost, openedHost, withController, withHost, shutAt, openedAt, allShut, leftAt, joinedAt, allLeft};
+
+// The place of a Conn ID in the array of five; 5 for an ID that no connection has.
+pub fn place_of(conn: u8) -> usize
+    ensures { λ r. ⌜ r ≡ placeOf conn ⌝ }
+{
+    match conn {
+        0 => 0,
+        2 => 1,
+        3 => 2,
+        4 => 3,
+        5 => 4,
+        _ => 5,
+    }
+}
+
+// The Conn ID of a place.
+pub fn conn_of(place: usize) -> u8
+    ensures { λ r. ⌜ r ≡ connOf place ⌝ }
+{
+    match place {
+        0 => 0,
+        1 => 2,
+        2 => 3,
+        3 => 4,
+        _ => 5,
+    }
+}
+
+// The terms that the profile has for a Conn ID.
+pub fn terms_of(p: Profile, conn: u8) -> Terms
+    ensures { λ r. ⌜ r ≡ termsOf p conn ⌝ }
+{
+    if conn == 0 {
+        let t = p.fixed;
+        t
+    } else {
+        let t = p.dynamic;
+        t
+    }
+}
+
+// Whether a Conn ID is open at the controller.
+pub fn open_at(conns: [Counts; 5], conn: u8) -> bool
+    ensures { λ r. ⌜ r ≡ openAt conns conn ⌝ }
+{
+    let place = place_of(conn);
+    if place < 5 {
+        let c = conns[place];
+        c.controller.opened
+    } else {
+        false
+    }
+}
+
+// Whether a Conn ID is open at the host.
+pub fn held_open(conns: [Counts; 5], conn: u8) -> bool
+    ensures { λ r. ⌜ r ≡ heldOpen conns conn ⌝ }
+{
+    let place = place_of(conn);
+    if place < 5 {
+        let c = conns[place];
+        c.host.opened
+    } else {
+        false
+    }
+}
+
+// No octet reassembled yet.
+pub fn start() -> Progress
+    ensures { λ r. ⌜ r ≡ start ⌝ }
+{
+    Progress {
+        len: 0,
+        lost: false,
+    }
+}
+
+// No message in hand.
+pub fn empty_hand() -> Hand
+    ensures { λ r. ⌜ r ≡ empty ⌝ }
+{
+    Hand {
+        full: false,
+        len: 0,
+        at: 0,
+    }
+}
+
+// A connection that is not open at the controller: nothing is stored, owed or in reassembly.
+pub fn closed_controller() -> ControllerSide
+    ensures { λ r. ⌜ r ≡ closedController ⌝ }
+{
+    ControllerSide {
+        opened: false,
+        grant: 0,
+        owed: 0,
+        store: Ring { head: 0, count: 0 },
+        run: Progress {
+            len: 0,
+            lost: false,
+        },
+    }
+}
+
+// One that the controller has just opened.
+pub fn opened_controller(t: Terms) -> ControllerSide
+    ensures { λ r. ⌜ r ≡ openedController t ⌝ }
+{
+    ControllerSide {
+        opened: true,
+        grant: t.credits,
+        owed: 0,
+        store: Ring { head: 0, count: 0 },
+        run: Progress {
+            len: 0,
+            lost: false,
+        },
+    }
+}
+
+// A connection that is not open at the host: no message is in hand or in reassembly.
+pub fn closed_host() -> HostSide
+    ensures { λ r. ⌜ r ≡ closedHost ⌝ }
+{
+    HostSide {
+        opened: false,
+        payload: 0,
+        grant: 0,
+        held: 0,
+        hand: Hand {
+            full: false,
+            len: 0,
+            at: 0,
+        },
+        run: Progress {
+            len: 0,
+            lost: false,
+        },
+    }
+}
+
+// One that the host has just opened, with its whole grant.
+pub fn opened_host(t: Terms) -> HostSide
+    ensures { λ r. ⌜ r ≡ openedHost t ⌝ }
+{
+    HostSide {
+        opened: true,
+        payload: t.payload,
+        grant: t.credits,
+        held: t.credits,
+        hand: Hand {
+            full: false,
+            len: 0,
+            at: 0,
+        },
+        run: Progress {
+            len: 0,
+            lost: false,
+        },
+    }
+}
+
+// The array with another controller's side for a Conn ID.
+pub fn with_controller(conns: [Counts; 5], conn: u8, side: ControllerSide) -> [Counts; 5]
+    ensures { λ r. ⌜ r ≡ withController conns conn side ⌝ }
+{
+    let place = place_of(conn);
+    let mut next = conns;
+    if place < 5 {
+        let mut c = conns[place];
+        c.controller = side;
+        next[place] = c;
+    }
+    next
+}
+
+// The array with another host's side for a Conn ID.
+pub fn with_host(conns: [Counts; 5], conn: u8, side: HostSide) -> [Counts; 5]
+    ensures { λ r. ⌜ r ≡ withHost conns conn side ⌝ }
+{
+    let place = place_of(conn);
+    let mut next = conns;
+    if place < 5 {
+        let mut c = conns[place];
+        c.host = side;
+        next[place] = c;
+    }
+    next
+}
+
+// A connection closes at the controller.
+pub fn shut_at(conns: [Counts; 5], conn: u8) -> [Counts; 5]
+    ensures { λ r. ⌜ r ≡ shutAt conns conn ⌝ }
+{
+    with_controller(conns, conn, closed_controller())
+}
+
+// A connection opens at the controller.
+pub fn opened_at(conns: [Counts; 5], conn: u8, t: Terms) -> [Counts; 5]
+    ensures { λ r. ⌜ r ≡ openedAt conns conn t ⌝ }
+{
+    with_controller(conns, conn, opened_controller(t))
+}
+
+// All connections close at the controller.
+pub fn all_shut(conns: [Counts; 5]) -> [Counts; 5]
+    ensures { λ r. ⌜ r ≡ allShut conns ⌝ }
+{
+    let a = shut_at(conns, 0);
+    let b = shut_at(a, 2);
+    let c = shut_at(b, 3);
+    let d = shut_at(c, 4);
+    shut_at(d, 5)
+}
+
+// A connection closes at the host.
+pub fn left_at(conns: [Counts; 5], conn: u8) -> [Counts; 5]
+    ensures { λ r. ⌜ r ≡ leftAt conns conn ⌝ }
+{
+    with_host(conns, conn, closed_host())
+}
+
+// A connection opens at the host.
+pub fn joined_at(conns: [Counts; 5], conn: u8, t: Terms) -> [Counts; 5]
+    ensures { λ r. ⌜ r ≡ joinedAt conns conn t ⌝ }
+{
+    with_host(conns, conn, opened_host(t))
+}
+
+// All connections close at the host.
+pub fn all_left(conns: [Counts; 5]) -> [Counts; 5]
+    ensures { λ r. ⌜ r ≡ allLeft conns ⌝ }
+{
+    let a = left_at(conns, 0);
+    let b = left_at(a, 2);
+    let c = left_at(b, 3);
+    let d = left_at(c, 4);
+    left_at(d, 5)
+}
