@@ -1,7 +1,7 @@
 // An event of the air through the controller's judgement: refusal 3 or 11, or the notification and the state after it.
 use crate::command::put_packet;
-use crate::state;
-use crate::state::State;
+use crate::given;
+use crate::given::State;
 use nfcc::air;
 use nfcc::air::Aired;
 use nfcc::air::Event;
@@ -16,7 +16,7 @@ fn put_taken(out: &mut [u8], at: usize, s: State, m: &[u8], a: Aired) -> usize {
     let notice = air::air_message(&mut ntf, p, e, m);
     let mut n = text::put(out, at, b" ans=0");
     n = put_packet(out, n, b" ntf=", packets::NOTIFICATION, notice, &ntf);
-    state::put_state(
+    given::put_state(
         out,
         n,
         air::controller_aired(k, a),

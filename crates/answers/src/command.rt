@@ -1,13 +1,13 @@
 // A command through the controller's judgement: its response, the notification after it, and the state after both.
-use crate::state;
-use crate::state::State;
-use state::conn;
+use crate::given;
+use crate::given::State;
 use nfcc::controller;
-use state::kinds::Counts;
-use state::kinds::Terms;
 use nfcc::layout;
 use nfcc::layout::Note;
 use packets::Header;
+use state::conn;
+use state::kinds::Counts;
+use state::kinds::Terms;
 
 // The packet of a message that was written to the front of a buffer; no octets for no message.
 pub fn put_packet(
@@ -52,7 +52,7 @@ pub fn put_answer(out: &mut [u8], at: usize, s: State, c: &[u8]) -> usize {
     let notice = layout::notice(&mut ntf, v);
     let mut n = put_packet(out, at, b" rsp=", packets::RESPONSE, response, &rsp);
     n = put_packet(out, n, b" ntf=", packets::NOTIFICATION, notice, &ntf);
-    state::put_state(
+    given::put_state(
         out,
         n,
         controller::controller_after(k, v),
@@ -72,7 +72,7 @@ fn owing(conns: [Counts; 5], id: u8, owed: u8) -> [Counts; 5] {
 
 // The fields that answer what is owed on the five connections: the credit notice.
 pub fn put_credits(out: &mut [u8], at: usize, owed: &[u8]) -> usize {
-    let a = owing(state::all_closed(), 0, octets::octet_at(owed, 0));
+    let a = owing(given::all_closed(), 0, octets::octet_at(owed, 0));
     let b = owing(a, 2, octets::octet_at(owed, 1));
     let c = owing(b, 3, octets::octet_at(owed, 2));
     let d = owing(c, 4, octets::octet_at(owed, 3));

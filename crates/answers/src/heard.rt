@@ -1,11 +1,11 @@
 // A whole control packet through the host's reading. The host as octets: the size at which its commands are cut; the
 // connections that it has open, as in a controller's state; and the GID, OID and aim of the unanswered command, if there is
 // one.
-use crate::state;
-use state::conn;
+use crate::given;
 use dh::host;
 use dh::host::Answer;
 use dh::host::Heard;
+use state::conn;
 use state::kinds::Asked;
 use state::kinds::Counts;
 use state::kinds::Host;
@@ -54,7 +54,7 @@ fn joined_where(yes: bool, conns: [Counts; 5], id: u8) -> [Counts; 5] {
 
 // The connections that the bits of a mask open.
 fn conns_of(mask: u8) -> [Counts; 5] {
-    let a = joined_where(mask % 2 == 1, state::all_closed(), 0);
+    let a = joined_where(mask % 2 == 1, given::all_closed(), 0);
     let b = joined_where(mask / 2 % 2 == 1, a, 2);
     let c = joined_where(mask / 4 % 2 == 1, b, 3);
     let d = joined_where(mask / 8 % 2 == 1, c, 4);
@@ -63,11 +63,11 @@ fn conns_of(mask: u8) -> [Counts; 5] {
 
 // The mask of the connections that are open at the host.
 fn mask_of(conns: [Counts; 5]) -> u8 {
-    let a = state::bit(conn::held_open(conns, 0), 1);
-    let b = state::bit(conn::held_open(conns, 2), 2);
-    let c = state::bit(conn::held_open(conns, 3), 4);
-    let d = state::bit(conn::held_open(conns, 4), 8);
-    let e = state::bit(conn::held_open(conns, 5), 16);
+    let a = given::bit(conn::held_open(conns, 0), 1);
+    let b = given::bit(conn::held_open(conns, 2), 2);
+    let c = given::bit(conn::held_open(conns, 3), 4);
+    let d = given::bit(conn::held_open(conns, 4), 8);
+    let e = given::bit(conn::held_open(conns, 5), 16);
     a + b + c + d + e
 }
 

@@ -1,6 +1,6 @@
 // A line of input to its answer. The forms:
 //
-//     no=NAME st=STATE cmd=COMMAND    a command to a controller in a state (state.rt): GID, OID, payload
+//     no=NAME st=STATE cmd=COMMAND    a command to a controller in a state (given.rt): GID, OID, payload
 //     no=NAME st=STATE air=EVENT      an event of the air, kind first, to such a controller
 //     no=NAME owed=CREDITS            the credit notice of a controller that owes so much on connections 0, 2, 3, 4, 5
 //     no=NAME host=HOST up=PACKET     a whole control packet to a host (heard.rt)
@@ -8,8 +8,8 @@
 // All but NAME are pairs of capital hexadecimal digits. A line of another form is answered by `bad`.
 use crate::aired;
 use crate::command;
+use crate::given;
 use crate::heard;
-use crate::state;
 use text::fields;
 use text::fields::Held;
 
@@ -22,7 +22,7 @@ fn of_command(out: &mut [u8], at: usize, st: &[u8], last: &[u8]) -> usize {
     let Held::Octets(n) = fields::octets_of(last, b" cmd=", &mut b) else {
         return at;
     };
-    command::put_answer(out, at, state::state_of(st), octets::window(&b, 0, n))
+    command::put_answer(out, at, given::state_of(st), octets::window(&b, 0, n))
 }
 
 // An event of the air.
@@ -31,7 +31,7 @@ fn of_event(out: &mut [u8], at: usize, st: &[u8], last: &[u8]) -> usize {
     let Held::Octets(n) = fields::octets_of(last, b" air=", &mut b) else {
         return at;
     };
-    aired::put_answer(out, at, state::state_of(st), octets::window(&b, 0, n))
+    aired::put_answer(out, at, given::state_of(st), octets::window(&b, 0, n))
 }
 
 // A command or an event.
@@ -41,7 +41,7 @@ fn of_controller(out: &mut [u8], at: usize, first: &[u8], last: &[u8]) -> usize 
         return at;
     };
     let st = octets::window(&b, 0, n);
-    if !state::is_state(st) {
+    if !given::is_state(st) {
         return at;
     }
     if fields::starts(last, b" cmd=") {

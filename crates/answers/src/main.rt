@@ -3,9 +3,9 @@
 // own, the output.
 mod aired;
 mod command;
+mod given;
 mod heard;
 mod line;
-mod state;
 
 use text::lines;
 

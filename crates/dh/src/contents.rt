@@ -1,8 +1,8 @@
 // Contents that the bench's controller writes (document 01, "Contents never written here have no effect", up under "Calls"): its
 // layouts at their exact lengths, with values inside its limits.
-use state::conn;
 use state::commands;
 use state::commands::Command;
+use state::conn;
 use state::radio;
 ghost use mathlib.Core.Path.{_≡_};
 ghost use Prim.Native.Nat.{_≤_};

@@ -1,9 +1,9 @@
 // The host's reading of a whole control message (document 01, up under "Calls").
-use state::conn;
 use crate::contents;
 use crate::contents::Notice;
 use state::commands;
 use state::commands::Command;
+use state::conn;
 use state::kinds::Asked;
 use state::kinds::Counts;
 use state::kinds::Host;

@@ -1,4 +1,10 @@
 // The air (document 01, "The air"): the octets of an event, whether the state takes it, its notification and the state after.
+use crate::layout::Note;
+use crate::layout::activated_ntf;
+use crate::layout::deactivate_ntf;
+use crate::layout::discover_ntf;
+use crate::layout::generic_error_ntf;
+use crate::layout::no_message;
 use state::conn::opened_at;
 use state::conn::shut_at;
 use state::conn::terms_of;
@@ -10,12 +16,6 @@ use state::kinds::Pairs;
 use state::kinds::Profile;
 use state::kinds::Rf;
 use state::kinds::Selection;
-use crate::layout::Note;
-use crate::layout::activated_ntf;
-use crate::layout::deactivate_ntf;
-use crate::layout::discover_ntf;
-use crate::layout::generic_error_ntf;
-use crate::layout::no_message;
 use state::radio::added_to;
 use state::radio::id_ok;
 use state::radio::is_active;

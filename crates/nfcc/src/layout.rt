@@ -1,7 +1,7 @@
 // The octets of every message that the controller sends, written into a buffer that the caller lends. The longest is an
 // activation with 32 parameter octets: 43 octets.
-use state::conn::conn_of;
 use crate::controller::Verdict;
+use state::conn::conn_of;
 use state::kinds::Activation;
 use state::kinds::Counts;
 use state::kinds::Profile;

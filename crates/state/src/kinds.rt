@@ -145,3 +145,10 @@ pub struct Ends {
     pub endpoint: Hand,
     pub conns: [Counts; 5],
 }
+
+// The record: both ends, and the rings of the two wires.
+pub struct Record {
+    pub ends: Ends,
+    pub down: Ring,
+    pub up: Ring,
+}
