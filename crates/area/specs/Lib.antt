@@ -1,2 +1,3 @@
 pub mod Map
 pub mod Ring
+pub mod Movers

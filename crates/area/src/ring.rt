@@ -1,7 +1,7 @@
 // Rings of slots, by their numbers: where the first packet is, where the next goes, and the ring after it was taken or put.
 use state::kinds::Ring;
 ghost use mathlib.Core.Path.{_≡_};
-ghost use Prim.Native.Nat.{_≤_, _<_};
+ghost use Prim.Native.Nat.{_+_, _^_, _≤_, _<_};
 ghost use Rattle.area.specs.Ring.{firstAt, freeAt, tookFrom, putInto};
 
 // Octets of a slot: the longest packet.
@@ -22,7 +22,7 @@ pub fn first_at(base: usize, r: Ring) -> usize
 
 // Where the first free slot starts.
 pub fn free_at(base: usize, cap: usize, r: Ring) -> usize
-    requires { ⌜ (base ≤ 36864) × (0 < cap) × (cap ≤ 16) × (r .head < 16) × (r .count ≤ 16) ⌝ }
+    requires { ⌜ (base + 4128 < 2 ^ 64) × (0 < cap) × (cap ≤ 16) × (r .head < 16) × (r .count ≤ 16) ⌝ }
     ensures { λ x. ⌜ x ≡ freeAt base cap r ⌝ }
 {
     (r.head + r.count) % cap * SLOT + base
