@@ -114,7 +114,8 @@ fn put_next(area: &mut [u8], base: usize, r: Ring, h: Header, size: usize, msg: 
     put_piece(area, slot, h, size, msg, at);
 }
 
-// Writes all segments of a message of the caller, one after the other, into the free slots of a wire. How many they are.
+// Writes all segments of a message of the caller, one after the other, into the free slots of a wire. How many they are. The
+// last comes after the loop: an empty message is one segment too.
 pub fn put_all(area: &mut [u8], base: usize, r: Ring, h: Header, size: usize, msg: &[u8]) -> usize
     requires { ⌜ (1 ≤ size) × (size ≤ 255) × (length (now msg) ≤ 255) × (r .head < 16) × (r .count + length (segments size (now msg)) ≤ 16) × (base + 4128 ≤ length (now area)) ⌝ }
     ensures { λ x. ⌜ (x ≡ length (segments size (now (msg .entry)))) × (now (area .exit) ≡ putsAll base (now (area .entry)) r (packetsOf h size (now (msg .entry)))) ⌝ }

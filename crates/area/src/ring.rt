@@ -20,7 +20,7 @@ pub fn first_at(base: usize, r: Ring) -> usize
     r.head * SLOT + base
 }
 
-// Where the first free slot starts.
+// Where the first free slot starts. Any base will do from which sixteen slots end at a number that a usize holds.
 pub fn free_at(base: usize, cap: usize, r: Ring) -> usize
     requires { ⌜ (base + 4128 < 2 ^ 64) × (0 < cap) × (cap ≤ 16) × (r .head < 16) × (r .count ≤ 16) ⌝ }
     ensures { λ x. ⌜ x ≡ freeAt base cap r ⌝ }
