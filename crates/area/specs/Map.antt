@@ -2,7 +2,7 @@
 -- record and area"). A place is a connection's place in the record's array, 0 to 4 (Conn, `placeOf`).
 -- Assumes nothing.
 use Prim.Native.Nat.{ℕ, _+_, _*_}
-use mathlib.Core.Path.{_≡_, refl}
+use mathlib.Core.Path.{_≡_}
 
 -- ---- sizes
 
