@@ -47,7 +47,7 @@ pub apart : (l : Octets) (at : ℕ) (vs : Octets) (off n : ℕ) → (off + n ≤
 apart l at vs off n (inl h) = cut-before l at vs off n h
 apart l at vs off n (inr h) = cut-after l at vs off n h
 
-lt-cases : (i j : ℕ) → (i ≡ j → ⊥) → (i < j) ⊎ (j < i)
+pub lt-cases : (i j : ℕ) → (i ≡ j → ⊥) → (i < j) ⊎ (j < i)
 lt-cases i j ne = go (ltb i j) refl
   where
     go : (b : Bool) → ltb i j ≡ b → (i < j) ⊎ (j < i)
