@@ -1,24 +1,24 @@
 -- The laws of slots and rings, for every base and for both capacities: what a write leaves alone, what a slot then holds, and
 -- the packets of a ring after one is taken or put.
 -- Assumes nothing.
-use Prim.Native.Nat.{ℕ, zero, suc, _+_, _-_, _*_, _%_, _≤_, _<_, zero-le, suc-le-suc}
+use Prim.Native.Nat.{ℕ, zero, suc, _+_, _-_, _%_, _≤_, _<_, zero-le, suc-le-suc}
 use native.Mathlib.Nat.{not-suc-le-zero, add-zero, add-suc, suc-add, add-comm}
 use native.Mathlib.Numerals.{add-one, add-three}
 use native.Mathlib.Omega.{arith}
-use mathlib.Core.Path.{_≡_, refl, sym, ap, _∙_}
+use mathlib.Core.Path.{_≡_, refl, ap, _∙_}
 use mathlib.Core.Logic.{_⊎_, inl, inr, ⊎-elim}
 use mathlib.Core.Bool.{Bool, true, false}
 use mathlib.Core.List.{List, [], _∷_, _++_}
-use lib.ListN.{length, take, drop, getD}
+use lib.ListN.{length, take}
 use lib.Dec.{ltb}
 use borrow.Author.Tests.{ltb-true, ltb-false}
 use Rattle.octets.specs.Octets.{Octets, cut, over, splice}
-use Rattle.octets.proofs.Octets.{length-cut, length-splice, cut-before, cut-after}
+use Rattle.octets.proofs.Octets.{length-cut, cut-before, cut-after}
 use Rattle.packets.specs.declared.Header.{Header}
 use Rattle.packets.specs.Packet.{octet0, octet1, packetOf}
 use Rattle.packets.proofs.Packet.{length-packet}
 use Rattle.state.specs.declared.kinds.Ring.{Ring}
-use Rattle.area.specs.Ring.{slotAt, slotIn, trim, slotPacket, tab, packetsFrom, packetsIn, freeAt, tookFrom, putInto}
+use Rattle.area.specs.Ring.{slotAt, trim, slotPacket, tab, packetsFrom, packetsIn, freeAt, tookFrom, putInto}
 
 -- ---- tables
 
@@ -152,7 +152,7 @@ module _ (base cap : ℕ) (z : Size cap) where
       let e : r .count ≡ suc (r .count - 1) = omega arith in
       ap (tab f (r .head)) e
       ∙ (λ j. slotPacket base a (z .small (r .head) h j)
-          ∷ tab-ext f f (suc (r .head)) ((r .head + 1) % cap) (r .count - 1) (λ i l. ap (slotPacket base a) (z .step (r .head) i)) j)
+      ∷ tab-ext f f (suc (r .head)) ((r .head + 1) % cap) (r .count - 1) (λ i l. ap (slotPacket base a) (z .step (r .head) i)) j)
 
   -- one packet more, in the first free slot
   pub packets-put : (a : Octets) (r : Ring) (v x : Octets) → r .count < cap → length v ≤ 258
@@ -164,4 +164,4 @@ module _ (base cap : ℕ) (z : Size cap) where
       let f : ℕ → Octets = λ i. slotPacket base b (i % cap) in
       ap (tab f (r .head)) (add-one (r .count)) ∙ tab-snoc f (r .head) (r .count)
       ∙ (λ j. tab-ext f (λ i. slotPacket base a (i % cap)) (r .head) (r .head) (r .count)
-          (λ i k. slot-other base a ((r .head + i) % cap) ((r .head + r .count) % cap) v l (z .differ (r .head) i (r .count) k h)) j ++ (e j ∷ []))
+      (λ i k. slot-other base a ((r .head + i) % cap) ((r .head + r .count) % cap) v l (z .differ (r .head) i (r .count) k h)) j ++ (e j ∷ []))

@@ -1,0 +1,24 @@
+-- The laws of `loadOf`: an area that is too short, one whose record cannot be, and one whose record is loaded.
+-- Assumes nothing.
+use Prim.Native.Nat.{_≤_, _<_}
+use mathlib.Core.Path.{_≡_}
+use mathlib.Core.Bool.{true, false}
+use borrow.Author.Tests.{lt-ltb, le-ltb}
+use lib.ListN.{length}
+use Rattle.octets.specs.Octets.{Octets}
+use Rattle.record.specs.Reading.{decodeOf}
+use Rattle.record.specs.Judge.{judgeOf}
+use Rattle.record.specs.Load.{blank, loaded, loadOf}
+
+pub short-load : (area : Octets) → length area < 36864 → loadOf area ≡ loaded 2 blank
+unfolding loadOf
+short-load area h = rw (lt-ltb (length area) 36864 h)
+
+module _ (area : Octets) (long : 36864 ≤ length area) where
+  pub long-load : judgeOf area ≡ true → loadOf area ≡ loaded 0 (decodeOf area)
+  unfolding loadOf
+  long-load h = rw (le-ltb (length area) 36864 long, h)
+
+  pub bad-load : judgeOf area ≡ false → loadOf area ≡ loaded 1 (decodeOf area)
+  unfolding loadOf
+  bad-load h = rw (le-ltb (length area) 36864 long, h)

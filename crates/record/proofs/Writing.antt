@@ -1,0 +1,147 @@
+-- The octets of a record, part after part: how many they are, and that stores one after another write them all.
+-- Assumes nothing.
+use Prim.Native.Nat.{ℕ, _+_}
+use mathlib.Core.Path.{_≡_, refl, sym, ap, _∙_}
+use mathlib.Core.List.{List, [], _∷_, _++_}
+use lib.ListN.{length, length-append}
+use Rattle.octets.specs.Octets.{Octets, splice}
+use Rattle.octets.proofs.Octets.{splice-next}
+use Rattle.state.specs.declared.kinds.Profile.{Profile}
+use Rattle.state.specs.declared.kinds.Selection.the-variants as selection
+use Rattle.state.specs.declared.kinds.Rf.{Rf}
+use Rattle.state.specs.declared.kinds.Rf.the-variants.{Idle, Discovery, AllDiscoveries, HostSelect, PollActive, ListenActive, ListenSleep}
+use Rattle.state.specs.declared.kinds.Pairs.{Pairs}
+use Rattle.state.specs.declared.kinds.ControlRun.{ControlRun}
+use Rattle.state.specs.declared.kinds.Controller.{Controller}
+use Rattle.state.specs.declared.kinds.Pending.{Pending}
+use Rattle.state.specs.declared.kinds.Pending.the-variants as pending
+use Rattle.state.specs.declared.kinds.Host.{Host}
+use Rattle.state.specs.declared.kinds.Counts.{Counts}
+use Rattle.state.specs.declared.kinds.Ends.{Ends}
+use Rattle.state.specs.declared.kinds.Record.{Record}
+use Rattle.record.specs.Writing.{pendingOctets, phaseOctet, rfOctets, profileOctets, controlRunOctets, handOctets, ringOctets, hostOctets, pairsOctets, controllerOctets, countsOctets, countsIn, connsOctets, frontOctets, middleOctets, wiresOctets, encodeOf}
+
+-- ---- lengths
+
+length-profile : (p : Profile) → length (profileOctets p) ≡ 5
+unfolding profileOctets
+length-profile p = refl
+
+length-pending : (p : Pending) → length (pendingOctets p) ≡ 4
+unfolding pendingOctets
+length-pending pending.Nothing = refl
+length-pending (pending.Command a) = refl
+
+length-host : (h : Host) → length (hostOctets h) ≡ 5
+unfolding hostOctets
+length-host h = rw (length-pending (h .pending))
+
+length-run : (r : ControlRun) → length (controlRunOctets r) ≡ 6
+unfolding controlRunOctets
+length-run r = refl
+
+length-rf : (x : Rf) → length (rfOctets x) ≡ 4
+unfolding rfOctets
+length-rf Idle = refl
+length-rf Discovery = refl
+length-rf AllDiscoveries = refl
+length-rf (HostSelect selection.Nothing) = refl
+length-rf (HostSelect (selection.Chosen p)) = refl
+length-rf (PollActive a) = refl
+length-rf (ListenActive a) = refl
+length-rf ListenSleep = refl
+
+length-pairs : (k : Pairs) → length (pairsOctets k) ≡ 17
+unfolding pairsOctets
+length-pairs k = refl
+
+length-controller : (k : Controller) → length (controllerOctets k) ≡ 23
+unfolding controllerOctets
+length-controller k = simp (length-append, length-rf, length-pairs)
+
+length-counts : (c : Counts) → length (countsOctets c) ≡ 20
+unfolding countsOctets handOctets ringOctets
+length-counts c = refl
+
+length-conns : (l : List Counts) → length (connsOctets l) ≡ 100
+unfolding connsOctets
+length-conns l = simp (length-append, length-counts)
+
+length-front : (e : Ends) → length (frontOctets e) ≡ 16
+unfolding frontOctets
+length-front e = simp (length-append, length-profile, length-host, length-run)
+
+length-middle : (e : Ends) → length (middleOctets e) ≡ 11
+unfolding middleOctets controlRunOctets handOctets
+length-middle e = refl
+
+length-wires : (r : Record) → length (wiresOctets r) ≡ 4
+unfolding wiresOctets ringOctets
+length-wires r = refl
+
+pub length-encode : (r : Record) → length (encodeOf r) ≡ 154
+unfolding encodeOf
+length-encode r = simp (length-append, length-front, length-controller, length-middle, length-conns, length-wires)
+
+-- ---- stores, one after another
+
+next : (l : Octets) (at k : ℕ) (a b : Octets) → length a ≡ k → splice (splice l at a) (at + k) b ≡ splice l at (a ++ b)
+next l at k a b e = ap (λ (n : ℕ). splice (splice l at a) (at + n) b) (sym e) ∙ splice-next l at a b
+
+module _ (l : Octets) (at : ℕ) where
+  pub front-stored : (e : Ends)
+      → splice (splice (splice l at (profileOctets (e .profile))) (at + 5) (hostOctets (e .host))) (at + 10) (controlRunOctets (e .hearing))
+      ≡ splice l at (frontOctets e)
+  unfolding frontOctets
+  front-stored e =
+      let p = profileOctets (e .profile) in
+      let h = hostOctets (e .host) in
+      rw (
+        next l at 5 p h (length-profile _),
+        next l at 10 (p ++ h) (controlRunOctets (e .hearing)) (simp (length-append, length-profile, length-host)),
+      )
+
+  pub controller-stored : (k : Controller)
+      → splice (splice (splice l at (phaseOctet (k .phase) ∷ k .given ∷ [])) (at + 2) (rfOctets (k .rf))) (at + 6) (pairsOctets (k .pairs))
+      ≡ splice l at (controllerOctets k)
+  unfolding controllerOctets
+  controller-stored k =
+      let h : Octets = phaseOctet (k .phase) ∷ k .given ∷ [] in
+      let x = rfOctets (k .rf) in
+      rw (
+        next l at 2 h x refl,
+        next l at 6 (h ++ x) (pairsOctets (k .pairs)) (rw (length-rf (k .rf))),
+      )
+
+  pub middle-stored : (e : Ends) → splice (splice l at (controlRunOctets (e .asking))) (at + 6) (handOctets (e .endpoint)) ≡ splice l at (middleOctets e)
+  unfolding middleOctets
+  middle-stored e = next l at 6 (controlRunOctets (e .asking)) (handOctets (e .endpoint)) (length-run (e .asking))
+
+  pub conns-stored : (s : List Counts)
+      → splice (splice (splice (splice (splice l at (countsIn s 0)) (at + 20) (countsIn s 1)) (at + 40) (countsIn s 2)) (at + 60) (countsIn s 3)) (at + 80) (countsIn s 4)
+      ≡ splice l at (connsOctets s)
+  unfolding connsOctets
+  conns-stored s =
+      let b : ℕ → Octets = λ i. countsIn s i in
+      rw (
+        next l at 20 (b 0) (b 1) (length-counts _),
+        next l at 40 (b 0 ++ b 1) (b 2) (simp (length-append, length-counts)),
+        next l at 60 (b 0 ++ b 1 ++ b 2) (b 3) (simp (length-append, length-counts)),
+        next l at 80 (b 0 ++ b 1 ++ b 2 ++ b 3) (b 4) (simp (length-append, length-counts)),
+      )
+
+pub encode-stored : (l : Octets) (r : Record)
+    → splice (splice (splice (splice (splice l 36352 (frontOctets (r .ends))) 36368 (controllerOctets (r .ends .controller))) 36391 (middleOctets (r .ends))) 36402 (connsOctets (r .ends .conns))) 36502 (wiresOctets r)
+    ≡ splice l 36352 (encodeOf r)
+unfolding encodeOf
+encode-stored l r =
+    let f = frontOctets (r .ends) in
+    let k = controllerOctets (r .ends .controller) in
+    let m = middleOctets (r .ends) in
+    let s = connsOctets (r .ends .conns) in
+    rw (
+      next l 36352 16 f k (length-front _),
+      next l 36352 39 (f ++ k) m (simp (length-append, length-front, length-controller)),
+      next l 36352 50 (f ++ k ++ m) s (simp (length-append, length-front, length-controller, length-middle)),
+      next l 36352 150 (f ++ k ++ m ++ s) (wiresOctets r) (simp (length-append, length-front, length-controller, length-middle, length-conns)),
+    )

@@ -1,0 +1,42 @@
+-- `record::judge::judge` meets its contract.
+-- Assumes nothing.
+use Rattle.record.specs.Judge.{judgeOf}
+use Rattle.record.specs.Layout.{slot}
+use Rattle.octets.specs.Octets.{cut}
+use borrow.Author.Needs.{needs}
+use Rattle.record.proofs.judge.judge.Statement.{statement}
+use Rattle.record.proofs.judge.judge.Tie as tie
+
+sub-tags-ok : tie.Need-sub-tags-ok
+sub-tags-ok c = search needs
+
+part-tags-ok-start : tie.Need-part-tags-ok-start
+part-tags-ok-start c = search needs
+
+part-tags-ok-end : tie.Need-part-tags-ok-end
+part-tags-ok-end c = search needs
+
+tags-ok-requires : tie.Need-tags-ok-requires
+tags-ok-requires c κs = search needs
+
+decode-requires : tie.Need-decode-requires
+decode-requires c κs = search needs
+
+record-ok-requires : tie.Need-record-ok-requires
+record-ok-requires c κs = search needs
+
+returns : tie.Need-returns
+unfolding judgeOf slot cut
+returns c = rw (c .record-ok .ensures, c .before .decode .ensures, c .before .before .tags-ok .ensures)
+
+pub judge-spec : {M : Type 1} → statement M
+judge-spec =
+    tie.close
+    (tie.spec
+    sub-tags-ok
+    part-tags-ok-start
+    part-tags-ok-end
+    tags-ok-requires
+    decode-requires
+    record-ok-requires
+    returns)

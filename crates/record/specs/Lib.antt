@@ -1,0 +1,7 @@
+pub mod Layout
+pub mod Reading
+pub mod Writing
+pub mod Judge
+pub mod Load
+pub mod Fit
+pub mod Claims

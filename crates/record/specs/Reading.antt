@@ -1,0 +1,149 @@
+-- The record that octets say. In each definition s is the record's 512 octets and at is where the part stands in them.
+-- Assumes nothing.
+use Prim.Native.Nat.{ℕ, _+_, _*_}
+use mathlib.Core.List.{List, [], _∷_}
+use lib.ListN.{getD}
+use lib.Dec.{eqb}
+use Rattle.octets.specs.Octets.{Octets, pick}
+use Rattle.state.specs.declared.kinds.Profile.{Profile}
+use Rattle.state.specs.declared.kinds.Pair.{Pair}
+use Rattle.state.specs.declared.kinds.Selection.the-variants as selection
+use Rattle.state.specs.declared.kinds.Rf.{Rf}
+use Rattle.state.specs.declared.kinds.Rf.the-variants.{Idle, Discovery, AllDiscoveries, HostSelect, PollActive, ListenActive, ListenSleep}
+use Rattle.state.specs.declared.kinds.Pairs.{Pairs}
+use Rattle.state.specs.declared.kinds.Progress.{Progress}
+use Rattle.state.specs.declared.kinds.ControlRun.{ControlRun}
+use Rattle.state.specs.declared.kinds.Phase.{Phase}
+use Rattle.state.specs.declared.kinds.Phase.the-variants.{Cold, Reset, Ready}
+use Rattle.state.specs.declared.kinds.Controller.{Controller}
+use Rattle.state.specs.declared.kinds.Pending.{Pending}
+use Rattle.state.specs.declared.kinds.Pending.the-variants as pending
+use Rattle.state.specs.declared.kinds.Host.{Host}
+use Rattle.state.specs.declared.kinds.Hand.{Hand}
+use Rattle.state.specs.declared.kinds.Ring.{Ring}
+use Rattle.state.specs.declared.kinds.HostSide.{HostSide}
+use Rattle.state.specs.declared.kinds.ControllerSide.{ControllerSide}
+use Rattle.state.specs.declared.kinds.Counts.{Counts}
+use Rattle.state.specs.declared.kinds.Ends.{Ends}
+use Rattle.state.specs.declared.kinds.Record.{Record}
+use Rattle.record.specs.Layout.{slot, profilePlace, hostPlace, hearingPlace, controllerPlace, askingPlace, endpointPlace, connsPlace, downPlace, upPlace}
+
+-- ---- numbers
+
+unfoldable pub wideAt : Octets → ℕ → ℕ
+wideAt s at = getD s at 0 * 256 + getD s (at + 1) 0
+
+-- ---- cases: a tag that is none of them reads as the first
+
+unfoldable pub pendingOf : ℕ → ℕ → ℕ → ℕ → Pending
+pendingOf tag g o a = pick (eqb tag 1) (pending.Command (record { gid = g; oid = o; aim = a })) pending.Nothing
+
+unfoldable pub phaseOf : ℕ → Phase
+phaseOf tag = pick (eqb tag 1) Reset (pick (eqb tag 2) Ready Cold)
+
+unfoldable pub rfOf : ℕ → ℕ → ℕ → ℕ → Rf
+rfOf tag a b c =
+    pick (eqb tag 1) Discovery
+    (pick (eqb tag 2) AllDiscoveries
+    (pick (eqb tag 3) (pick (eqb a 1) (HostSelect (selection.Chosen (record { id = b; protocol = c }))) (HostSelect selection.Nothing))
+    (pick (eqb tag 4) (PollActive (record { id = a; protocol = b; mode = c }))
+    (pick (eqb tag 5) (ListenActive (record { id = a; protocol = b; mode = c }))
+    (pick (eqb tag 6) ListenSleep Idle)))))
+
+-- ---- parts of both ends
+
+unfoldable pub profileAt : Octets → ℕ → Profile
+profileAt s at =
+    record {
+      control = getD s at 0;
+      dynamic = record { payload = getD s (at + 1) 0; credits = getD s (at + 2) 0 };
+      fixed = record { payload = getD s (at + 3) 0; credits = getD s (at + 4) 0 };
+    }
+
+unfoldable pub progressAt : Octets → ℕ → Progress
+progressAt s at = record { len = wideAt s at; lost = eqb (getD s (at + 2) 0) 1 }
+
+unfoldable pub controlRunAt : Octets → ℕ → ControlRun
+controlRunAt s at = record { mt = getD s at 0; gid = getD s (at + 1) 0; oid = getD s (at + 2) 0; run = progressAt s (at + 3) }
+
+unfoldable pub handAt : Octets → ℕ → Hand
+handAt s at = record { full = eqb (getD s at 0) 1; len = wideAt s (at + 1); at = wideAt s (at + 3) }
+
+unfoldable pub ringAt : Octets → ℕ → Ring
+ringAt s at = record { head = getD s at 0; count = getD s (at + 1) 0 }
+
+-- ---- the two ends
+
+unfoldable pub hostAt : Octets → ℕ → Host
+hostAt s at = record { size = getD s at 0; pending = pendingOf (getD s (at + 1) 0) (getD s (at + 2) 0) (getD s (at + 3) 0) (getD s (at + 4) 0) }
+
+unfoldable pub pairAt : Octets → ℕ → Pair
+pairAt s at = record { id = getD s at 0; protocol = getD s (at + 1) 0 }
+
+unfoldable pub pairsAt : Octets → ℕ → Pairs
+pairsAt s at =
+    record {
+      list =
+          pairAt s at ∷ pairAt s (at + 2) ∷ pairAt s (at + 4) ∷ pairAt s (at + 6)
+          ∷ pairAt s (at + 8) ∷ pairAt s (at + 10) ∷ pairAt s (at + 12) ∷ pairAt s (at + 14) ∷ [];
+      count = getD s (at + 16) 0;
+    }
+
+unfoldable pub controllerAt : Octets → ℕ → Controller
+controllerAt s at =
+    record {
+      phase = phaseOf (getD s at 0);
+      given = getD s (at + 1) 0;
+      rf = rfOf (getD s (at + 2) 0) (getD s (at + 3) 0) (getD s (at + 4) 0) (getD s (at + 5) 0);
+      pairs = pairsAt s (at + 6);
+    }
+
+-- ---- connections
+
+unfoldable pub hostSideAt : Octets → ℕ → HostSide
+hostSideAt s at =
+    record {
+      opened = eqb (getD s at 0) 1;
+      payload = getD s (at + 1) 0;
+      grant = getD s (at + 2) 0;
+      held = getD s (at + 3) 0;
+      hand = handAt s (at + 4);
+      run = progressAt s (at + 9);
+    }
+
+unfoldable pub controllerSideAt : Octets → ℕ → ControllerSide
+controllerSideAt s at =
+    record {
+      opened = eqb (getD s at 0) 1;
+      grant = getD s (at + 1) 0;
+      owed = getD s (at + 2) 0;
+      store = ringAt s (at + 3);
+      run = progressAt s (at + 5);
+    }
+
+unfoldable pub countsAt : Octets → ℕ → Counts
+countsAt s at = record { host = hostSideAt s at; controller = controllerSideAt s (at + 12) }
+
+unfoldable pub connsAt : Octets → ℕ → List Counts
+connsAt s at = countsAt s at ∷ countsAt s (at + 20) ∷ countsAt s (at + 40) ∷ countsAt s (at + 60) ∷ countsAt s (at + 80) ∷ []
+
+-- ---- the record
+
+unfoldable pub endsOf : Octets → Ends
+endsOf s =
+    record {
+      profile = profileAt s profilePlace;
+      host = hostAt s hostPlace;
+      hearing = controlRunAt s hearingPlace;
+      controller = controllerAt s controllerPlace;
+      asking = controlRunAt s askingPlace;
+      endpoint = handAt s endpointPlace;
+      conns = connsAt s connsPlace;
+    }
+
+unfoldable pub recordOf : Octets → Record
+recordOf s = record { ends = endsOf s; down = ringAt s downPlace; up = ringAt s upPlace }
+
+-- the record of an area
+unfoldable pub decodeOf : Octets → Record
+decodeOf area = recordOf (slot area)

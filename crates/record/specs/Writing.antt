@@ -1,0 +1,123 @@
+-- The octets of a record, in the order of Layout. Octets that a case does not use are 0.
+-- Assumes nothing.
+use Prim.Native.Nat.{ℕ}
+use mathlib.Core.List.{List, [], _∷_, _++_}
+use lib.ListN.{getD}
+use Rattle.octets.specs.Octets.{Octets}
+use Rattle.state.specs.declared.kinds.Profile.{Profile}
+use Rattle.state.specs.declared.kinds.Pair.{Pair}
+use Rattle.state.specs.declared.kinds.Selection.the-variants as selection
+use Rattle.state.specs.declared.kinds.Rf.{Rf}
+use Rattle.state.specs.declared.kinds.Rf.the-variants.{Idle, Discovery, AllDiscoveries, HostSelect, PollActive, ListenActive, ListenSleep}
+use Rattle.state.specs.declared.kinds.Pairs.{Pairs}
+use Rattle.state.specs.declared.kinds.Progress.{Progress}
+use Rattle.state.specs.declared.kinds.ControlRun.{ControlRun}
+use Rattle.state.specs.declared.kinds.Phase.{Phase}
+use Rattle.state.specs.declared.kinds.Phase.the-variants.{Cold, Reset, Ready}
+use Rattle.state.specs.declared.kinds.Controller.{Controller}
+use Rattle.state.specs.declared.kinds.Pending.{Pending}
+use Rattle.state.specs.declared.kinds.Pending.the-variants as pending
+use Rattle.state.specs.declared.kinds.Host.{Host}
+use Rattle.state.specs.declared.kinds.Hand.{Hand}
+use Rattle.state.specs.declared.kinds.Ring.{Ring}
+use Rattle.state.specs.declared.kinds.HostSide.{HostSide}
+use Rattle.state.specs.declared.kinds.ControllerSide.{ControllerSide}
+use Rattle.state.specs.declared.kinds.Counts.{Counts}
+use Rattle.state.specs.declared.kinds.Ends.{Ends}
+use Rattle.state.specs.declared.kinds.Record.{Record}
+use Rattle.state.specs.Conn.{closedCounts}
+use Rattle.record.specs.Layout.{high, low, bit}
+
+-- ---- cases
+
+unfoldable pub pendingOctets : Pending → Octets
+pendingOctets pending.Nothing = 0 ∷ 0 ∷ 0 ∷ 0 ∷ []
+pendingOctets (pending.Command a) = 1 ∷ a .gid ∷ a .oid ∷ a .aim ∷ []
+
+unfoldable pub phaseOctet : Phase → ℕ
+phaseOctet Cold = 0
+phaseOctet Reset = 1
+phaseOctet Ready = 2
+
+unfoldable pub rfOctets : Rf → Octets
+rfOctets Idle = 0 ∷ 0 ∷ 0 ∷ 0 ∷ []
+rfOctets Discovery = 1 ∷ 0 ∷ 0 ∷ 0 ∷ []
+rfOctets AllDiscoveries = 2 ∷ 0 ∷ 0 ∷ 0 ∷ []
+rfOctets (HostSelect selection.Nothing) = 3 ∷ 0 ∷ 0 ∷ 0 ∷ []
+rfOctets (HostSelect (selection.Chosen p)) = 3 ∷ 1 ∷ p .id ∷ p .protocol ∷ []
+rfOctets (PollActive a) = 4 ∷ a .id ∷ a .protocol ∷ a .mode ∷ []
+rfOctets (ListenActive a) = 5 ∷ a .id ∷ a .protocol ∷ a .mode ∷ []
+rfOctets ListenSleep = 6 ∷ 0 ∷ 0 ∷ 0 ∷ []
+
+-- ---- parts of both ends
+
+unfoldable pub profileOctets : Profile → Octets
+profileOctets p = p .control ∷ p .dynamic .payload ∷ p .dynamic .credits ∷ p .fixed .payload ∷ p .fixed .credits ∷ []
+
+abbrev pub progressOctets : Progress → Octets
+progressOctets p = high (p .len) ∷ low (p .len) ∷ bit (p .lost) ∷ []
+
+unfoldable pub controlRunOctets : ControlRun → Octets
+controlRunOctets r = r .mt ∷ r .gid ∷ r .oid ∷ progressOctets (r .run)
+
+unfoldable pub handOctets : Hand → Octets
+handOctets h = bit (h .full) ∷ high (h .len) ∷ low (h .len) ∷ high (h .at) ∷ low (h .at) ∷ []
+
+unfoldable pub ringOctets : Ring → Octets
+ringOctets k = low (k .head) ∷ low (k .count) ∷ []
+
+-- ---- the two ends
+
+unfoldable pub hostOctets : Host → Octets
+hostOctets h = h .size ∷ pendingOctets (h .pending)
+
+-- a pair past the list's end; no list of the record is that short
+abbrev pub noPair : Pair
+noPair = record { id = 0; protocol = 0 }
+
+abbrev pub pairOctets : List Pair → ℕ → Octets
+pairOctets l i = getD l i noPair .id ∷ getD l i noPair .protocol ∷ []
+
+unfoldable pub pairsOctets : Pairs → Octets
+pairsOctets k =
+    pairOctets (k .list) 0 ++ pairOctets (k .list) 1 ++ pairOctets (k .list) 2 ++ pairOctets (k .list) 3
+    ++ pairOctets (k .list) 4 ++ pairOctets (k .list) 5 ++ pairOctets (k .list) 6 ++ pairOctets (k .list) 7
+    ++ (low (k .count) ∷ [])
+
+unfoldable pub controllerOctets : Controller → Octets
+controllerOctets k = (phaseOctet (k .phase) ∷ k .given ∷ []) ++ rfOctets (k .rf) ++ pairsOctets (k .pairs)
+
+-- ---- connections
+
+abbrev pub hostSideOctets : HostSide → Octets
+hostSideOctets h = bit (h .opened) ∷ h .payload ∷ h .grant ∷ h .held ∷ (handOctets (h .hand) ++ progressOctets (h .run))
+
+abbrev pub controllerSideOctets : ControllerSide → Octets
+controllerSideOctets k = bit (k .opened) ∷ k .grant ∷ k .owed ∷ (ringOctets (k .store) ++ progressOctets (k .run))
+
+unfoldable pub countsOctets : Counts → Octets
+countsOctets c = hostSideOctets (c .host) ++ controllerSideOctets (c .controller)
+
+abbrev pub countsIn : List Counts → ℕ → Octets
+countsIn l p = countsOctets (getD l p closedCounts)
+
+unfoldable pub connsOctets : List Counts → Octets
+connsOctets l = countsIn l 0 ++ countsIn l 1 ++ countsIn l 2 ++ countsIn l 3 ++ countsIn l 4
+
+-- ---- the record
+
+-- the profile, the host and what it hears
+unfoldable pub frontOctets : Ends → Octets
+frontOctets e = profileOctets (e .profile) ++ hostOctets (e .host) ++ controlRunOctets (e .hearing)
+
+-- what the controller is asked, and the endpoint's message
+unfoldable pub middleOctets : Ends → Octets
+middleOctets e = controlRunOctets (e .asking) ++ handOctets (e .endpoint)
+
+unfoldable pub wiresOctets : Record → Octets
+wiresOctets r = ringOctets (r .down) ++ ringOctets (r .up)
+
+unfoldable pub encodeOf : Record → Octets
+encodeOf r =
+    frontOctets (r .ends) ++ controllerOctets (r .ends .controller) ++ middleOctets (r .ends)
+    ++ connsOctets (r .ends .conns) ++ wiresOctets r

@@ -1,0 +1,46 @@
+// What every call does first: the record out of an area.
+use crate::judge::judge;
+use crate::read::decode;
+use crate::read::record_of;
+use state::kinds::Record;
+ghost use mathlib.Core.Path.{_≡_};
+ghost use Rattle.record.specs.Load.{blank, loadOf};
+
+// The number for a call not taken, 0 for none, and the record. A struct, since an enum cannot hold the record's arrays.
+pub struct Loaded {
+    pub answer: u8,
+    pub record: Record,
+}
+
+// A record of zeros, for an area that has none.
+fn blank() -> Record
+    ensures { λ r. ⌜ r ≡ blank ⌝ }
+{
+    let zeros = [0u8; 154];
+    record_of(&zeros)
+}
+
+// The answer is 2 for an area too short, whose record is not looked at, 1 for a record that cannot be, else 0.
+pub fn load(area: &[u8]) -> Loaded
+    ensures { λ r. ⌜ r ≡ loadOf (now (area .entry)) ⌝ }
+{
+    if area.len() < 36864 {
+        return Loaded {
+            answer: 2,
+            record: blank(),
+        };
+    }
+    let good = judge(area);
+    let r = decode(area);
+    if good {
+        Loaded {
+            answer: 0,
+            record: r,
+        }
+    } else {
+        Loaded {
+            answer: 1,
+            record: r,
+        }
+    }
+}
