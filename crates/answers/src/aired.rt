@@ -2,25 +2,25 @@
 use crate::command::put_packet;
 use crate::given;
 use crate::given::State;
-use nfcc::air;
-use nfcc::air::Aired;
-use nfcc::air::Event;
+use air::events;
+use air::events::Aired;
+use air::events::Event;
 
 // The fields of an event that the controller's state takes.
 fn put_taken(out: &mut [u8], at: usize, s: State, m: &[u8], a: Aired) -> usize {
     let p = s.profile;
     let k = s.controller;
     let conns = s.conns;
-    let e = air::event_of(m);
+    let e = events::event_of(m);
     let mut ntf = [0u8; 43];
-    let notice = air::air_message(&mut ntf, p, e, m);
+    let notice = events::air_message(&mut ntf, p, e, m);
     let mut n = text::put(out, at, b" ans=0");
     n = put_packet(out, n, b" ntf=", packets::NOTIFICATION, notice, &ntf);
     given::put_state(
         out,
         n,
-        air::controller_aired(k, a),
-        air::conns_aired(p, conns, a),
+        events::controller_aired(k, a),
+        events::conns_aired(p, conns, a),
     )
 }
 
@@ -29,11 +29,11 @@ pub fn put_answer(out: &mut [u8], at: usize, s: State, m: &[u8]) -> usize {
     let k = s.controller;
     let rf = k.rf;
     let ps = k.pairs;
-    let e = air::event_of(m);
+    let e = events::event_of(m);
     if let Event::Bad = e {
         return text::put(out, at, b" ans=3");
     }
-    let a = air::judge_event(rf, ps, e);
+    let a = events::judge_event(rf, ps, e);
     if let Aired::Refused = a {
         return text::put(out, at, b" ans=11");
     }

@@ -20,7 +20,7 @@ use Rattle.state.specs.Radio.{polls, idOk}
 use Rattle.nfcc.specs.Layout.{resetNtf, initRsp, entriesFrom, entryCount, creditsNtf, genericErrorNtf, discoverNtf, deactivateNtf}
 use Rattle.dh.specs.Contents.{zeros, initWritten, resetWritten, entryId, entryCredits, entryOk, entriesOk, creditsWritten, discoverWritten, deactivateWritten, noticeWritten}
 use Rattle.dh.specs.Host.{creditsIn, creditsFor}
-use Rattle.state.proofs.Places.{place-conn, conn-place}
+use Rattle.state.proofs.Places.{place-conn, conn-place, conn-suc}
 use Rattle.state.proofs.Chains.{every-at, elements, elements-are}
 use Rattle.ends.specs.Backwards.{discoverTarget, discoverType, discoverParams, Backwards}
 
@@ -150,14 +150,6 @@ by-case {P} i n f g = go (ltb i n) refl
     go false t = g (ltb-false i n t)
 
 -- Conn IDs ascend with their places, so places ascend with their Conn IDs
-conn-suc : (p : ℕ) → p < 4 → connOf (suc p) ≡ 2 + p
-unfolding connOf
-conn-suc zero h = refl
-conn-suc (suc zero) h = refl
-conn-suc (suc (suc zero)) h = refl
-conn-suc (suc (suc (suc zero))) h = refl
-conn-suc (suc (suc (suc (suc p)))) h = absurd (not-suc-le-zero {n = p} (omega arith))
-
 conn-zero : connOf 0 ≡ 0
 unfolding connOf
 conn-zero = refl

@@ -16,20 +16,12 @@ use Rattle.state.specs.Conn.{connOf}
 use Rattle.nfcc.specs.Layout.{entriesFrom, entryCount, creditsNtf}
 use Rattle.dh.specs.Contents.{noticeOf, entryId, entryCredits, entriesOk, creditsWritten, written}
 use Rattle.dh.specs.Host.{creditsIn, creditsFor}
-use Rattle.state.proofs.Places.{place-conn}
+use Rattle.state.proofs.Places.{place-conn, conn-suc}
 use Rattle.nfcc.proofs.Messages.{entries-length}
 
 -- ---- Conn IDs and places
 
 -- Conn IDs ascend with their places
-conn-suc : (p : ℕ) → p < 4 → connOf (suc p) ≡ 2 + p
-unfolding connOf
-conn-suc zero h = refl
-conn-suc (suc zero) h = refl
-conn-suc (suc (suc zero)) h = refl
-conn-suc (suc (suc (suc zero))) h = refl
-conn-suc (suc (suc (suc (suc p)))) h = absurd (not-suc-le-zero {n = p} (omega arith))
-
 conn-less : (p q : ℕ) → p < q → q < 5 → connOf p < connOf q
 unfolding connOf
 conn-less p zero h k = absurd (not-suc-le-zero h)

@@ -1,7 +1,7 @@
 -- The laws of `specs/RoundTrips.antt`: octets that were made from fields are taken for written and read back as those fields, and octets that
 -- are taken for written are made from the fields that are read.
 -- Assumes nothing.
-use Prim.Native.Nat.{ℕ, suc, _+_, _-_, _≤_}
+use Prim.Native.Nat.{ℕ, suc, _+_, _≤_}
 use mathlib.Core.Path.{_≡_, refl, sym, ap, _∙_}
 use mathlib.Core.Bool.{true, _||_}
 use mathlib.Core.List.{[], _∷_, _++_}
@@ -18,13 +18,13 @@ use Rattle.state.specs.declared.commands.Command.the-variants as command
 use Rattle.dh.specs.declared.contents.Notice.the-variants as notice
 use Rattle.dh.specs.declared.host.Answer.the-variants.{Done, ClosesAll, Sized, Opens, Closes}
 use Rattle.dh.specs.declared.host.Heard.the-variants.{Nothing, Activated, Deactivated}
-use Rattle.nfcc.specs.declared.air.Event.the-variants.{Found, Poll, Listen}
+use Rattle.air.specs.declared.events.Event.the-variants.{Found, Poll, Listen}
 use Rattle.state.specs.Commands.{commandOf}
 use Rattle.state.specs.Radio.{polls, listens, idOk}
 use Rattle.nfcc.specs.Layout.{resetNtf, initRsp, createRsp, genericErrorNtf, discoverNtf, activatedNtf, deactivateNtf}
 use Rattle.dh.specs.Contents.{noticeOf, creditsOk, zeros, initWritten, createWritten, discoverWritten, activatedWritten, deactivateWritten, written}
 use Rattle.dh.specs.Host.{answerOf, noticed}
-use Rattle.nfcc.specs.Air.{foundIn, pollIn, listenIn, eventOf}
+use Rattle.air.specs.Air.{foundIn, pollIn, listenIn, eventOf}
 use Rattle.nfcc.proofs.Messages.{length-discover, length-activated}
 use Rattle.state.proofs.Chains.{every-at, elements, elements-are}
 use Rattle.ends.proofs.CreditNotice.{credits-written, credits-read}

@@ -14,13 +14,13 @@ use Rattle.state.specs.declared.commands.Command.the-variants as command
 use Rattle.dh.specs.declared.contents.Notice.the-variants as notice
 use Rattle.dh.specs.declared.host.Answer.the-variants.{Done, ClosesAll, Sized, Opens, Closes}
 use Rattle.dh.specs.declared.host.Heard.the-variants.{Nothing, Activated, Deactivated}
-use Rattle.nfcc.specs.declared.air.Event.the-variants.{Found, Poll, Listen}
+use Rattle.air.specs.declared.events.Event.the-variants.{Found, Poll, Listen}
 use Rattle.state.specs.Conn.{connOf}
 use Rattle.state.specs.Radio.{polls, listens, idOk}
 use Rattle.nfcc.specs.Layout.{resetNtf, initRsp, createRsp, creditsNtf, genericErrorNtf, discoverNtf, activatedNtf, deactivateNtf}
 use Rattle.dh.specs.Contents.{creditsOk, createWritten, activatedWritten, written}
 use Rattle.dh.specs.Host.{answerOf, noticed, creditsFor}
-use Rattle.nfcc.specs.Air.{eventOf}
+use Rattle.air.specs.Air.{eventOf}
 
 -- ---- fields inside document 01's limits
 

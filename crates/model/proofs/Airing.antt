@@ -1,6 +1,6 @@
 -- air keeps the invariant.
 -- Assumes nothing.
-use Prim.Native.Nat.{ℕ, _+_, _≤_}
+use Prim.Native.Nat.{ℕ, _≤_}
 use native.Mathlib.Omega.{arith}
 use mathlib.Core.Path.{_≡_, refl, sym, ap, _∙_, subst}
 use mathlib.Core.Bool.{true, false, not, _&&_, _||_}
@@ -15,27 +15,28 @@ use Rattle.state.specs.declared.kinds.Profile.{Profile}
 use Rattle.state.specs.declared.kinds.Pairs.{Pairs}
 use Rattle.state.specs.declared.kinds.Rf.{Rf}
 use Rattle.state.specs.declared.kinds.Controller.{Controller}
-use Rattle.nfcc.specs.declared.air.Event.{Event}
-use Rattle.nfcc.specs.declared.air.Event.the-variants.{Bad, Found, Poll, Listen, Failed, Sleeps, LinkLost, Releases, Endpoint}
-use Rattle.nfcc.specs.declared.air.Aired.{Aired}
-use Rattle.nfcc.specs.declared.air.Aired.the-variants.{Refused, Goes, Activates, Ends, Speaks}
+use Rattle.air.specs.declared.events.Event.{Event}
+use Rattle.air.specs.declared.events.Event.the-variants.{Bad, Found, Poll, Listen, Failed, Sleeps, LinkLost, Releases, Endpoint}
+use Rattle.air.specs.declared.events.Aired.{Aired}
+use Rattle.air.specs.declared.events.Aired.the-variants.{Refused, Goes, Activates, Ends, Speaks}
 use Rattle.state.specs.Conn.{placeOf, termsOf}
 use Rattle.state.specs.Radio.{isActive, isListening, isAsleep}
 use Rattle.state.specs.Runs.{dataLimit}
 use Rattle.nfcc.specs.Layout.{nothing, genericErrorNtf, discoverNtf, activatedNtf, deactivateNtf}
-use Rattle.nfcc.specs.Air.{eventOf, airedBy, airMessage, controllerAired}
+use Rattle.air.specs.Air.{eventOf, airedBy, airMessage, controllerAired}
+use Rattle.state.proofs.Chains.{on, or-left, or-right}
 use Rattle.model.specs.Connection.{Connection, withController, spoken}
 use Rattle.model.specs.Packets.{noticePackets}
 use Rattle.model.specs.State.{State, withConns, withUp, withControllerState, at}
-use Rattle.model.specs.Bench.{Change, stays, opens, closes, changeAired, atController, airingAs, airing, air, rules, isBad, isEndpoint, isRefused, activates, isNil}
+use Rattle.model.specs.Bench.{Change, stays, opens, changeAired, atController, airingAs, airing, air, rules, isBad, isEndpoint, isRefused, activates, isNil}
 use Rattle.model.specs.Observer.{Ledger, spokenL, airedL, shown}
 use Rattle.model.proofs.Items.{itemsBy, itemsOf, segsOf, putsL}
 use Rattle.model.proofs.Link.{clash}
 use Rattle.model.proofs.Acts.{MayPut, puts-good, air-good}
-use Rattle.model.proofs.Verdicts.{on, Within, event-within, found-by, poll-by, listen-by, failed-by, AirLegal, aired-legal}
+use Rattle.model.proofs.Verdicts.{Within, event-within, found-by, poll-by, listen-by, failed-by, AirLegal, aired-legal}
 use Rattle.model.proofs.Meanings.{itemsOf-append}
 use Rattle.model.proofs.Messages.{items-aired, Notices, notices-air}
-use Rattle.model.proofs.Order.{each, need, or-left, or-right, nil-of, replies, replies-append}
+use Rattle.model.proofs.Order.{each, need, nil-of, replies, replies-append}
 use Rattle.model.proofs.Closing.{shut-now}
 use Rattle.model.proofs.Fine.{Fine, Kept, kept, Keeps, GoodAt, Plain, puts-change, put-all, Sound, sound-append, ChangeOk, standing-change, standing-at, order-open, at-keeps, accountOf}
 use Rattle.model.proofs.Deciding.{notices-replies, notice-sound}

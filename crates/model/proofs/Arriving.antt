@@ -1,6 +1,6 @@
 -- down keeps the invariant: the controller takes the first packet of the down wire.
 -- Assumes nothing.
-use Prim.Native.Nat.{ℕ, _+_}
+use Prim.Native.Nat.{ℕ}
 use mathlib.Core.Path.{_≡_, refl, sym, subst}
 use mathlib.Core.Bool.{true, false}
 use mathlib.Core.List.{List, [], _∷_, _++_, append-nil}
@@ -11,6 +11,7 @@ use Rattle.packets.specs.Reassembly.{Run, run, grown, finished, flagged}
 use Rattle.packets.proofs.Reassembly.{within}
 use Rattle.state.specs.Runs.{controlLimit}
 use Rattle.nfcc.specs.Controller.{judgeOf}
+use Rattle.state.proofs.Chains.{on}
 use Rattle.model.specs.Connection.{withController, stored}
 use Rattle.model.specs.Packets.{Meaning, datum, control, junk, meaning}
 use Rattle.model.specs.State.{State, isOpen, at, withDown, withConns, withAsking}
@@ -19,7 +20,7 @@ use Rattle.model.specs.Observer.{Ledger, Account, arrivedL, arrival, sho
 use Rattle.model.proofs.Items.{itemsOf, segsIn, segsOf}
 use Rattle.model.proofs.Link.{clash}
 use Rattle.model.proofs.Acts.{deliver-good, drop-good}
-use Rattle.model.proofs.Verdicts.{on, Fits, judge-fits, judge-legal}
+use Rattle.model.proofs.Verdicts.{Fits, judge-fits, judge-legal}
 use Rattle.model.proofs.Order.{each, need, right-nil, named, headsIn, heads, ordersIn, replies, endsOrder, NoDatum, NoData, Tidy, one-only, other-way, way-run, way-more, way-last, way-low, way-small}
 use Rattle.model.proofs.Fine.{Order, Fine, Kept, Keeps, GoodAt, StoredFor, stored-append, order-open, at-keeps, standing-at, accountOf}
 use Rattle.model.proofs.Deciding.{Behind, decided-keeps}

@@ -22,12 +22,13 @@ use Rattle.dh.specs.declared.host.Heard.the-variants.{Nothing, Answered}
 use Rattle.state.specs.Commands.{commandOf}
 use Rattle.dh.specs.Contents.{noticeOf, written}
 use Rattle.dh.specs.Host.{okAnswer, answerOf, noticed, heardAlone, creditsFor}
+use Rattle.state.proofs.Chains.{on}
 use Rattle.model.specs.Packets.{Meaning, datum, control, junk, meaning, says}
 use Rattle.model.specs.Bench.{Change, stays, opens, changeHeard, isClosing}
 use Rattle.model.proofs.Items.{Item, carry, credit, opened, closed, itemsBy, itemsIn, itemsOf}
 use Rattle.model.proofs.Phases.{walk, start, live, Ends, bad-walk}
 use Rattle.model.proofs.Link.{clash}
-use Rattle.model.proofs.Verdicts.{on, Named, command-named}
+use Rattle.model.proofs.Verdicts.{Named, command-named}
 use Rattle.model.proofs.Order.{Name, named, pendingName, repliesIn, replies, left-nil, right-nil}
 
 -- ---- items that do not close

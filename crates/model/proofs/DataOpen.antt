@@ -12,6 +12,7 @@ use Rattle.packets.specs.Segments.{Segment}
 use Rattle.state.specs.declared.kinds.Pending.{Pending}
 use Rattle.state.specs.declared.kinds.Pending.the-variants as pending
 use Rattle.dh.specs.Host.{aimOf}
+use Rattle.state.proofs.Chains.{on}
 use Rattle.model.specs.Packets.{Meaning, datum, control, junk, meaning}
 use Rattle.model.specs.State.{State}
 use Rattle.model.specs.Bench.{Change, stays, opens, closes, gives}
@@ -20,7 +21,6 @@ use Rattle.model.specs.Reachable.{Always, openedBy, openAfter, isOpening
 use Rattle.model.proofs.Items.{Item, loaded, itemsBy, itemsIn, itemsOf}
 use Rattle.model.proofs.Phases.{Phase, shut, live, over, bad, walk, start, Ends, walk-append, bad-walk}
 use Rattle.model.proofs.Link.{clash}
-use Rattle.model.proofs.Verdicts.{on}
 use Rattle.model.proofs.Meanings.{itemsOf-append}
 use Rattle.model.proofs.Order.{right-nil, heads, replies}
 use Rattle.model.proofs.Closing.{items-aim}

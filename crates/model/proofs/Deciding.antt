@@ -1,6 +1,6 @@
 -- The controller answers a whole command, and the invariant is kept.
 -- Assumes nothing.
-use Prim.Native.Nat.{ℕ, _+_, _≤_, _<_}
+use Prim.Native.Nat.{ℕ, _≤_, _<_}
 use native.Mathlib.Omega.{arith}
 use mathlib.Core.Path.{_≡_, refl, sym, ap, _∙_, subst}
 use mathlib.Core.Logic.{inl, inr}
@@ -10,7 +10,6 @@ use lib.Dec.{eqb, leb}
 use lib.ListN.{length}
 use borrow.Author.Tests.{ne-eqb, eqb-false}
 use Rattle.octets.specs.Octets.{Octets, pick}
-use Rattle.packets.specs.Segments.{last}
 use Rattle.state.specs.declared.kinds.Terms.{Terms}
 use Rattle.state.specs.declared.kinds.Profile.{Profile}
 use Rattle.packets.specs.Reassembly.{run}
@@ -25,6 +24,7 @@ use Rattle.state.specs.Radio.{isActive}
 use Rattle.state.specs.Runs.{controlLimit}
 use Rattle.nfcc.specs.Controller.{controllerAfter}
 use Rattle.nfcc.specs.Layout.{responseOf, responseMessage, noticeMessage, resetNtf, deactivateNtf}
+use Rattle.state.proofs.Chains.{on}
 use Rattle.model.specs.Connection.{Connection}
 use Rattle.model.specs.Packets.{aimedAt, says, responsePacket, noticePacket, noticePackets}
 use Rattle.model.specs.State.{State, isOpen}
@@ -33,7 +33,7 @@ use Rattle.model.specs.Observer.{Ledger, shown}
 use Rattle.model.proofs.Items.{putsL, Item, opened, itemsBy, itemsOf, segsOf}
 use Rattle.model.proofs.Link.{clash}
 use Rattle.model.proofs.Acts.{MayPut, puts-good}
-use Rattle.model.proofs.Verdicts.{on, Fits, Legal}
+use Rattle.model.proofs.Verdicts.{Fits, Legal}
 use Rattle.model.proofs.Meanings.{itemsOf-append, meaning-notice}
 use Rattle.model.proofs.Messages.{answeredBy, says-response, Limits, items-answers, Notices, notices-verdict, meaning-answer}
 use Rattle.model.proofs.Order.{OnItsWay, each, Name, named, heads, replies, replies-append, pendingName, NoData, no-segs, no-data-tidy, right-nil}

@@ -1,6 +1,6 @@
 -- The invariant of the bench: every connection is good, and commands, data and answers stand in order on the wires.
 -- Assumes nothing.
-use Prim.Native.Nat.{ℕ, _+_, _≤_, _<_}
+use Prim.Native.Nat.{ℕ, _≤_, _<_}
 use native.Mathlib.Omega.{arith}
 use mathlib.Core.Path.{_≡_, refl, sym, ap, _∙_, subst}
 use mathlib.Core.Logic.{_⊎_}
@@ -19,6 +19,7 @@ use Rattle.state.specs.Conn.{placeOf, termsOf}
 use Rattle.state.specs.Radio.{isActive}
 use Rattle.state.specs.Runs.{controlLimit}
 use Rattle.dh.specs.Contents.{written}
+use Rattle.state.proofs.Chains.{on}
 use Rattle.model.specs.Connection.{Connection, ControllerEnd, withHost, withController}
 use Rattle.model.specs.Packets.{Meaning, datum, control, junk, meaning}
 use Rattle.model.specs.State.{State, cold, at}
@@ -27,7 +28,6 @@ use Rattle.model.specs.Observer.{Ledger, Account, blank, putBy, readBy, 
 use Rattle.model.proofs.Items.{Item, itemsBy, itemsIn, itemsOf, segsOf, putsK, readsK, putsL, readsL}
 use Rattle.model.proofs.Link.{Good, clash, cold-good}
 use Rattle.model.proofs.Messages.{Limits}
-use Rattle.model.proofs.Verdicts.{on}
 use Rattle.model.proofs.Order.{each, heads, replies, pendingName, NoData, Tidy, OnItsWay, no-way, Name}
 
 -- ---- the parts of the invariant

@@ -1,6 +1,6 @@
 -- up keeps the invariant: the host takes the first packet of the up wire.
 -- Assumes nothing.
-use Prim.Native.Nat.{ℕ, _+_, _≤_}
+use Prim.Native.Nat.{ℕ, _≤_}
 use mathlib.Core.Path.{_≡_, refl, sym, ap, _∙_, subst}
 use mathlib.Core.Logic.{_⊎_, inl, inr}
 use mathlib.Core.Bool.{Bool, true, false}
@@ -25,6 +25,7 @@ use Rattle.dh.specs.Host.{noticed, answerOf, heardAlone, hearOf, hostAfter}
 use Rattle.dh.specs.declared.contents.Notice.{Notice}
 use Rattle.dh.specs.declared.contents.Notice.the-variants as notice
 use Rattle.packets.proofs.Reassembly.{within}
+use Rattle.state.proofs.Chains.{on}
 use Rattle.model.specs.Connection.{Connection, withHost, heardData}
 use Rattle.model.specs.Packets.{Meaning, datum, control, junk, meaning, says}
 use Rattle.model.specs.State.{State, at, withUp, withConns, withHearing}
@@ -34,7 +35,6 @@ use Rattle.model.proofs.Items.{loaded, itemsBy, itemsOf, segsOf, readsK
 use Rattle.model.proofs.Phases.{Ends, walk, start, bad-walk}
 use Rattle.model.proofs.Link.{clash}
 use Rattle.model.proofs.Acts.{Reads, reads-good, read-good}
-use Rattle.model.proofs.Verdicts.{on}
 use Rattle.model.proofs.Meanings.{hear-response, hear-notice}
 use Rattle.model.proofs.Order.{each, need, Name, named, pendingName, replies, heads, one-only}
 use Rattle.model.proofs.Fine.{Order, Fine, Kept, Keeps, GoodAt, Aimed, Sound, SoundIn, reads-change, readsL-change, standing-same, order-open, at-keeps, accountOf}

@@ -16,6 +16,7 @@ use Rattle.state.specs.Conn.{flows}
 use Rattle.nfcc.specs.Layout.{creditsNtf, entriesFrom}
 use Rattle.dh.specs.Contents.{creditsOk}
 use Rattle.state.specs.Runs.{dataLimit, controlLimit}
+use Rattle.state.proofs.Chains.{on, or-left, or-right}
 use Rattle.model.specs.Connection.{ControllerEnd, withHost, withController, sent, pushed, consumed, spoken}
 use Rattle.model.specs.Packets.{noticePacket, dataHeader, controlHeader, Meaning, datum, control, junk, meaning}
 use Rattle.model.specs.State.{State, profileIn, withConns, withUp, at}
@@ -24,10 +25,9 @@ use Rattle.model.specs.Observer.{Account, Ledger, sentL, pushedL, consum
 use Rattle.model.proofs.Items.{loaded, itemsBy, itemsOf, segsOf}
 use Rattle.model.proofs.Link.{clash, owed-le, credit-left}
 use Rattle.model.proofs.Acts.{send-good, push-good, consume-loop, consume-plain, reply-good, notice-good}
-use Rattle.model.proofs.Verdicts.{on}
 use Rattle.model.proofs.Meanings.{meaning-notice, meaning-data, meaning-command, segsOf-append, itemsOf-append, segsOf-command, segsOf-data, itemsOf-data}
 use Rattle.model.proofs.Messages.{profile-limits, terms-within, items-credit, items-credit-other}
-use Rattle.model.proofs.Order.{replies-notice, replies-data, each, need, or-left, or-right, nil-of, left-nil, right-nil, heads, replies, heads-append, idle-pending, no-data-tidy, tidy-append, ordered-heads, ordered-no-data, command-way, data-way, heads-data}
+use Rattle.model.proofs.Order.{replies-notice, replies-data, each, need, nil-of, left-nil, right-nil, heads, replies, heads-append, idle-pending, no-data-tidy, tidy-append, ordered-heads, ordered-no-data, command-way, data-way, heads-data}
 use Rattle.model.proofs.Closing.{no-close, free-right, free-pending, live-stays, items-aim}
 use Rattle.model.proofs.Fine.{sound-control, sound-data, put-data, accountOf, Fine, Kept, kept, Keeps, GoodAt, cold-fine, put-all, sound-append, StoredFor, StoredIn, conn-small, order-open, at-keeps, standing-same, standing-at}
 

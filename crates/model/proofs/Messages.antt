@@ -19,10 +19,10 @@ use Rattle.state.specs.declared.kinds.Pairs.{Pairs}
 use Rattle.state.specs.declared.kinds.Rf.{Rf}
 use Rattle.nfcc.specs.declared.controller.Verdict.{Verdict}
 use Rattle.nfcc.specs.declared.controller.Verdict.the-variants as verdict
-use Rattle.nfcc.specs.declared.air.Event.{Event}
-use Rattle.nfcc.specs.declared.air.Event.the-variants.{Bad, Found, Poll, Listen, Failed, Sleeps, LinkLost, Releases, Endpoint}
-use Rattle.nfcc.specs.declared.air.Aired.{Aired}
-use Rattle.nfcc.specs.declared.air.Aired.the-variants.{Refused}
+use Rattle.air.specs.declared.events.Event.{Event}
+use Rattle.air.specs.declared.events.Event.the-variants.{Bad, Found, Poll, Listen, Failed, Sleeps, LinkLost, Releases, Endpoint}
+use Rattle.air.specs.declared.events.Aired.{Aired}
+use Rattle.air.specs.declared.events.Aired.the-variants.{Refused}
 use Rattle.dh.specs.declared.host.Answer.{Answer}
 use Rattle.dh.specs.declared.host.Answer.the-variants.{Done, ClosesAll, Sized, Opens, Closes}
 use Rattle.dh.specs.declared.host.Heard.{Heard}
@@ -33,16 +33,16 @@ use Rattle.nfcc.specs.Layout.{Message, resetNtf, creditsNtf, genericErrorNtf, d
 use Rattle.state.specs.Radio.{isActive, isListening, isAsleep, polls}
 use Rattle.dh.specs.Contents.{creditsOk, written, noticeOf, entryId, entryCredits, entryOk, entriesOk, creditsWritten}
 use Rattle.dh.specs.Host.{answerOf, heardAlone, creditsFor, creditsIn}
-use Rattle.nfcc.specs.Air.{airMessage, airedBy}
+use Rattle.air.specs.Air.{airMessage, airedBy}
 use Rattle.ends.specs.RoundTrips.{TermsOk, TargetOk}
-use Rattle.state.proofs.Chains.{every-at}
+use Rattle.state.proofs.Chains.{every-at, on}
 use Rattle.ends.proofs.RoundTrips.{round-trips}
 use Rattle.model.specs.Packets.{responsePacket, noticePacket, noticePackets, control, meaning, says}
 use Rattle.model.specs.State.{profileOk, profileIn}
 use Rattle.model.specs.Bench.{answers, stays, opens, closes, changeBy, changeAired, changeHeard, changeAnswered, givenTo, isRefused, noConn, ids, allZero}
 use Rattle.model.proofs.Items.{Item, closed, itemsBy, itemsOf}
 use Rattle.model.proofs.Meanings.{meaning-response, meaning-notice}
-use Rattle.model.proofs.Verdicts.{on, Fits, Within, found-by, poll-by, listen-by, failed-by}
+use Rattle.model.proofs.Verdicts.{Fits, Within, found-by, poll-by, listen-by, failed-by}
 
 -- ---- a profile within its limits: control payload 32-255, payloads 1-255, credits 1-8 or 255
 

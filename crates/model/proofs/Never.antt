@@ -23,6 +23,7 @@ use Rattle.state.specs.Runs.{controlLimit}
 use Rattle.state.specs.Commands.{commandOf}
 use Rattle.dh.specs.Contents.{written}
 use Rattle.dh.specs.Host.{answerOf, heardAlone, aimOf, expected, hearOf}
+use Rattle.state.proofs.Chains.{on, or-left, or-right}
 use Rattle.model.specs.Packets.{Meaning, datum, control, junk, meaning, says}
 use Rattle.model.specs.State.{State, isOpen, withUp}
 use Rattle.model.specs.Bench.{Call, fresh, power, command, send, push, down, consume, credit, air, reply, up, report, Result, taken, refused, Rule, rule, first, rules, judged, step, isNil, noConn, isLoop, isHeld, full, ids, Change, creditsOf, changeHeard, above, anyOf, tooMany, firstTooMany, sameRun, wholeBy}
@@ -30,9 +31,8 @@ use Rattle.model.specs.Observer.{Ledger}
 use Rattle.model.specs.Reachable.{Always, Never13}
 use Rattle.model.proofs.Items.{itemsOf}
 use Rattle.model.proofs.Link.{clash, held-le, room-owed, room-by}
-use Rattle.model.proofs.Verdicts.{on}
 use Rattle.model.proofs.Meanings.{hear-notice}
-use Rattle.model.proofs.Order.{need, or-left, or-right}
+use Rattle.model.proofs.Order.{need}
 use Rattle.model.proofs.Fine.{Fine, SoundIn, Sound}
 use Rattle.model.proofs.Trace.{reachable}
 

@@ -1,15 +1,15 @@
 -- The order of commands, data and answers on the wires: one command at a time, no data behind one that closes.
 -- Assumes nothing.
-use Prim.Native.Nat.{ℕ, zero, suc, _+_, _≤_, _<_, _%_}
+use Prim.Native.Nat.{ℕ, zero, suc, _≤_, _<_, _%_}
 use native.Mathlib.Omega.{arith}
 use mathlib.Core.Path.{_≡_, refl, sym, ap, _∙_, subst}
-use mathlib.Core.Bool.{Bool, true, false, _&&_, _||_}
+use mathlib.Core.Bool.{Bool, true, false}
 use mathlib.Core.List.{List, [], _∷_, _++_, map, append-assoc, append-nil, cons≢nil, tail-eq-of-cons-eq}
 use lib.Dec.{eqb, ltb}
 use lib.ListN.{length, getD, take, drop}
 use borrow.Author.Tests.{eqb-true, eq-eqb}
 use Rattle.octets.specs.Octets.{Octets, pick}
-use Rattle.packets.specs.Segments.{Segment, more, last, segment, segmentsWithin, segments, parse, left, segmentPacket}
+use Rattle.packets.specs.Segments.{Segment, more, last, segmentsWithin, segments, parse, left, segmentPacket}
 use Rattle.packets.specs.Reassembly.{Run, run, grown, Fit}
 use Rattle.packets.proofs.Reassembly.{run-fits, within}
 use Rattle.packets.proofs.Segments.{parse-segments, left-segments}
@@ -39,22 +39,6 @@ each-other c P t f d = go (eqb c d) refl
     go : (b : Bool) → eqb c d ≡ b → P d b
     go true e = subst (λ x. P x true) (eqb-true c d e) t
     go false e = f d e
-
-pub and-left : (a b : Bool) → (a && b) ≡ true → a ≡ true
-and-left true b e = refl
-and-left false b e = e
-
-pub and-right : (a b : Bool) → (a && b) ≡ true → b ≡ true
-and-right true b e = e
-and-right false b e = clash e refl
-
-pub or-left : (a b : Bool) → (a || b) ≡ false → a ≡ false
-or-left true b e = e
-or-left false b e = refl
-
-pub or-right : (a b : Bool) → (a || b) ≡ false → b ≡ false
-or-right true b e = clash refl e
-or-right false b e = e
 
 -- ---- refusals
 

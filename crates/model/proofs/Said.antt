@@ -1,6 +1,6 @@
 -- What the messages on the up wire say is within limits: the terms of an opening, and the payload size of an INIT response.
 -- Assumes nothing.
-use Prim.Native.Nat.{ℕ, _+_, _≤_, _<_}
+use Prim.Native.Nat.{ℕ, _≤_, _<_}
 use native.Mathlib.Omega.{arith}
 use mathlib.Core.Path.{_≡_, refl, sym, subst}
 use mathlib.Core.Bool.{true, false}
@@ -16,8 +16,8 @@ use Rattle.state.specs.declared.commands.Command.{Command}
 use Rattle.state.specs.declared.commands.Command.the-variants.{Reset, Init, ConnCreate, ConnClose, Discover, Select, Deactivate, Unknown}
 use Rattle.nfcc.specs.declared.controller.Verdict.{Verdict}
 use Rattle.nfcc.specs.declared.controller.Verdict.the-variants as verdict
-use Rattle.nfcc.specs.declared.air.Event.{Event}
-use Rattle.nfcc.specs.declared.air.Event.the-variants.{Bad, Found, Poll, Listen, Failed, Sleeps, LinkLost, Releases, Endpoint}
+use Rattle.air.specs.declared.events.Event.{Event}
+use Rattle.air.specs.declared.events.Event.the-variants.{Bad, Found, Poll, Listen, Failed, Sleeps, LinkLost, Releases, Endpoint}
 use Rattle.dh.specs.declared.host.Answer.{Answer}
 use Rattle.dh.specs.declared.host.Answer.the-variants.{Done, ClosesAll, Sized, Opens, Closes}
 use Rattle.dh.specs.declared.host.Heard.{Heard}
@@ -27,11 +27,12 @@ use Rattle.state.specs.Commands.{commandOf}
 use Rattle.nfcc.specs.Layout.{resetNtf, creditsNtf, genericErrorNtf, discoverNtf, activatedNtf, deactivateNtf, responseOf, noticeMessage}
 use Rattle.dh.specs.Contents.{written, noticeOf}
 use Rattle.dh.specs.Host.{answerOf, okAnswer, aimOf, noticed, heardAlone, expected, hearOf, creditsFor}
-use Rattle.nfcc.specs.Air.{airMessage}
+use Rattle.air.specs.Air.{airMessage}
+use Rattle.state.proofs.Chains.{on}
 use Rattle.model.specs.Packets.{Meaning, datum, control, junk, meaning, aimedAt, says, noticePacket, noticePackets}
 use Rattle.model.specs.Bench.{answers, noConn, Change, stays, opens, closes, gives, changeHeard}
 use Rattle.model.specs.Reachable.{TermsWithin}
-use Rattle.model.proofs.Verdicts.{on, Fits}
+use Rattle.model.proofs.Verdicts.{Fits}
 use Rattle.model.proofs.Meanings.{meaning-notice}
 use Rattle.model.proofs.Messages.{Limits, answeredBy, says-response, meaning-answer}
 use Rattle.model.proofs.Order.{each}

@@ -17,17 +17,18 @@ use Rattle.packets.proofs.RoundTrip.{read-written}
 use Rattle.state.specs.declared.kinds.Profile.{Profile}
 use Rattle.nfcc.specs.declared.controller.Verdict.{Verdict}
 use Rattle.nfcc.specs.declared.controller.Verdict.the-variants as verdict
-use Rattle.nfcc.specs.declared.air.Event.{Event}
-use Rattle.nfcc.specs.declared.air.Event.the-variants.{Bad, Found, Poll, Listen, Failed, Sleeps, LinkLost, Releases, Endpoint}
+use Rattle.air.specs.declared.events.Event.{Event}
+use Rattle.air.specs.declared.events.Event.the-variants.{Bad, Found, Poll, Listen, Failed, Sleeps, LinkLost, Releases, Endpoint}
 use Rattle.state.specs.Conn.{termsOf}
 use Rattle.nfcc.specs.Layout.{resetNtf, creditsNtf, genericErrorNtf, discoverNtf, activatedNtf, deactivateNtf, responseOf, noticeMessage}
-use Rattle.nfcc.specs.Air.{airMessage}
+use Rattle.air.specs.Air.{airMessage}
+use Rattle.state.proofs.Chains.{on}
 use Rattle.model.specs.Connection.{Connection, withHost, withController}
 use Rattle.model.specs.Packets.{dataHeader, controlHeader, noticePacket, noticePackets, meaning}
 use Rattle.model.specs.State.{State, cold}
 use Rattle.model.specs.Bench.{answers, noConn, Change, stays, opens, closes, gives, atController, atHost}
 use Rattle.model.specs.Reachable.{WellFormed, GoesDown, GoesUp, Each}
-use Rattle.model.proofs.Verdicts.{on, Within}
+use Rattle.model.proofs.Verdicts.{Within}
 use Rattle.model.proofs.Meanings.{meaning-data, meaning-command, meaning-response, meaning-notice}
 use Rattle.model.proofs.Fine.{conn-small}
 use Rattle.model.proofs.Keeping.{entries-few}

@@ -15,10 +15,10 @@ use Rattle.state.specs.declared.kinds.Profile.{Profile}
 use Rattle.state.specs.declared.kinds.Host.{Host}
 use Rattle.nfcc.specs.declared.controller.Verdict.{Verdict}
 use Rattle.nfcc.specs.declared.controller.Verdict.the-variants as verdict
-use Rattle.nfcc.specs.declared.air.Event.{Event}
-use Rattle.nfcc.specs.declared.air.Event.the-variants.{Bad, Found, Poll, Listen, Failed, Sleeps, LinkLost, Releases, Endpoint}
-use Rattle.nfcc.specs.declared.air.Aired.{Aired}
-use Rattle.nfcc.specs.declared.air.Aired.the-variants.{Refused, Goes, Activates, Ends, Speaks}
+use Rattle.air.specs.declared.events.Event.{Event}
+use Rattle.air.specs.declared.events.Event.the-variants.{Bad, Found, Poll, Listen, Failed, Sleeps, LinkLost, Releases, Endpoint}
+use Rattle.air.specs.declared.events.Aired.{Aired}
+use Rattle.air.specs.declared.events.Aired.the-variants.{Refused, Goes, Activates, Ends, Speaks}
 use Rattle.dh.specs.declared.host.Answer.the-variants.{Done, ClosesAll, Sized, Opens, Closes}
 use Rattle.dh.specs.declared.host.Heard.{Heard}
 use Rattle.dh.specs.declared.host.Heard.the-variants.{Nothing, Dropped, Answered, Activated, Deactivated, Credits}
@@ -27,7 +27,8 @@ use Rattle.state.specs.Runs.{dataLimit, controlLimit}
 use Rattle.nfcc.specs.Controller.{judgeOf}
 use Rattle.nfcc.specs.Layout.{noticeMessage}
 use Rattle.dh.specs.Host.{hostAfter, hearOf}
-use Rattle.nfcc.specs.Air.{eventOf, airMessage}
+use Rattle.air.specs.Air.{eventOf, airMessage}
+use Rattle.state.proofs.Chains.{on, or-left, or-right}
 use Rattle.model.specs.Connection.{Connection, withHost, withController, sent, pushed, heardData, stored, consumed, noticed, spoken}
 use Rattle.model.specs.Packets.{dataHeader, noticePackets, Meaning, datum, control, junk, meaning}
 use Rattle.model.specs.State.{State, isOpen, at, withConns, withDown, withUp, withAsking, withHearing, ControlRun, profileIn, withHostState}
@@ -35,10 +36,10 @@ use Rattle.model.specs.Bench.{fresh, power, command, send, push, down, c
 use Rattle.model.specs.Observer.{Ledger}
 use Rattle.model.specs.Reachable.{Always, RunWithin, ProfileWithin, Sizes}
 use Rattle.model.proofs.Link.{clash, held-le, owed-le}
-use Rattle.model.proofs.Verdicts.{on, Fits, judge-fits, Within, event-within}
+use Rattle.model.proofs.Verdicts.{Fits, judge-fits, Within, event-within}
 use Rattle.model.proofs.Meanings.{meaning-data}
 use Rattle.model.proofs.Messages.{Limits, profile-limits, notices-few}
-use Rattle.model.proofs.Order.{each, need, or-left, or-right, way-low, way-small}
+use Rattle.model.proofs.Order.{each, need, way-low, way-small}
 use Rattle.model.proofs.Fine.{Fine, SoundIn, Sound, StoredIn, StoredFor}
 use Rattle.model.proofs.Deciding.{dynamic-conn}
 use Rattle.model.proofs.Airing.{Suits, aired-suits, kind-eight}

@@ -19,21 +19,22 @@ use Rattle.state.specs.declared.kinds.Rf.{Rf}
 use Rattle.state.specs.declared.kinds.Controller.{Controller}
 use Rattle.nfcc.specs.declared.controller.Verdict.{Verdict}
 use Rattle.nfcc.specs.declared.controller.Verdict.the-variants as verdict
-use Rattle.nfcc.specs.declared.air.Listing.{Listing}
-use Rattle.nfcc.specs.declared.air.Listing.the-variants.{Keeps, Starts, Adds}
-use Rattle.nfcc.specs.declared.air.Aired.{Aired}
-use Rattle.nfcc.specs.declared.air.Aired.the-variants.{Refused, Goes, Activates, Ends, Speaks}
+use Rattle.air.specs.declared.events.Listing.{Listing}
+use Rattle.air.specs.declared.events.Listing.the-variants.{Keeps, Starts, Adds}
+use Rattle.air.specs.declared.events.Aired.{Aired}
+use Rattle.air.specs.declared.events.Aired.the-variants.{Refused, Goes, Activates, Ends, Speaks}
 use Rattle.dh.specs.declared.host.Answer.the-variants.{Opens, Closes}
 use Rattle.state.specs.Radio.{isIdle, addedTo}
 use Rattle.state.specs.Runs.{dataLimit, controlLimit}
 use Rattle.nfcc.specs.Controller.{turned, controllerAfter}
-use Rattle.nfcc.specs.Air.{listedAfter, controllerAired}
+use Rattle.air.specs.Air.{listedAfter, controllerAired}
+use Rattle.state.proofs.Chains.{on}
 use Rattle.model.specs.Connection.{Connection, HostEnd, ControllerEnd, withHost, withController, closed, stored}
 use Rattle.model.specs.State.{State, cold, at}
 use Rattle.model.specs.Bench.{down, up, noConn, Change, stays, opens, closes, gives, atController, atHost, hearing}
-use Rattle.model.specs.Reachable.{octetsIn, RunWithin, TermsWithin, Sizes}
+use Rattle.model.specs.Reachable.{octetsIn, RunWithin, TermsWithin}
 use Rattle.model.proofs.Link.{clash}
-use Rattle.model.proofs.Verdicts.{on, Fits}
+use Rattle.model.proofs.Verdicts.{Fits}
 use Rattle.model.proofs.Messages.{Limits}
 use Rattle.model.proofs.Order.{each}
 use Rattle.model.proofs.Said.{Said, OpensWithin}

@@ -10,7 +10,7 @@ use mathlib.Core.List.{[], _∷_}
 use lib.Dec.{eqb, ltb, leb}
 use lib.ListN.{length, getD, drop, length-drop}
 use borrow.Author.Tests.{eqb-true, ltb-true, ltb-false, leb-true, not-true}
-use Rattle.octets.specs.Octets.{Octets, pick}
+use Rattle.octets.specs.Octets.{Octets}
 use Rattle.state.specs.declared.kinds.Profile.{Profile}
 use Rattle.state.specs.declared.kinds.Controller.{Controller}
 use Rattle.state.specs.declared.kinds.Pair.{Pair}
@@ -23,31 +23,18 @@ use Rattle.state.specs.declared.commands.Command.{Command}
 use Rattle.state.specs.declared.commands.Command.the-variants as command
 use Rattle.nfcc.specs.declared.controller.Verdict.{Verdict}
 use Rattle.nfcc.specs.declared.controller.Verdict.the-variants as verdict
-use Rattle.nfcc.specs.declared.air.Event.{Event}
-use Rattle.nfcc.specs.declared.air.Event.the-variants.{Bad, Found, Poll, Listen, Failed, Sleeps, LinkLost, Releases, Endpoint}
-use Rattle.nfcc.specs.declared.air.Listing.{Listing}
-use Rattle.nfcc.specs.declared.air.Listing.the-variants.{Keeps, Starts, Adds}
-use Rattle.nfcc.specs.declared.air.Aired.{Aired}
-use Rattle.nfcc.specs.declared.air.Aired.the-variants.{Refused, Goes, Activates, Ends, Speaks}
+use Rattle.air.specs.declared.events.Event.{Event}
+use Rattle.air.specs.declared.events.Event.the-variants.{Bad, Found, Poll, Listen, Failed, Sleeps, LinkLost, Releases, Endpoint}
+use Rattle.air.specs.declared.events.Listing.{Listing}
+use Rattle.air.specs.declared.events.Listing.the-variants.{Keeps, Starts, Adds}
+use Rattle.air.specs.declared.events.Aired.{Aired}
+use Rattle.air.specs.declared.events.Aired.the-variants.{Refused, Goes, Activates, Ends, Speaks}
 use Rattle.state.specs.Conn.{termsOf}
 use Rattle.state.specs.Commands.{commandOf}
 use Rattle.nfcc.specs.Controller.{shortest, allowed, resetBy, after, seek, nextId, createBy, closeBy, configsOk, discoverBy, selectBy, sleepRejected, restState, deactivateBy, valuesOf, judgeOf}
 use Rattle.state.specs.Radio.{isIdle, isActive, isListening, isAsleep, polls, listens, idOk, pairOf, samePair, listed}
-use Rattle.nfcc.specs.Air.{foundIn, pollIn, listenIn, eventOf, noRoom, foundTo, foundBy, pollBy, listenBy, failedBy, airedBy}
-use Rattle.state.proofs.Chains.{every-at}
-
--- a test goes one way or the other
-pub on : {A : Type 0} (P : A → Type 0) (b : Bool) {x y : A} → (b ≡ true → P x) → (b ≡ false → P y) → P (pick b x y)
-on P true p q = p refl
-on P false p q = q refl
-
-and-left : (a b : Bool) → (a && b) ≡ true → a ≡ true
-and-left true b e = refl
-and-left false b e = e
-
-and-right : (a b : Bool) → (a && b) ≡ true → b ≡ true
-and-right true b e = e
-and-right false b e = absurd (false≢true e)
+use Rattle.air.specs.Air.{foundIn, pollIn, listenIn, eventOf, noRoom, foundTo, foundBy, pollBy, listenBy, failedBy, airedBy}
+use Rattle.state.proofs.Chains.{every-at, on, and-left, and-right}
 
 -- ---- which command a GID and an OID name
 

@@ -11,12 +11,13 @@ use borrow.Author.Tests.{ltb-false, not-false}
 use Rattle.octets.specs.Octets.{Octets, pick}
 use Rattle.packets.specs.Segments.{Segment, segments, segmentPacket, packetsOf}
 use Rattle.nfcc.specs.declared.controller.Verdict.{Verdict}
-use Rattle.nfcc.specs.declared.air.Aired.{Aired}
-use Rattle.nfcc.specs.declared.air.Aired.the-variants.{Refused, Goes, Activates, Ends, Speaks}
+use Rattle.air.specs.declared.events.Aired.{Aired}
+use Rattle.air.specs.declared.events.Aired.the-variants.{Refused, Goes, Activates, Ends, Speaks}
 use Rattle.state.specs.Conn.{placeOf, termsOf}
 use Rattle.nfcc.specs.Controller.{judgeOf}
 use Rattle.dh.specs.Host.{hearOf}
-use Rattle.nfcc.specs.Air.{eventOf}
+use Rattle.air.specs.Air.{eventOf}
+use Rattle.state.proofs.Chains.{on, or-left, or-right}
 use Rattle.model.specs.Connection.{Connection, withHost, withController, sent, pushed, heardData, stored, consumed, spoken}
 use Rattle.model.specs.Packets.{dataHeader, controlHeader, Meaning, datum, control, junk, meaning}
 use Rattle.model.specs.State.{State, profileIn, isOpen, at, withConns, withDown, withUp, withAsking, withHearing}
@@ -24,8 +25,8 @@ use Rattle.model.specs.Bench.{Call, fresh, power, command, send, push, d
 use Rattle.model.specs.Observer.{Ledger}
 use Rattle.model.specs.Reachable.{Always, WellFormed, GoesDown, GoesUp, Each, Wires}
 use Rattle.model.proofs.Link.{clash}
-use Rattle.model.proofs.Verdicts.{on, event-within}
-use Rattle.model.proofs.Order.{each, need, or-left, or-right, way-low, way-small}
+use Rattle.model.proofs.Verdicts.{event-within}
+use Rattle.model.proofs.Order.{each, need, way-low, way-small}
 use Rattle.model.proofs.Fine.{Fine, StoredIn, StoredFor}
 use Rattle.model.proofs.Always.{always}
 use Rattle.model.proofs.Small.{Small, cold-small}

@@ -15,10 +15,10 @@ use Rattle.state.specs.declared.kinds.Pending.{Pending}
 use Rattle.state.specs.declared.kinds.Pending.the-variants as pending
 use Rattle.nfcc.specs.declared.controller.Verdict.{Verdict}
 use Rattle.nfcc.specs.declared.controller.Verdict.the-variants as verdict
-use Rattle.nfcc.specs.declared.air.Event.{Event}
-use Rattle.nfcc.specs.declared.air.Event.the-variants.{Bad, Found, Poll, Listen, Failed, Sleeps, LinkLost, Releases, Endpoint}
-use Rattle.nfcc.specs.declared.air.Aired.{Aired}
-use Rattle.nfcc.specs.declared.air.Aired.the-variants.{Refused, Goes, Activates, Ends, Speaks}
+use Rattle.air.specs.declared.events.Event.{Event}
+use Rattle.air.specs.declared.events.Event.the-variants.{Bad, Found, Poll, Listen, Failed, Sleeps, LinkLost, Releases, Endpoint}
+use Rattle.air.specs.declared.events.Aired.{Aired}
+use Rattle.air.specs.declared.events.Aired.the-variants.{Refused, Goes, Activates, Ends, Speaks}
 use Rattle.dh.specs.declared.host.Answer.{Answer}
 use Rattle.dh.specs.declared.host.Answer.the-variants.{Done, ClosesAll, Sized, Opens, Closes}
 use Rattle.dh.specs.declared.host.Heard.{Heard}
@@ -27,7 +27,7 @@ use Rattle.state.specs.Conn.{placeOf, termsOf, flows}
 use Rattle.state.specs.Runs.{dataLimit, controlLimit}
 use Rattle.nfcc.specs.Controller.{judgeOf, controllerAfter}
 use Rattle.nfcc.specs.Layout.{responseMessage, noticeMessage, creditsNtf}
-use Rattle.nfcc.specs.Air.{eventOf, airedBy, airMessage, controllerAired}
+use Rattle.air.specs.Air.{eventOf, airedBy, airMessage, controllerAired}
 use Rattle.dh.specs.Host.{askedOf, hearOf, hostAfter, creditsFor, dropHeard}
 use Rattle.model.specs.Connection.{Connection, HostEnd, ControllerEnd, withHost, withController, closedHost, openedHost, closedController, openedController, sent, pushed, heardData, credited, stored, consumed, noticed, spoken}
 use Rattle.model.specs.Packets.{dataHeader, controlHeader, responsePacket, noticePackets, noticePacket, Meaning, datum, control, junk, meaning, dataCount, creditsUp}

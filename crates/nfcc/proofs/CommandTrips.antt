@@ -4,7 +4,7 @@ use Prim.Native.Nat.{ℕ, zero, suc, _+_, _*_, _<_, _≤_}
 use native.Mathlib.Nat.{mod-eq-of-lt}
 use native.Mathlib.Omega.{arith}
 use mathlib.Core.Path.{_≡_, refl}
-use mathlib.Core.Bool.{Bool, true, false, _&&_}
+use mathlib.Core.Bool.{true, false}
 use mathlib.Core.List.{List, [], _∷_}
 use lib.ListN.{length, getD}
 use lib.Dec.{ltb}
@@ -12,6 +12,7 @@ use borrow.Author.Tests.{le-leb, le-ltb}
 use Rattle.state.specs.Commands.{commandOf}
 use Rattle.nfcc.specs.Controller.{shortest, allowed, resetBy, createBy, closeBy, configOk, configsOk, discoverBy, judgeOf}
 use Rattle.nfcc.specs.CommandTrips.{Config, configOctets, allOk, discoverCmd, CommandTrips}
+use Rattle.state.proofs.Chains.{and-left, and-right}
 
 -- ---- RF_DISCOVER: as many octets as it says, and each configuration in its place
 
@@ -19,14 +20,6 @@ length-configs : (cs : List Config) → length (configOctets cs) ≡ 2 * length 
 unfolding configOctets
 length-configs [] = refl
 length-configs (c ∷ cs) = omega (arith, length-configs cs)
-
-and-left : (a b : Bool) → (a && b) ≡ true → a ≡ true
-and-left true b e = refl
-and-left false b e = e
-
-and-right : (a b : Bool) → (a && b) ≡ true → b ≡ true
-and-right true b e = e
-and-right false b e = absurd (let z : _≡_ {A = ℕ} 0 1 = cc in omega arith)
 
 -- the configuration of index i stands at octets 2 i and 2 i + 1
 config-at : (cs : List Config) (i : ℕ) → allOk cs ≡ true → i < length cs

@@ -1,6 +1,6 @@
 -- Conn IDs and places undo one another.
 -- Assumes nothing.
-use Prim.Native.Nat.{ℕ, zero, suc, _<_}
+use Prim.Native.Nat.{ℕ, zero, suc, _+_, _<_}
 use native.Mathlib.Omega.{arith}
 use mathlib.Core.Path.{_≡_, refl, sym, _∙_}
 use mathlib.Core.Bool.{Bool, true, false}
@@ -29,3 +29,12 @@ on-place c n k {rest} e f h = go (eqb c n) refl h
 pub conn-place : (c : ℕ) → placeOf c < 5 → connOf (placeOf c) ≡ c
 unfolding placeOf connOf
 conn-place c h = on-place c 0 0 refl (on-place c 2 1 refl (on-place c 3 2 refl (on-place c 4 3 refl (on-place c 5 4 refl (λ l. absurd (omega arith)))))) h
+
+-- Conn IDs ascend with their places
+pub conn-suc : (p : ℕ) → p < 4 → connOf (suc p) ≡ 2 + p
+unfolding connOf
+conn-suc zero h = refl
+conn-suc (suc zero) h = refl
+conn-suc (suc (suc zero)) h = refl
+conn-suc (suc (suc (suc zero))) h = refl
+conn-suc (suc (suc (suc (suc p)))) h = absurd (omega arith)

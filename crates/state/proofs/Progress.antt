@@ -8,7 +8,7 @@ use mathlib.Core.Bool.{Bool, true, false, not, _&&_}
 use lib.ListN.{length, length-append}
 use lib.Dec.{leb, ltb}
 use borrow.Author.Tests.{le-leb, lt-leb, leb-true, lt-ltb, le-ltb}
-use Rattle.packets.specs.Segments.{Segment, more, last, flag}
+use Rattle.packets.specs.Segments.{Segment, more, last}
 use Rattle.packets.specs.Reassembly.{Run, run, lost}
 use Rattle.state.specs.declared.kinds.Progress.{Progress}
 use Rattle.state.specs.Runs.{within, joinedOf, JoinsAs}

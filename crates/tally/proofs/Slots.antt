@@ -1,10 +1,10 @@
 -- A slot and the packet that it starts with read the same: octets past the stated length are ignored.
 -- Assumes nothing.
-use Prim.Native.Nat.{ℕ, _+_, _-_, _/_, _≤_, _<_}
+use Prim.Native.Nat.{ℕ, _+_, _/_, _≤_, _<_}
 use native.Mathlib.Decide.{decLe}
 use native.Mathlib.Omega.{arith}
 use mathlib.Core.Path.{_≡_, refl, sym, ap, _∙_}
-use lib.ListN.{length, getD, take, length-take}
+use lib.ListN.{length, getD, length-take}
 use lib.Seq.{take-all, getD-take}
 use Rattle.octets.specs.Octets.{Octets, cut}
 use Rattle.octets.proofs.Octets.{cut-cut}

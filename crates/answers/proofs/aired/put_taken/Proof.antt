@@ -1,6 +1,6 @@
 -- `answers::aired::put_taken` is safe and ends: the notification of an event that was read fits its buffer.
 -- Assumes nothing.
-use Rattle.nfcc.proofs.Events.{message-short}
+use Rattle.air.proofs.Room.{message-short}
 use borrow.Author.Needs.{needs}
 use Rattle.answers.proofs.aired.put_taken.Statement.{statement}
 use Rattle.answers.proofs.aired.put_taken.Tie as tie

@@ -1,0 +1,38 @@
+-- `air::events::active_message` meets its contract: the parameters are all that is left of the octets.
+-- Assumes nothing.
+use Rattle.nfcc.proofs.Messages.{put-same}
+use mathlib.Core.Path.{_∙_, ap}
+use native.Mathlib.Omega.{arith}
+use lib.ListN.{length}
+use Rattle.octets.proofs.Octets.{cut-rest}
+use Rattle.nfcc.specs.Layout.{activatedNtf}
+use borrow.Author.Needs.{needs}
+use Rattle.air.proofs.events.active_message.Statement.{statement}
+use Rattle.air.proofs.events.active_message.Tie as tie
+
+terms-of-requires : tie.Need-terms-of-requires
+terms-of-requires c κs = search needs
+
+window-requires : tie.Need-window-requires
+window-requires c κs = search needs
+
+activated-ntf-requires : tie.Need-activated-ntf-requires
+activated-ntf-requires c κs =
+    let start = c .before .before .before .before .before in
+    omega (arith, start .pre, ap length (c .window .ensures ∙ cut-rest 4 (start .args .m .now)))
+
+same-length : tie.Need-same-length
+same-length c = search needs
+
+returns : tie.Need-returns
+returns c =
+    let n = c .before .before in
+    let t = n .before .before .before in
+    let a = t .before .before .before .args in
+    let params = n .before .window .ensures ∙ cut-rest 4 (a .m .now) in
+    put-same (λ i. activatedNtf (a .a) (t .terms-of .ensures i) (params i)) (n .activated-ntf .ensures)
+
+pub active-message-spec : {M : Type 1} → statement M
+active-message-spec =
+    tie.close
+    (tie.spec terms-of-requires window-requires activated-ntf-requires same-length returns)

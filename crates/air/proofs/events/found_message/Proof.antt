@@ -1,0 +1,32 @@
+-- `air::events::found_message` meets its contract: the parameters are all that is left of the octets.
+-- Assumes nothing.
+use Rattle.nfcc.proofs.Messages.{put-same}
+use mathlib.Core.Path.{_∙_, ap}
+use native.Mathlib.Omega.{arith}
+use lib.ListN.{length}
+use Rattle.octets.proofs.Octets.{cut-rest}
+use Rattle.nfcc.specs.Layout.{discoverNtf}
+use borrow.Author.Needs.{needs}
+use Rattle.air.proofs.events.found_message.Statement.{statement}
+use Rattle.air.proofs.events.found_message.Tie as tie
+
+window-requires : tie.Need-window-requires
+window-requires c κs = search needs
+
+discover-ntf-requires : tie.Need-discover-ntf-requires
+discover-ntf-requires c κs =
+    let start = c .before .before .before .before in
+    omega (arith, start .pre, ap length (c .window .ensures ∙ cut-rest 5 (start .args .m .now)))
+
+same-length : tie.Need-same-length
+same-length c = search needs
+
+returns : tie.Need-returns
+returns c =
+    let n = c .before .before in
+    let a = n .before .before .before .before .before .args in
+    let params = n .before .window .ensures ∙ cut-rest 5 (a .m .now) in
+    put-same (λ i. discoverNtf (a .a) (a .kind) (params i)) (n .discover-ntf .ensures)
+
+pub found-message-spec : {M : Type 1} → statement M
+found-message-spec = tie.close (tie.spec window-requires discover-ntf-requires same-length returns)

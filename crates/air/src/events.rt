@@ -1,0 +1,362 @@
+// The air (document 01, "The air"): the octets of an event, whether the state takes it, its notification and the state after.
+use nfcc::layout::Note;
+use nfcc::layout::activated_ntf;
+use nfcc::layout::deactivate_ntf;
+use nfcc::layout::discover_ntf;
+use nfcc::layout::generic_error_ntf;
+use nfcc::layout::no_message;
+use state::conn::opened_at;
+use state::conn::shut_at;
+use state::conn::terms_of;
+use state::kinds::Activation;
+use state::kinds::Controller;
+use state::kinds::Counts;
+use state::kinds::Pair;
+use state::kinds::Pairs;
+use state::kinds::Profile;
+use state::kinds::Rf;
+use state::kinds::Selection;
+use state::radio::added_to;
+use state::radio::id_ok;
+use state::radio::is_active;
+use state::radio::is_asleep;
+use state::radio::is_listed;
+use state::radio::is_listening;
+use state::radio::listens;
+use state::radio::pair_of;
+use state::radio::polls;
+use state::radio::same_pair;
+use state::radio::started_with;
+ghost use mathlib.Core.Path.{_≡_};
+ghost use Prim.Native.Nat.{_+_, _≤_};
+ghost use lib.ListN.{length, drop};
+ghost use Rattle.octets.specs.Octets.{pick};
+ghost use Rattle.state.specs.Conn.{termsOf};
+ghost use Rattle.nfcc.specs.Layout.{Put, discoverNtf, activatedNtf};
+ghost use Rattle.air.specs.Air.{targetOf, foundIn, pollIn, listenIn, eventOf, noRoom, foundTo, foundBy, pollBy, listenBy, failedBy, airedBy, airMessage, listedAfter, movedTo, controllerAired, connsAired};
+
+// An event, by its kind. Bad: octets outside the limits of any. Found carries the notification type.
+pub enum Event {
+    Bad,
+    Found(Activation, u8),
+    Poll(Activation),
+    Listen(Activation),
+    Failed,
+    Sleeps,
+    LinkLost,
+    Releases,
+    Endpoint,
+}
+
+// What becomes of the list of pairs.
+pub enum Listing {
+    Keeps,
+    Starts(Pair),
+    Adds(Pair),
+}
+
+// What an event does. Goes: to a state. Activates: connection 0 opens. Ends: it closes. Speaks: the endpoint has a message.
+pub enum Aired {
+    Refused,
+    Goes(Rf, Listing),
+    Activates(Rf, Listing),
+    Ends(Rf),
+    Speaks,
+}
+
+// The event where its octets are within their limits.
+fn within(ok: bool, e: Event) -> Event
+    ensures { λ r. ⌜ r ≡ pick ok e Event.Bad ⌝ }
+{
+    if ok { e } else { Event::Bad }
+}
+
+// ID, protocol and mode.
+fn target_of(m: &[u8]) -> Activation
+    ensures { λ r. ⌜ r ≡ targetOf (now (m .entry)) ⌝ }
+{
+    let id = octets::octet_at(m, 1);
+    let protocol = octets::octet_at(m, 2);
+    let mode = octets::octet_at(m, 3);
+    Activation {
+        id: id,
+        protocol: protocol,
+        mode: mode,
+    }
+}
+
+// Kind 1: ID, protocol, mode, type, and up to 32 parameter octets.
+fn found_in(m: &[u8]) -> Event
+    ensures { λ r. ⌜ r ≡ foundIn (now (m .entry)) ⌝ }
+{
+    let n = m.len();
+    let a = target_of(m);
+    let kind = octets::octet_at(m, 4);
+    let named = id_ok(a.id);
+    let polling = polls(a.mode);
+    within(
+        (5 <= n) & (n <= 37) & named & polling & (kind <= 2),
+        Event::Found(a, kind),
+    )
+}
+
+// Kind 2: ID, protocol, mode, and up to 32 parameter octets.
+fn poll_in(m: &[u8]) -> Event
+    ensures { λ r. ⌜ r ≡ pollIn (now (m .entry)) ⌝ }
+{
+    let n = m.len();
+    let a = target_of(m);
+    let named = id_ok(a.id);
+    let polling = polls(a.mode);
+    within((4 <= n) & (n <= 36) & named & polling, Event::Poll(a))
+}
+
+// Kind 3: the same with a listening mode.
+fn listen_in(m: &[u8]) -> Event
+    ensures { λ r. ⌜ r ≡ listenIn (now (m .entry)) ⌝ }
+{
+    let n = m.len();
+    let a = target_of(m);
+    let named = id_ok(a.id);
+    let listening = listens(a.mode);
+    within((4 <= n) & (n <= 36) & named & listening, Event::Listen(a))
+}
+
+// The event that the octets are, the kind first.
+pub fn event_of(m: &[u8]) -> Event
+    ensures { λ r. ⌜ r ≡ eventOf (now (m .entry)) ⌝ }
+{
+    let n = m.len();
+    let kind = octets::octet_at(m, 0);
+    match kind {
+        1 => found_in(m),
+        2 => poll_in(m),
+        3 => listen_in(m),
+        4 => within(n == 1, Event::Failed),
+        5 => within(n == 1, Event::Sleeps),
+        6 => within(n == 1, Event::LinkLost),
+        7 => within(n == 1, Event::Releases),
+        8 => within(n <= 1025, Event::Endpoint),
+        _ => Event::Bad,
+    }
+}
+
+// What an event does where the state takes it, and Refused elsewhere.
+fn taken(ok: bool, a: Aired) -> Aired
+    ensures { λ r. ⌜ r ≡ pick ok a Aired.Refused ⌝ }
+{
+    if ok { a } else { Aired::Refused }
+}
+
+// A repeated pair, an eighth with type 2, or a list with no place left.
+fn no_room(ps: Pairs, p: Pair, kind: u8) -> bool
+    ensures { λ r. ⌜ r ≡ noRoom ps p kind ⌝ }
+{
+    let count = ps.count;
+    let repeated = is_listed(ps, p);
+    repeated | (8 <= count) | ((kind == 2) & (7 <= count))
+}
+
+// The state after a target was found: type 2 says that more follow.
+fn found_to(kind: u8) -> Rf
+    ensures { λ r. ⌜ r ≡ foundTo kind ⌝ }
+{
+    if kind == 2 {
+        Rf::AllDiscoveries
+    } else {
+        Rf::HostSelect(Selection::Nothing)
+    }
+}
+
+// A target is found, in W4_ALL_DISCOVERIES.
+fn found_more(ps: Pairs, p: Pair, kind: u8) -> Aired
+    ensures { λ r. ⌜ r ≡ pick (noRoom ps p kind) Aired.Refused (Aired.Goes (foundTo kind) (Listing.Adds p)) ⌝ }
+{
+    let full = no_room(ps, p, kind);
+    let rf = found_to(kind);
+    if full {
+        Aired::Refused
+    } else {
+        Aired::Goes(rf, Listing::Adds(p))
+    }
+}
+
+// A target is found.
+fn found_by(rf: Rf, ps: Pairs, a: Activation, kind: u8) -> Aired
+    ensures { λ r. ⌜ r ≡ foundBy rf ps a kind ⌝ }
+{
+    let p = pair_of(a);
+    match rf {
+        Rf::Idle => Aired::Refused,
+        Rf::Discovery => {
+            if kind == 2 {
+                Aired::Goes(Rf::AllDiscoveries, Listing::Starts(p))
+            } else {
+                Aired::Refused
+            }
+        }
+        Rf::AllDiscoveries => found_more(ps, p, kind),
+        Rf::HostSelect(_) => Aired::Refused,
+        Rf::PollActive(_) => Aired::Refused,
+        Rf::ListenActive(_) => Aired::Refused,
+        Rf::ListenSleep => Aired::Refused,
+    }
+}
+
+// A poll activation; from W4_HOST_SELECT it is that of the selection.
+fn poll_by(rf: Rf, a: Activation) -> Aired
+    ensures { λ r. ⌜ r ≡ pollBy rf a ⌝ }
+{
+    let p = pair_of(a);
+    match rf {
+        Rf::Idle => Aired::Refused,
+        Rf::Discovery => Aired::Activates(Rf::PollActive(a), Listing::Starts(p)),
+        Rf::AllDiscoveries => Aired::Refused,
+        Rf::HostSelect(s) => match s {
+            Selection::Nothing => Aired::Refused,
+            Selection::Chosen(q) => taken(
+                same_pair(q, p),
+                Aired::Activates(Rf::PollActive(a), Listing::Keeps),
+            ),
+        },
+        Rf::PollActive(_) => Aired::Refused,
+        Rf::ListenActive(_) => Aired::Refused,
+        Rf::ListenSleep => Aired::Refused,
+    }
+}
+
+// A listen activation.
+fn listen_by(rf: Rf, a: Activation) -> Aired
+    ensures { λ r. ⌜ r ≡ listenBy rf a ⌝ }
+{
+    match rf {
+        Rf::Idle => Aired::Refused,
+        Rf::Discovery => Aired::Activates(Rf::ListenActive(a), Listing::Keeps),
+        Rf::AllDiscoveries => Aired::Refused,
+        Rf::HostSelect(_) => Aired::Refused,
+        Rf::PollActive(_) => Aired::Refused,
+        Rf::ListenActive(_) => Aired::Refused,
+        Rf::ListenSleep => Aired::Activates(Rf::ListenActive(a), Listing::Keeps),
+    }
+}
+
+// The selected target failed: the selection ends.
+fn failed_by(rf: Rf) -> Aired
+    ensures { λ r. ⌜ r ≡ failedBy rf ⌝ }
+{
+    match rf {
+        Rf::Idle => Aired::Refused,
+        Rf::Discovery => Aired::Refused,
+        Rf::AllDiscoveries => Aired::Refused,
+        Rf::HostSelect(s) => match s {
+            Selection::Nothing => Aired::Refused,
+            Selection::Chosen(_) => Aired::Goes(Rf::HostSelect(Selection::Nothing), Listing::Keeps),
+        },
+        Rf::PollActive(_) => Aired::Refused,
+        Rf::ListenActive(_) => Aired::Refused,
+        Rf::ListenSleep => Aired::Refused,
+    }
+}
+
+// What an event does in an RF state with these pairs found.
+pub fn judge_event(rf: Rf, ps: Pairs, e: Event) -> Aired
+    ensures { λ r. ⌜ r ≡ airedBy rf ps e ⌝ }
+{
+    match e {
+        Event::Bad => Aired::Refused,
+        Event::Found(a, kind) => found_by(rf, ps, a, kind),
+        Event::Poll(a) => poll_by(rf, a),
+        Event::Listen(a) => listen_by(rf, a),
+        Event::Failed => failed_by(rf),
+        Event::Sleeps => taken(is_listening(rf), Aired::Ends(Rf::ListenSleep)),
+        Event::LinkLost => taken(is_listening(rf) | is_asleep(rf), Aired::Ends(Rf::Discovery)),
+        Event::Releases => taken(is_listening(rf), Aired::Ends(Rf::Discovery)),
+        Event::Endpoint => taken(is_active(rf), Aired::Speaks),
+    }
+}
+
+// The list of pairs after an event.
+fn listed_after(ps: Pairs, l: Listing) -> Pairs
+    ensures { λ r. ⌜ r ≡ listedAfter ps l ⌝ }
+{
+    match l {
+        Listing::Keeps => ps,
+        Listing::Starts(p) => started_with(p),
+        Listing::Adds(p) => added_to(ps, p),
+    }
+}
+
+// The controller in another RF state, with these pairs.
+fn moved_to(k: Controller, rf: Rf, ps: Pairs) -> Controller
+    ensures { λ r. ⌜ r ≡ movedTo k rf ps ⌝ }
+{
+    let phase = k.phase;
+    Controller {
+        phase: phase,
+        given: k.given,
+        rf: rf,
+        pairs: ps,
+    }
+}
+
+// The controller after an event.
+pub fn controller_aired(k: Controller, a: Aired) -> Controller
+    ensures { λ r. ⌜ r ≡ controllerAired k a ⌝ }
+{
+    let ps = k.pairs;
+    match a {
+        Aired::Refused => k,
+        Aired::Goes(rf, l) => moved_to(k, rf, listed_after(ps, l)),
+        Aired::Activates(rf, l) => moved_to(k, rf, listed_after(ps, l)),
+        Aired::Ends(rf) => moved_to(k, rf, ps),
+        Aired::Speaks => k,
+    }
+}
+
+// The connections after an event: connection 0 opens with an activation and closes with a deactivation.
+pub fn conns_aired(p: Profile, conns: [Counts; 5], a: Aired) -> [Counts; 5]
+    ensures { λ r. ⌜ r ≡ connsAired p conns a ⌝ }
+{
+    match a {
+        Aired::Refused => conns,
+        Aired::Goes(_, _) => conns,
+        Aired::Activates(_, _) => opened_at(conns, 0, terms_of(p, 0)),
+        Aired::Ends(_) => shut_at(conns, 0),
+        Aired::Speaks => conns,
+    }
+}
+
+// RF_DISCOVER_NTF for a target that was found; its parameters are a part of the event's octets.
+fn found_message(out: &mut [u8], a: Activation, kind: u8, m: &[u8]) -> Note
+    requires { ⌜ (43 ≤ length (now out)) × (5 + length (drop 5 (now m)) ≤ 43) ⌝ }
+    ensures { λ r. ⌜ Put (now (out .entry)) (record { gid = 1; oid = 3; payload = discoverNtf a kind (drop 5 (now (m .entry))) }) r (now (out .exit)) ⌝ }
+{
+    discover_ntf(out, a, kind, octets::window(m, 5, m.len()))
+}
+
+// RF_INTF_ACTIVATED_NTF for an activation.
+fn active_message(out: &mut [u8], p: Profile, a: Activation, m: &[u8]) -> Note
+    requires { ⌜ (43 ≤ length (now out)) × (11 + length (drop 4 (now m)) ≤ 43) ⌝ }
+    ensures { λ r. ⌜ Put (now (out .entry)) (record { gid = 1; oid = 5; payload = activatedNtf a (termsOf p 0) (drop 4 (now (m .entry))) }) r (now (out .exit)) ⌝ }
+{
+    let t = terms_of(p, 0);
+    activated_ntf(out, a, t, octets::window(m, 4, m.len()))
+}
+
+// The notification that an event gives, where it gives one. The message of an event that was read from m has at most 43 octets.
+pub fn air_message(out: &mut [u8], p: Profile, e: Event, m: &[u8]) -> Note
+    requires { ⌜ (43 ≤ length (now out)) × (length (airMessage p e (now m) .payload) ≤ 43) ⌝ }
+    ensures { λ r. ⌜ Put (now (out .entry)) (airMessage p e (now (m .entry))) r (now (out .exit)) ⌝ }
+{
+    match e {
+        Event::Bad => no_message(),
+        Event::Found(a, kind) => found_message(out, a, kind, m),
+        Event::Poll(a) => active_message(out, p, a, m),
+        Event::Listen(a) => active_message(out, p, a, m),
+        Event::Failed => generic_error_ntf(out),
+        Event::Sleeps => deactivate_ntf(out, 0x01, 0x01),
+        Event::LinkLost => deactivate_ntf(out, 0x03, 0x02),
+        Event::Releases => deactivate_ntf(out, 0x03, 0x01),
+        Event::Endpoint => no_message(),
+    }
+}
