@@ -1,10 +1,10 @@
 // An event of the air through the controller's judgement: refusal 3 or 11, or the notification and the state after it.
-use crate::command::put_packet;
-use crate::given;
-use crate::given::State;
 use air::events;
 use air::events::Aired;
 use air::events::Event;
+use replies::command::put_packet;
+use replies::given;
+use replies::given::State;
 
 // The fields of an event that the controller's state takes.
 fn put_taken(out: &mut [u8], at: usize, s: State, m: &[u8], a: Aired) -> usize {

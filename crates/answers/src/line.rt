@@ -1,15 +1,15 @@
 // A line of input to its answer. The forms:
 //
-//     no=NAME st=STATE cmd=COMMAND    a command to a controller in a state (given.rt): GID, OID, payload
+//     no=NAME st=STATE cmd=COMMAND    a command to a controller in a state (given.rt of replies): GID, OID, payload
 //     no=NAME st=STATE air=EVENT      an event of the air, kind first, to such a controller
 //     no=NAME owed=CREDITS            the credit notice of a controller that owes so much on connections 0, 2, 3, 4, 5
-//     no=NAME host=HOST up=PACKET     a whole control packet to a host (heard.rt)
+//     no=NAME host=HOST up=PACKET     a whole control packet to a host (heard.rt of replies)
 //
 // All but NAME are pairs of capital hexadecimal digits. A line of another form is answered by `bad`.
 use crate::aired;
-use crate::command;
-use crate::given;
-use crate::heard;
+use replies::command;
+use replies::given;
+use replies::heard;
 use text::fields;
 use text::fields::Held;
 

@@ -2,9 +2,6 @@
 // fields in a fixed order; line.rt has the forms. tests/answers.py makes the input and, from the standard and by rules of its
 // own, the output.
 mod aired;
-mod command;
-mod given;
-mod heard;
 mod line;
 
 use text::lines;

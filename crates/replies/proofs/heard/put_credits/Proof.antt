@@ -1,11 +1,11 @@
--- `answers::heard::put_credits` is safe and ends. The buffer keeps its length; there are five connections.
+-- `replies::heard::put_credits` is safe and ends. The buffer keeps its length; there are five connections.
 -- Assumes nothing.
 use borrow.Author.Needs.{needs}
 use lib.ListN.{length}
 use Prim.Native.Nat.{_≤_, _-_}
 use mathlib.Core.Path.{_≡_}
-use Rattle.answers.proofs.heard.put_credits.Statement.{statement}
-use Rattle.answers.proofs.heard.put_credits.Tie as tie
+use Rattle.replies.proofs.heard.put_credits.Statement.{statement}
+use Rattle.replies.proofs.heard.put_credits.Tie as tie
 
 abbrev Inv-loop : tie.InvT-loop
 Inv-loop out₀ at m n₀ i₀ t8 out n i = (i ≤ 5) × (length out ≡ length out₀)

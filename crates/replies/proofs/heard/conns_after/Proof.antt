@@ -1,10 +1,10 @@
--- `answers::heard::conns_after` is safe and ends: where the notice is no credit notice, `conns_heard` asks for nothing.
+-- `replies::heard::conns_after` is safe and ends: where the notice is no credit notice, `conns_heard` asks for nothing.
 -- Assumes nothing.
 use mathlib.Core.List.{[], _∷_}
 use types.Run.{miss}
 use borrow.Author.Needs.{needs}
-use Rattle.answers.proofs.heard.conns_after.Statement.{statement}
-use Rattle.answers.proofs.heard.conns_after.Tie as tie
+use Rattle.replies.proofs.heard.conns_after.Statement.{statement}
+use Rattle.replies.proofs.heard.conns_after.Tie as tie
 
 enum-told : tie.Need-enum-told
 enum-told c = search needs

@@ -1,9 +1,9 @@
--- `answers::given::pairs_of` is safe and ends: there are at most 255 pairs to read.
+-- `replies::given::pairs_of` is safe and ends: there are at most 255 pairs to read.
 -- Assumes nothing.
 use borrow.Author.Needs.{needs}
 use Prim.Native.Nat.{_≤_, _-_}
-use Rattle.answers.proofs.given.pairs_of.Statement.{statement}
-use Rattle.answers.proofs.given.pairs_of.Tie as tie
+use Rattle.replies.proofs.given.pairs_of.Statement.{statement}
+use Rattle.replies.proofs.given.pairs_of.Tie as tie
 
 abbrev Inv-loop : tie.InvT-loop
 Inv-loop o count ps₀ i₀ ps i = (i ≤ count) × (count ≤ 255)

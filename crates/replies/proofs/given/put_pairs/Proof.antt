@@ -1,11 +1,11 @@
--- `answers::given::put_pairs` is safe and ends. The buffer keeps its length; there are eight places.
+-- `replies::given::put_pairs` is safe and ends. The buffer keeps its length; there are eight places.
 -- Assumes nothing.
 use borrow.Author.Needs.{needs}
 use lib.ListN.{length}
 use Prim.Native.Nat.{_≤_, _-_}
 use mathlib.Core.Path.{_≡_}
-use Rattle.answers.proofs.given.put_pairs.Statement.{statement}
-use Rattle.answers.proofs.given.put_pairs.Tie as tie
+use Rattle.replies.proofs.given.put_pairs.Statement.{statement}
+use Rattle.replies.proofs.given.put_pairs.Tie as tie
 
 abbrev Inv-loop : tie.InvT-loop
 Inv-loop out₀ at ps count n₀ i₀ out n i = (i ≤ 8) × (length out ≡ length out₀)
