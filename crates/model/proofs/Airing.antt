@@ -28,7 +28,11 @@ use Rattle.state.proofs.Chains.{on, or-left, or-right}
 use Rattle.model.specs.Connection.{Connection, withController, spoken}
 use Rattle.model.specs.Packets.{noticePackets}
 use Rattle.model.specs.State.{State, withConns, withUp, withControllerState, at}
-use Rattle.model.specs.Bench.{Change, stays, opens, changeAired, atController, airingAs, airing, air, rules, isBad, isEndpoint, isRefused, activates, isNil}
+use Rattle.model.specs.Effects.{air}
+use Rattle.model.specs.Refusals.{isNil}
+use Rattle.model.specs.Changes.{Change, stays, opens, changeAired, atController}
+use Rattle.model.specs.calls.Air.{airingAs, airing, isBad, isEndpoint, isRefused, activates}
+use Rattle.model.specs.Bench.{rules}
 use Rattle.model.specs.Observer.{Ledger, spokenL, airedL, shown}
 use Rattle.model.proofs.Items.{itemsBy, itemsOf, segsOf, putsL}
 use Rattle.model.proofs.Link.{clash}

@@ -5,7 +5,9 @@ use mathlib.Core.Path.{_≡_, refl}
 use mathlib.Core.List.{List, [], _∷_}
 use Rattle.state.specs.declared.kinds.Profile.{Profile}
 use Rattle.model.specs.State.{State, cold, profileIn}
-use Rattle.model.specs.Bench.{Call, Result, taken, refused, first, rules, act, judged, step}
+use Rattle.model.specs.Effects.{Call, Result, taken, refused}
+use Rattle.model.specs.Refusals.{first}
+use Rattle.model.specs.Bench.{rules, act, judged, step}
 use Rattle.model.specs.Observer.{Ledger, Account, opening, observe, eventOf, after}
 use Rattle.model.specs.Reachable.{Always}
 use Rattle.model.proofs.Messages.{Limits, profile-limits}

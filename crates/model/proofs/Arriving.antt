@@ -15,7 +15,10 @@ use Rattle.state.proofs.Chains.{on}
 use Rattle.model.specs.Connection.{withController, stored}
 use Rattle.model.specs.Packets.{Meaning, datum, control, junk, meaning}
 use Rattle.model.specs.State.{State, isOpen, at, withDown, withConns, withAsking}
-use Rattle.model.specs.Bench.{Effect, taken, down, isNil, rules, answering, asked, arriving, taking}
+use Rattle.model.specs.Effects.{Effect, taken, down}
+use Rattle.model.specs.Refusals.{isNil}
+use Rattle.model.specs.calls.Down.{answering, asked, arriving, taking}
+use Rattle.model.specs.Bench.{rules}
 use Rattle.model.specs.Observer.{Ledger, Account, arrivedL, arrival, shown, seen, eventOf}
 use Rattle.model.proofs.Items.{itemsOf, segsIn, segsOf}
 use Rattle.model.proofs.Link.{clash}

@@ -24,7 +24,8 @@ use Rattle.dh.specs.Contents.{noticeOf, written}
 use Rattle.dh.specs.Host.{okAnswer, answerOf, noticed, heardAlone, creditsFor}
 use Rattle.state.proofs.Chains.{on}
 use Rattle.model.specs.Packets.{Meaning, datum, control, junk, meaning, says}
-use Rattle.model.specs.Bench.{Change, stays, opens, changeHeard, isClosing}
+use Rattle.model.specs.Refusals.{isClosing}
+use Rattle.model.specs.Changes.{Change, stays, opens, changeHeard}
 use Rattle.model.proofs.Items.{Item, carry, credit, opened, closed, itemsBy, itemsIn, itemsOf}
 use Rattle.model.proofs.Phases.{walk, start, live, Ends, bad-walk}
 use Rattle.model.proofs.Link.{clash}

@@ -28,7 +28,9 @@ use Rattle.state.proofs.Chains.{on}
 use Rattle.model.specs.Connection.{Connection}
 use Rattle.model.specs.Packets.{aimedAt, says, responsePacket, noticePacket, noticePackets}
 use Rattle.model.specs.State.{State, isOpen}
-use Rattle.model.specs.Bench.{Change, stays, opens, closes, changeBy, atController, answers, deciding, isClosing, noConn}
+use Rattle.model.specs.Refusals.{isClosing, noConn}
+use Rattle.model.specs.Changes.{Change, stays, opens, closes, changeBy, atController}
+use Rattle.model.specs.calls.Down.{answers, deciding}
 use Rattle.model.specs.Observer.{Ledger, shown}
 use Rattle.model.proofs.Items.{putsL, Item, opened, itemsBy, itemsOf, segsOf}
 use Rattle.model.proofs.Link.{clash}

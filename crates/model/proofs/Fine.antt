@@ -23,7 +23,11 @@ use Rattle.state.proofs.Chains.{on}
 use Rattle.model.specs.Connection.{Connection, ControllerEnd, withHost, withController}
 use Rattle.model.specs.Packets.{Meaning, datum, control, junk, meaning}
 use Rattle.model.specs.State.{State, cold, at}
-use Rattle.model.specs.Bench.{Call, taken, Change, stays, opens, closes, gives, atController, atHost, isClosing, isLoop, noConn, first, rules, act, judged}
+use Rattle.model.specs.Effects.{Call, taken}
+use Rattle.model.specs.Refusals.{isClosing, noConn, first}
+use Rattle.model.specs.Changes.{Change, stays, opens, closes, gives, atController, atHost}
+use Rattle.model.specs.calls.Consume.{isLoop}
+use Rattle.model.specs.Bench.{rules, act, judged}
 use Rattle.model.specs.Observer.{Ledger, Account, blank, putBy, readBy, putAll, changeIn, seen, eventOf}
 use Rattle.model.proofs.Items.{Item, itemsBy, itemsIn, itemsOf, segsOf, putsK, readsK, putsL, readsL}
 use Rattle.model.proofs.Link.{Good, clash, cold-good}

@@ -29,7 +29,12 @@ use Rattle.state.proofs.Chains.{on}
 use Rattle.model.specs.Connection.{Connection, withHost, heardData}
 use Rattle.model.specs.Packets.{Meaning, datum, control, junk, meaning, says}
 use Rattle.model.specs.State.{State, at, withUp, withConns, withHearing}
-use Rattle.model.specs.Bench.{Effect, taken, up, isNil, rules, Change, stays, opens, closes, gives, changeHeard, understanding, hearing, heard, coming, reading, runFor, sameRun}
+use Rattle.model.specs.Effects.{Effect, taken, up}
+use Rattle.model.specs.Refusals.{isNil}
+use Rattle.model.specs.Runs.{runFor, sameRun}
+use Rattle.model.specs.Changes.{Change, stays, opens, closes, gives, changeHeard}
+use Rattle.model.specs.calls.Up.{understanding, hearing, heard, coming, reading}
+use Rattle.model.specs.Bench.{rules}
 use Rattle.model.specs.Observer.{Ledger, Account, givenL, readBy, changeIn, heardAs, seen, eventOf}
 use Rattle.model.proofs.Items.{loaded, itemsBy, itemsOf, segsOf, readsK}
 use Rattle.model.proofs.Phases.{Ends, walk, start, bad-walk}

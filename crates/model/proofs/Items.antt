@@ -11,7 +11,8 @@ use Rattle.state.specs.declared.kinds.Terms.{Terms}
 use Rattle.state.specs.Runs.{dataLimit}
 use Rattle.model.specs.Connection.{Connection, ControllerEnd, withHost, withController, closedHost, openedHost, closedController, openedController, heardData, credited}
 use Rattle.model.specs.Packets.{Meaning, datum, control, junk, meaning}
-use Rattle.model.specs.Bench.{Change, stays, opens, closes, gives, segmentIn}
+use Rattle.model.specs.Changes.{Change, stays, opens, closes, gives}
+use Rattle.model.specs.calls.Consume.{segmentIn}
 use Rattle.model.specs.Observer.{Ledger, putBy, readBy, givenL, changeIn}
 
 -- what a data packet carries: a segment, and the credits inside the packet, which are 0 today

@@ -20,7 +20,14 @@ use Rattle.state.proofs.Chains.{on, or-left, or-right}
 use Rattle.model.specs.Connection.{ControllerEnd, withHost, withController, sent, pushed, consumed, spoken}
 use Rattle.model.specs.Packets.{noticePacket, dataHeader, controlHeader, Meaning, datum, control, junk, meaning}
 use Rattle.model.specs.State.{State, profileIn, withConns, withUp, at}
-use Rattle.model.specs.Bench.{taken, fresh, power, command, send, push, consume, credit, reply, report, isLoop, isNil, noConn, isClosing, rules, pushing, consuming, consumedAs, replying, segmentIn, owedBy, allZero, givenTo}
+use Rattle.model.specs.Effects.{taken, fresh, power, command, send, push, consume, credit, reply, report}
+use Rattle.model.specs.Refusals.{isNil, noConn, isClosing}
+use Rattle.model.specs.Changes.{givenTo}
+use Rattle.model.specs.calls.Push.{pushing}
+use Rattle.model.specs.calls.Consume.{isLoop, consuming, consumedAs, segmentIn}
+use Rattle.model.specs.calls.Credit.{owedBy, allZero}
+use Rattle.model.specs.calls.Reply.{replying}
+use Rattle.model.specs.Bench.{rules}
 use Rattle.model.specs.Observer.{Account, Ledger, sentL, pushedL, consumedL, seen, eventOf, shown}
 use Rattle.model.proofs.Items.{loaded, itemsBy, itemsOf, segsOf}
 use Rattle.model.proofs.Link.{clash, owed-le, credit-left}

@@ -15,7 +15,8 @@ use Rattle.state.specs.Conn.{flows}
 use Rattle.state.specs.Runs.{dataLimit}
 use Rattle.model.specs.Connection.{Connection, closed as coldConnection}
 use Rattle.model.specs.Packets.{meaning}
-use Rattle.model.specs.Bench.{Change, stays, opens, closes, gives, creditsOf, segmentIn}
+use Rattle.model.specs.Changes.{Change, stays, opens, closes, gives, creditsOf}
+use Rattle.model.specs.calls.Consume.{segmentIn}
 use Rattle.model.specs.Observer.{HostCount, Ledger, blank}
 use Rattle.model.specs.Claim.{heldIn, storedIn, owedIn}
 use Rattle.model.proofs.Items.{Item, carry, credit, opened, closed, itemsBy, storeSegs, upSegs, upCredits, upReturned}

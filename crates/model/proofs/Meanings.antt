@@ -26,7 +26,7 @@ use Rattle.state.specs.Commands.{commandOf}
 use Rattle.dh.specs.Contents.{written, noticeOf}
 use Rattle.dh.specs.Host.{heardAlone, hearOf, answerOf, okAnswer, noticed, creditsFor}
 use Rattle.model.specs.Packets.{dataHeader, controlHeader, responsePacket, noticePacket, Meaning, datum, control, junk, meant, meaning, isDataFor, dataCount, aimedAt, says, saysIn, contents, creditsSaid, creditsUp}
-use Rattle.model.specs.Bench.{stays, opens, closes, gives, changeHeard}
+use Rattle.model.specs.Changes.{stays, opens, closes, gives, changeHeard}
 use Rattle.model.proofs.Items.{Item, carry, credit, opened, closed, loaded, itemsBy, itemsIn, itemsOf, segsIn, segsOf, storeSegs, upCredits}
 
 -- ---- what a packet means that was written with a header in range

@@ -39,7 +39,11 @@ use Rattle.state.proofs.Chains.{every-at, on}
 use Rattle.ends.proofs.RoundTrips.{round-trips}
 use Rattle.model.specs.Packets.{responsePacket, noticePacket, noticePackets, control, meaning, says}
 use Rattle.model.specs.State.{profileOk, profileIn}
-use Rattle.model.specs.Bench.{answers, stays, opens, closes, changeBy, changeAired, changeHeard, changeAnswered, givenTo, isRefused, noConn, ids, allZero}
+use Rattle.model.specs.Refusals.{noConn, ids}
+use Rattle.model.specs.Changes.{stays, opens, closes, changeBy, changeAired, changeHeard, changeAnswered, givenTo}
+use Rattle.model.specs.calls.Down.{answers}
+use Rattle.model.specs.calls.Credit.{allZero}
+use Rattle.model.specs.calls.Air.{isRefused}
 use Rattle.model.proofs.Items.{Item, closed, itemsBy, itemsOf}
 use Rattle.model.proofs.Meanings.{meaning-response, meaning-notice}
 use Rattle.model.proofs.Verdicts.{Fits, Within, found-by, poll-by, listen-by, failed-by}

@@ -26,7 +26,13 @@ use Rattle.dh.specs.Host.{answerOf, heardAlone, aimOf, expected, hearOf}
 use Rattle.state.proofs.Chains.{on, or-left, or-right}
 use Rattle.model.specs.Packets.{Meaning, datum, control, junk, meaning, says}
 use Rattle.model.specs.State.{State, isOpen, withUp}
-use Rattle.model.specs.Bench.{Call, fresh, power, command, send, push, down, consume, credit, air, reply, up, report, Result, taken, refused, Rule, rule, first, rules, judged, step, isNil, noConn, isLoop, isHeld, full, ids, Change, creditsOf, changeHeard, above, anyOf, tooMany, firstTooMany, sameRun, wholeBy}
+use Rattle.model.specs.Effects.{Call, fresh, power, command, send, push, down, consume, credit, air, reply, up, report, Result, taken, refused}
+use Rattle.model.specs.Refusals.{Rule, rule, first, isNil, noConn, isHeld, full, ids}
+use Rattle.model.specs.Runs.{sameRun, wholeBy}
+use Rattle.model.specs.Changes.{Change, creditsOf, changeHeard}
+use Rattle.model.specs.calls.Consume.{isLoop}
+use Rattle.model.specs.calls.Up.{above, anyOf, tooMany, firstTooMany}
+use Rattle.model.specs.Bench.{rules, judged, step}
 use Rattle.model.specs.Observer.{Ledger}
 use Rattle.model.specs.Reachable.{Always, Never13}
 use Rattle.model.proofs.Items.{itemsOf}

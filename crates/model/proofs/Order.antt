@@ -18,7 +18,9 @@ use Rattle.state.specs.declared.kinds.Pending.the-variants as pending
 use Rattle.state.specs.Runs.{controlLimit}
 use Rattle.model.specs.Packets.{controlHeader, Meaning, datum, control, junk, meaning}
 use Rattle.model.specs.State.{noRun, ControlRun}
-use Rattle.model.specs.Bench.{Rule, taken, first, isNil, isBusy, runFor, sameRun}
+use Rattle.model.specs.Effects.{taken}
+use Rattle.model.specs.Refusals.{Rule, first, isNil, isBusy}
+use Rattle.model.specs.Runs.{runFor, sameRun}
 use Rattle.model.proofs.Items.{segsIn, segsOf}
 use Rattle.model.proofs.Link.{clash}
 

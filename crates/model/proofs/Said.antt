@@ -30,7 +30,9 @@ use Rattle.dh.specs.Host.{answerOf, okAnswer, aimOf, noticed, heardAlone, expec
 use Rattle.air.specs.Air.{airMessage}
 use Rattle.state.proofs.Chains.{on}
 use Rattle.model.specs.Packets.{Meaning, datum, control, junk, meaning, aimedAt, says, noticePacket, noticePackets}
-use Rattle.model.specs.Bench.{answers, noConn, Change, stays, opens, closes, gives, changeHeard}
+use Rattle.model.specs.Refusals.{noConn}
+use Rattle.model.specs.Changes.{Change, stays, opens, closes, gives, changeHeard}
+use Rattle.model.specs.calls.Down.{answers}
 use Rattle.model.specs.Reachable.{TermsWithin}
 use Rattle.model.proofs.Verdicts.{Fits}
 use Rattle.model.proofs.Meanings.{meaning-notice}

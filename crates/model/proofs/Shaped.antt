@@ -26,7 +26,9 @@ use Rattle.state.proofs.Chains.{on}
 use Rattle.model.specs.Connection.{Connection, withHost, withController}
 use Rattle.model.specs.Packets.{dataHeader, controlHeader, noticePacket, noticePackets, meaning}
 use Rattle.model.specs.State.{State, cold}
-use Rattle.model.specs.Bench.{answers, noConn, Change, stays, opens, closes, gives, atController, atHost}
+use Rattle.model.specs.Refusals.{noConn}
+use Rattle.model.specs.Changes.{Change, stays, opens, closes, gives, atController, atHost}
+use Rattle.model.specs.calls.Down.{answers}
 use Rattle.model.specs.Reachable.{WellFormed, GoesDown, GoesUp, Each}
 use Rattle.model.proofs.Verdicts.{Within}
 use Rattle.model.proofs.Meanings.{meaning-data, meaning-command, meaning-response, meaning-notice}

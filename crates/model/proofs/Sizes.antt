@@ -32,7 +32,18 @@ use Rattle.state.proofs.Chains.{on, or-left, or-right}
 use Rattle.model.specs.Connection.{Connection, withHost, withController, sent, pushed, heardData, stored, consumed, noticed, spoken}
 use Rattle.model.specs.Packets.{dataHeader, noticePackets, Meaning, datum, control, junk, meaning}
 use Rattle.model.specs.State.{State, isOpen, at, withConns, withDown, withUp, withAsking, withHearing, ControlRun, profileIn, withHostState}
-use Rattle.model.specs.Bench.{fresh, power, command, send, push, down, consume, credit, air, reply, up, report, Effect, taken, first, rules, act, noConn, isNil, full, isHeld, stays, opens, closes, changeBy, changeHeard, atHost, runFor, runAfter, wholeBy, answers, deciding, answering, arriving, taking, tooTight, firstFull, needsTwo, heard, owedBy, storeFull, isLoop, echo, segmentIn, joinedRun, consuming, pushing, replying, airedConns, airing, notifies, hearing, coming, reading}
+use Rattle.model.specs.Effects.{fresh, power, command, send, push, down, consume, credit, air, reply, up, report, Effect, taken}
+use Rattle.model.specs.Refusals.{first, noConn, isNil, full, isHeld}
+use Rattle.model.specs.Runs.{runFor, runAfter, wholeBy}
+use Rattle.model.specs.Changes.{stays, opens, closes, changeBy, changeHeard, atHost}
+use Rattle.model.specs.calls.Push.{pushing}
+use Rattle.model.specs.calls.Down.{answers, deciding, answering, arriving, taking, tooTight, firstFull, needsTwo, storeFull}
+use Rattle.model.specs.calls.Consume.{isLoop, echo, segmentIn, joinedRun, consuming}
+use Rattle.model.specs.calls.Credit.{owedBy}
+use Rattle.model.specs.calls.Air.{airedConns, airing, notifies}
+use Rattle.model.specs.calls.Reply.{replying}
+use Rattle.model.specs.calls.Up.{heard, hearing, coming, reading}
+use Rattle.model.specs.Bench.{rules, act}
 use Rattle.model.specs.Observer.{Ledger}
 use Rattle.model.specs.Reachable.{Always, RunWithin, ProfileWithin, Sizes}
 use Rattle.model.proofs.Link.{clash, held-le, owed-le}

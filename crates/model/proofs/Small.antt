@@ -31,7 +31,10 @@ use Rattle.air.specs.Air.{listedAfter, controllerAired}
 use Rattle.state.proofs.Chains.{on}
 use Rattle.model.specs.Connection.{Connection, HostEnd, ControllerEnd, withHost, withController, closed, stored}
 use Rattle.model.specs.State.{State, cold, at}
-use Rattle.model.specs.Bench.{down, up, noConn, Change, stays, opens, closes, gives, atController, atHost, hearing}
+use Rattle.model.specs.Effects.{down, up}
+use Rattle.model.specs.Refusals.{noConn}
+use Rattle.model.specs.Changes.{Change, stays, opens, closes, gives, atController, atHost}
+use Rattle.model.specs.calls.Up.{hearing}
 use Rattle.model.specs.Reachable.{octetsIn, RunWithin, TermsWithin}
 use Rattle.model.proofs.Link.{clash}
 use Rattle.model.proofs.Verdicts.{Fits}

@@ -11,7 +11,11 @@ use Rattle.packets.proofs.Reassembly.{flow-prefix}
 use Rattle.state.specs.Conn.{flows}
 use Rattle.model.specs.Packets.{dataCount, creditsUp}
 use Rattle.model.specs.State.{State, cold, profileIn, profileOk}
-use Rattle.model.specs.Bench.{Call, fresh, power, command, send, push, down, consume, credit, air, reply, up, report, Result, taken, refused, rules, first, act, judged, step, noConn, isLoop, reportOf}
+use Rattle.model.specs.Effects.{Call, fresh, power, command, send, push, down, consume, credit, air, reply, up, report, Result, taken, refused}
+use Rattle.model.specs.Refusals.{first, noConn}
+use Rattle.model.specs.calls.Consume.{isLoop}
+use Rattle.model.specs.calls.Report.{reportOf}
+use Rattle.model.specs.Bench.{rules, act, judged, step}
 use Rattle.model.specs.Observer.{Ledger, Account, opening, events, after, observed, observe, seen, eventOf}
 use Rattle.model.specs.Claim.{heldIn, owedIn, numbersOf, total, Claim, Demand}
 use Rattle.model.proofs.Items.{itemsOf, segsOf}

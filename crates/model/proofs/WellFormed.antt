@@ -21,7 +21,17 @@ use Rattle.state.proofs.Chains.{on, or-left, or-right}
 use Rattle.model.specs.Connection.{Connection, withHost, withController, sent, pushed, heardData, stored, consumed, spoken}
 use Rattle.model.specs.Packets.{dataHeader, controlHeader, Meaning, datum, control, junk, meaning}
 use Rattle.model.specs.State.{State, profileIn, isOpen, at, withConns, withDown, withUp, withAsking, withHearing}
-use Rattle.model.specs.Bench.{Call, fresh, power, command, send, push, down, consume, credit, air, reply, up, report, Effect, taken, first, rules, act, noConn, isNil, isHeld, changeBy, changeAired, changeHeard, runAfter, wholeBy, answers, deciding, answering, arriving, taking, isLoop, echo, segmentIn, joinedRun, consuming, pushing, replying, airedConns, airing, hearing, coming, reading}
+use Rattle.model.specs.Effects.{Call, fresh, power, command, send, push, down, consume, credit, air, reply, up, report, Effect, taken}
+use Rattle.model.specs.Refusals.{first, noConn, isNil, isHeld}
+use Rattle.model.specs.Runs.{runAfter, wholeBy}
+use Rattle.model.specs.Changes.{changeBy, changeAired, changeHeard}
+use Rattle.model.specs.calls.Push.{pushing}
+use Rattle.model.specs.calls.Down.{answers, deciding, answering, arriving, taking}
+use Rattle.model.specs.calls.Consume.{isLoop, echo, segmentIn, joinedRun, consuming}
+use Rattle.model.specs.calls.Air.{airedConns, airing}
+use Rattle.model.specs.calls.Reply.{replying}
+use Rattle.model.specs.calls.Up.{hearing, coming, reading}
+use Rattle.model.specs.Bench.{rules, act}
 use Rattle.model.specs.Observer.{Ledger}
 use Rattle.model.specs.Reachable.{Always, WellFormed, GoesDown, GoesUp, Each, Wires}
 use Rattle.model.proofs.Link.{clash}

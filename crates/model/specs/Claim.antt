@@ -10,7 +10,9 @@ use Rattle.packets.specs.Reassembly.{Prefix}
 use Rattle.state.specs.Conn.{flows}
 use Rattle.model.specs.Packets.{dataCount, creditsUp}
 use Rattle.model.specs.State.{State, cold, profileOk, profileIn}
-use Rattle.model.specs.Bench.{Call, report, taken, isLoop, step}
+use Rattle.model.specs.Effects.{Call, report, taken}
+use Rattle.model.specs.calls.Consume.{isLoop}
+use Rattle.model.specs.Bench.{step}
 use Rattle.model.specs.Observer.{Ledger, Account, opening, events, after, observed}
 
 -- "credits held by the host (0 while it hasn't the connection open; since opening it, the grant and credits it read less packets it pushed)"

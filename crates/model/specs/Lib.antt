@@ -1,6 +1,11 @@
 pub mod Connection
 pub mod Packets
 pub mod State
+pub mod Effects
+pub mod Refusals
+pub mod Runs
+pub mod Changes
+pub mod calls
 pub mod Bench
 pub mod Observer
 pub mod Claim

@@ -18,7 +18,10 @@ use Rattle.dh.specs.Host.{aimOf}
 use Rattle.model.specs.Connection.{HostEnd, ControllerEnd, closed}
 use Rattle.model.specs.Packets.{Meaning, datum, control, junk, meaning}
 use Rattle.model.specs.State.{State, cold, profileOk, profileIn}
-use Rattle.model.specs.Bench.{Call, refused, step, noConn, Change, stays, opens, closes, gives}
+use Rattle.model.specs.Effects.{Call, refused}
+use Rattle.model.specs.Refusals.{noConn}
+use Rattle.model.specs.Changes.{Change, stays, opens, closes, gives}
+use Rattle.model.specs.Bench.{step}
 use Rattle.model.specs.Observer.{after, changeIn}
 
 -- a statement of every bench that calls make, whatever profile `fresh` took

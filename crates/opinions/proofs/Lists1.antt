@@ -3,7 +3,7 @@
 use mathlib.Core.Path.{_≡_, refl}
 use mathlib.Core.Bool.{false}
 use mathlib.Core.List.{[], _∷_}
-use Rattle.model.specs.Bench.{fresh, power, command, send, push, down, consume, credit, air, reply, up, report}
+use Rattle.model.specs.Effects.{fresh, power, command, send, push, down, consume, credit, air, reply, up, report}
 use Rattle.opinions.specs.Shown.{hex, line, refusal, done, puts, hands, start, lines}
 
 list-1 : lines (fresh (hex 5 0x2004FF04FF) ∷ command 0 0 (hex 1 0x00) ∷ down ∷ up ∷ up ∷ command 0 1 (hex 2 0x0000) ∷ down ∷ up ∷ command 0 4 (hex 2 0x0100) ∷ down ∷ up ∷ send 2 (hex 40 0x118547D6D0A096D62A7BE4C15034C35545B875AC4ED272BCFFC262B028A7D43C56B189AC6F6392FE) ∷ push 2 ∷ down ∷ push 2 ∷ down ∷ push 2 ∷ down ∷ push 2 ∷ down ∷ push 2 ∷ down ∷ push 2 ∷ down ∷ push 2 ∷ down ∷ push 2 ∷ down ∷ push 2 ∷ down ∷ push 2 ∷ down ∷ consume 2 ∷ consume 2 ∷ consume 2 ∷ consume 2 ∷ up ∷ up ∷ up ∷ up ∷ down ∷ down ∷ send 2 (hex 40 0x9B6EF22A69C07AE3EA79A403B5A5794F6DBA14051DA9234AF2F9D5E272D02A19924FCB7EBFAEF8C7) ∷ push 2 ∷ down ∷ push 2 ∷ down ∷ push 2 ∷ down ∷ push 2 ∷ down ∷ push 2 ∷ down ∷ push 2 ∷ down ∷ push 2 ∷ down ∷ push 2 ∷ down ∷ push 2 ∷ down ∷ push 2 ∷ down ∷ consume 2 ∷ consume 2 ∷ command 0 4 (hex 2 0x0100) ∷ up ∷ up ∷ down ∷ down ∷ consume 2 ∷ up ∷ down ∷ consume 2 ∷ up ∷ down ∷ consume 2 ∷ up ∷ down ∷ consume 2 ∷ up ∷ down ∷ consume 2 ∷ up ∷ down ∷ consume 2 ∷ up ∷ down ∷ down ∷ up ∷ []) start

@@ -3,7 +3,7 @@
 use mathlib.Core.Path.{_≡_, refl}
 use mathlib.Core.Bool.{false}
 use mathlib.Core.List.{[], _∷_}
-use Rattle.model.specs.Bench.{fresh, command, send, push, down, consume, credit, air, reply, up, report}
+use Rattle.model.specs.Effects.{fresh, command, send, push, down, consume, credit, air, reply, up, report}
 use Rattle.opinions.specs.Shown.{hex, line, refusal, done, puts, hands, start, lines}
 
 list-26 : lines (fresh (hex 5 0x206407FFFF) ∷ command 0 0 (hex 1 0x00) ∷ down ∷ up ∷ up ∷ command 0 1 (hex 2 0x0000) ∷ down ∷ up ∷ command 0 0 (hex 1 0x00) ∷ down ∷ up ∷ up ∷ command 0 1 (hex 2 0x0000) ∷ down ∷ up ∷ command 0 4 (hex 2 0x0100) ∷ down ∷ up ∷ send 2 (hex 4 0xC94BFFFC) ∷ down ∷ consume 2 ∷ credit ∷ up ∷ push 2 ∷ down ∷ consume 2 ∷ up ∷ push 2 ∷ down ∷ consume 2 ∷ credit ∷ up ∷ push 2 ∷ down ∷ consume 2 ∷ credit ∷ up ∷ push 2 ∷ down ∷ consume 2 ∷ up ∷ push 2 ∷ down ∷ []) start

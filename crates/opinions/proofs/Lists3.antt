@@ -3,7 +3,7 @@
 use mathlib.Core.Path.{_≡_, refl}
 use mathlib.Core.Bool.{false}
 use mathlib.Core.List.{[], _∷_}
-use Rattle.model.specs.Bench.{fresh, power, command, send, push, down, consume, credit, air, reply, up, report}
+use Rattle.model.specs.Effects.{fresh, power, command, send, push, down, consume, credit, air, reply, up, report}
 use Rattle.opinions.specs.Shown.{hex, line, refusal, done, puts, hands, start, lines}
 
 list-51 : lines (fresh (hex 5 0x64010320FF) ∷ command 1 3 (hex 13 0x068301030A0008010581010303) ∷ down ∷ down ∷ up ∷ command 1 3 (hex 13 0x06060A00030308010782010302) ∷ down ∷ up ∷ command 0 5 (hex 1 0x0F) ∷ down ∷ air (hex 5 0x0319E28242) ∷ up ∷ air (hex 5 0x0319E28242) ∷ up ∷ command 0 0 (hex 1 0x01) ∷ down ∷ up ∷ up ∷ command 0 1 (hex 2 0x0000) ∷ down ∷ down ∷ command 0 1 (hex 255 0x2F1400F161687C669999B442924FF875992C752047F268FDB6F0941031A8402B5CCBE409B2019A4FCDF5E9ED99FD5F2252866A1A16A838D4870C926AFA414BE86269AD8613A99A0B2AFB37A35CF134753B125410ADD4350D5B56DF6564936E1D7B4F2CBEE95414CFFA97694A947B69DD8C23269EDCDF49EC06DD19DCB87AE20855D0674D6179AEC4A5F0764A8F50B8BC3615076E08AD741693BB3C86EA227240E71FCCC265C8F4D501CB5F78AE93C9CF1BD06D7FB7B89222FE40CE9C57EF1E4591498A6A27B994CA937B3703D098D88673C2AFB5D7AEF74045D7766D1422003400437E827937AF827587DCCF9E42C5B0DD2981D33B481903823DFF23A75350) ∷ up ∷ command 0 4 (hex 2 0x0100) ∷ down ∷ push 2 ∷ up ∷ command 1 60 (hex 33 0xE591265A76D7C7090DAAD3EEFF89F7AFB5F7C18BB6DCF4594C2106A2DF000F260E) ∷ down ∷ up ∷ send 2 (hex 2 0xC35B) ∷ push 2 ∷ down ∷ send 2 (hex 8 0x68F56609686071C6) ∷ consume 2 ∷ up ∷ push 2 ∷ down ∷ credit ∷ consume 2 ∷ up ∷ push 2 ∷ down ∷ consume 2 ∷ credit ∷ up ∷ down ∷ consume 2 ∷ up ∷ push 2 ∷ down ∷ consume 2 ∷ credit ∷ up ∷ push 2 ∷ down ∷ consume 2 ∷ credit ∷ up ∷ down ∷ fresh (hex 5 0x3B01FF1F06) ∷ consume 2 ∷ credit ∷ up ∷ push 2 ∷ down ∷ consume 2 ∷ credit ∷ up ∷ push 2 ∷ up ∷ []) start

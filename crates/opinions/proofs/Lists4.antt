@@ -3,7 +3,7 @@
 use mathlib.Core.Path.{_≡_, refl}
 use mathlib.Core.Bool.{false}
 use mathlib.Core.List.{[], _∷_}
-use Rattle.model.specs.Bench.{fresh, power, command, send, push, down, consume, credit, air, reply, up, report}
+use Rattle.model.specs.Effects.{fresh, power, command, send, push, down, consume, credit, air, reply, up, report}
 use Rattle.opinions.specs.Shown.{hex, line, refusal, done, puts, hands, start, lines}
 
 list-76 : lines (fresh (hex 5 0xFFFFFF0107) ∷ command 0 0 (hex 1 0x01) ∷ down ∷ up ∷ up ∷ command 0 1 (hex 2 0x0000) ∷ command 1 3 (hex 3 0x018101) ∷ command 1 3 (hex 3 0x010103) ∷ down ∷ up ∷ air (hex 4 0x03256381) ∷ down ∷ up ∷ send 5 (hex 17 0x5D0E99089F7FB22045B74A05B812E53E83) ∷ push 5 ∷ push 5 ∷ push 5 ∷ push 5 ∷ push 5 ∷ push 5 ∷ push 5 ∷ push 5 ∷ push 5 ∷ push 5 ∷ push 5 ∷ push 5 ∷ push 5 ∷ push 5 ∷ push 5 ∷ push 5 ∷ push 5 ∷ send 5 (hex 17 0x534E75E0382EAF0E071FC164FF2A516D1E) ∷ push 5 ∷ push 5 ∷ push 5 ∷ push 5 ∷ push 5 ∷ push 5 ∷ push 5 ∷ push 5 ∷ []) start

@@ -3,7 +3,7 @@
 use mathlib.Core.Path.{_≡_, refl}
 use mathlib.Core.Bool.{true, false}
 use mathlib.Core.List.{[], _∷_}
-use Rattle.model.specs.Bench.{fresh, command, send, push, down, consume, credit, air, reply, up, report}
+use Rattle.model.specs.Effects.{fresh, command, send, push, down, consume, credit, air, reply, up, report}
 use Rattle.opinions.specs.Shown.{hex, line, refusal, done, puts, hands, start, lines}
 
 list-101 : lines (fresh (hex 5 0x20010503FF) ∷ command 0 0 (hex 1 0x00) ∷ down ∷ up ∷ up ∷ command 0 1 (hex 2 0x0000) ∷ down ∷ up ∷ send 5 (hex 4 0xA1A6DB35) ∷ push 5 ∷ down ∷ consume 5 ∷ credit ∷ up ∷ command 0 4 (hex 2 0x0100) ∷ down ∷ up ∷ command 1 3 (hex 15 0x070205820101048201000502078301) ∷ down ∷ up ∷ command 0 5 (hex 1 0x0F) ∷ air (hex 5 0x0252850310) ∷ down ∷ up ∷ air (hex 5 0x0252850310) ∷ up ∷ send 0 (hex 23 0xFE0E1F1201D02ABC7572CDC7051561EAF581E4528D1864) ∷ push 0 ∷ down ∷ consume 0 ∷ credit ∷ up ∷ push 0 ∷ down ∷ consume 0 ∷ credit ∷ up ∷ push 0 ∷ down ∷ consume 0 ∷ credit ∷ up ∷ push 0 ∷ command 1 3 (hex 15 0x078101000503098001830181018301) ∷ down ∷ consume 0 ∷ up ∷ send 2 (hex 5 0x487C40B274) ∷ push 0 ∷ down ∷ consume 0 ∷ credit ∷ up ∷ push 0 ∷ down ∷ consume 0 ∷ credit ∷ up ∷ push 0 ∷ down ∷ consume 0 ∷ credit ∷ up ∷ push 0 ∷ down ∷ consume 0 ∷ credit ∷ []) start

@@ -5,7 +5,7 @@
 use mathlib.Core.Path.{_≡_, refl}
 use mathlib.Core.Bool.{false}
 use mathlib.Core.List.{[], _∷_}
-use Rattle.model.specs.Bench.{command, send, push, down, consume, credit, air, reply, up, report}
+use Rattle.model.specs.Effects.{command, send, push, down, consume, credit, air, reply, up, report}
 use Rattle.opinions.specs.Shown.{hex, line, refusal, done, puts, hands, start, lines}
 
 -- the sheet's three lines

@@ -16,7 +16,11 @@ use Rattle.dh.specs.Contents.{noticeOf, zeros, initWritten, createWritten, entr
 use Rattle.dh.specs.Host.{answerOf, heardAlone, hearOf, creditsIn, namesClosed, hostAfter, dropHeard}
 use Rattle.model.specs.Packets.{meaning, dataCount, creditsUp}
 use Rattle.model.specs.State.{State, cold, profileIn}
-use Rattle.model.specs.Bench.{Call, Result, taken, refused, Outcome, first, allZero, anyOf, step}
+use Rattle.model.specs.Effects.{Call, Result, taken, refused, Outcome}
+use Rattle.model.specs.Refusals.{first}
+use Rattle.model.specs.calls.Credit.{allZero}
+use Rattle.model.specs.calls.Up.{anyOf}
+use Rattle.model.specs.Bench.{step}
 
 -- ---- octets as the sheet writes them
 

@@ -23,7 +23,7 @@ use Rattle.area.specs.Ring.{tab, packetsFrom}
 use Rattle.model.specs.Connection.{spoken}
 use Rattle.model.specs.Connection as connection
 use Rattle.model.specs.State as bench
-use Rattle.model.specs.Bench.{runFor, runAfter}
+use Rattle.model.specs.Runs.{runFor, runAfter}
 use Rattle.views.specs.View.{handOf, runOf, controlRunOf, connectionOf, connsOf, downOf, upOf, view}
 use Rattle.views.specs.Plan.{handWith, runArea, withEndpoint, withHearing, withAsking, coldRecord}
 use Rattle.views.specs.Moves.{Sound}

@@ -25,7 +25,7 @@ use Rattle.area.specs.Movers.{putsAll}
 use Rattle.model.specs.Connection.{ControllerEnd, sent, heardData, stored, spoken}
 use Rattle.model.specs.Connection as connection
 use Rattle.model.specs.State as bench
-use Rattle.model.specs.Bench.{runAfter}
+use Rattle.model.specs.Runs.{runAfter}
 use Rattle.views.specs.View.{handOf, runOf, connectionOf, speechOf, downOf, upOf, view}
 use Rattle.views.specs.Plan.{handWith, handAfter, runArea, withDown, withUp, withConns, withEndpoint, withHearing, withAsking, withHand, withHostRun, withStore, withControllerRun, coldRecord}
 

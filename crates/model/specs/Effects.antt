@@ -1,0 +1,51 @@
+-- The twelve calls (document 01, "Calls"), and what comes of one.
+-- Assumes nothing.
+use Prim.Native.Nat.{ℕ}
+use mathlib.Core.Bool.{Bool, false}
+use mathlib.Core.List.{List, [], _++_}
+use Rattle.octets.specs.Octets.{Octets}
+use Rattle.model.specs.State.{State, withDown, withUp}
+
+pub data Call : Type 0 where
+  fresh : Octets → Call
+  power : Call
+  command : ℕ → ℕ → Octets → Call
+  send : ℕ → Octets → Call
+  push : ℕ → Call
+  down : Call
+  consume : ℕ → Call
+  credit : Call
+  air : Octets → Call
+  reply : Call
+  up : Call
+  report : ℕ → Call
+
+pub data Result : Type 0 where
+  taken : Result
+  refused : ℕ → Result
+
+-- what a call does: the drop flag, the packets put on each wire, the message handed out, the state after it
+pub record Effect : Type 0 where
+  pub drop : Bool
+  pub toDown : List Octets
+  pub toUp : List Octets
+  pub message : List Octets
+  pub next : State
+
+pub record Outcome : Type 0 where
+  pub answer : Result
+  pub effect : Effect
+
+abbrev pub quiet : State → Effect
+quiet s = record { drop = false; toDown = []; toUp = []; message = []; next = s }
+
+abbrev pub flaggedAs : Bool → State → Effect
+flaggedAs b s = record { drop = b; toDown = []; toUp = []; message = []; next = s }
+
+-- packets are put on the down wire
+abbrev pub puttingDown : List Octets → State → Effect
+puttingDown ps s = record { drop = false; toDown = ps; toUp = []; message = []; next = withDown (s .down ++ ps) s }
+
+-- packets are put on the up wire, with a drop flag and a message handed out
+abbrev pub puttingUp : Bool → List Octets → List Octets → State → Effect
+puttingUp b ps ms s = record { drop = b; toDown = []; toUp = ps; message = ms; next = withUp (s .up ++ ps) s }

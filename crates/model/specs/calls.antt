@@ -1,0 +1,10 @@
+pub mod Command
+pub mod Send
+pub mod Push
+pub mod Down
+pub mod Consume
+pub mod Credit
+pub mod Air
+pub mod Reply
+pub mod Up
+pub mod Report

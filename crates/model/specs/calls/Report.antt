@@ -1,0 +1,30 @@
+-- report: five numbers of a connection.
+-- Assumes nothing.
+use Prim.Native.Nat.{ℕ}
+use mathlib.Core.Bool.{false, not}
+use mathlib.Core.List.{List, [], _∷_}
+use lib.ListN.{length, drop}
+use Rattle.octets.specs.Octets.{Octets, pick}
+use Rattle.state.specs.Conn.{flows}
+use Rattle.model.specs.Packets.{dataCount, creditsUp}
+use Rattle.model.specs.State.{State, isOpen}
+use Rattle.model.specs.Effects.{Effect}
+use Rattle.model.specs.Refusals.{Rule, rule, noConn}
+
+-- credits held, packets on the down wire, packets stored, credits owed, credits on the up wire; without flow control 255, and 0 for the last two
+abbrev pub reportOf : ℕ → State → Octets
+reportOf c s =
+    pick (flows (s .conns c .controller .grant)) (s .conns c .host .held) 255
+    ∷ dataCount c (s .down)
+    ∷ length (s .conns c .controller .store)
+    ∷ pick (flows (s .conns c .controller .grant)) (s .conns c .controller .owed) 0
+    ∷ pick (flows (s .conns c .controller .grant)) (creditsUp c (s .up)) 0
+    ∷ []
+
+abbrev pub reporting : ℕ → State → Effect
+reporting c s = record { drop = false; toDown = []; toUp = []; message = reportOf c s ∷ []; next = s }
+
+-- ---- refusals
+
+abbrev pub reportRules : ℕ → State → List Rule
+reportRules c s = rule 3 (noConn c) ∷ rule 6 (not (isOpen s c)) ∷ []

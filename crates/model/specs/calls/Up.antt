@@ -1,0 +1,88 @@
+-- up: the host takes the first up packet, hands out a finished data message and hears a control message when it is whole.
+-- Assumes nothing.
+use Prim.Native.Nat.{ℕ, _+_}
+use mathlib.Core.Bool.{Bool, true, false, not, _&&_, _||_}
+use mathlib.Core.List.{List, [], _∷_}
+use lib.Dec.{eqb, ltb}
+use lib.ListN.{drop}
+use Rattle.octets.specs.Octets.{Octets, pick}
+use Rattle.packets.specs.Segments.{Segment}
+use Rattle.packets.specs.Reassembly.{finished, flagged}
+use Rattle.dh.specs.declared.host.Heard.{Heard}
+use Rattle.state.specs.Conn.{flows}
+use Rattle.state.specs.Runs.{dataLimit}
+use Rattle.dh.specs.Host.{hearOf, hostAfter, dropHeard}
+use Rattle.model.specs.Connection.{withHost, heardData}
+use Rattle.model.specs.Packets.{Meaning, datum, control, junk, meaning}
+use Rattle.model.specs.State.{State, at, withConns, withUp, withHostState, withHearing}
+use Rattle.model.specs.Effects.{Effect, quiet, flaggedAs}
+use Rattle.model.specs.Refusals.{Rule, rule, isNil, ids, isHeld}
+use Rattle.model.specs.Runs.{runAfter, wholeBy, flagBy}
+use Rattle.model.specs.Changes.{changeHeard, atHost, creditsOf}
+
+-- a finished data message is handed out; data for a connection not open at the host is dropped
+abbrev pub receiving : ℕ → Segment → State → Effect
+receiving c x s =
+    pick (isHeld s c)
+    (record {
+      drop = flagged dataLimit (s .conns c .host .run) x;
+      toDown = [];
+      toUp = [];
+      message = finished dataLimit (s .conns c .host .run) x;
+      next = withConns (at c (λ k. withHost (heardData x (k .host)) k) (s .conns)) s;
+    })
+    (flaggedAs true s)
+
+-- the drop flag of what was heard: an entry of a notice for a connection that is not open sets it too
+abbrev pub dropOf : State → Octets → Heard → Bool
+dropOf s m h = dropHeard (isHeld s) m h
+
+abbrev pub understanding : Heard → Octets → State → Effect
+understanding h m s =
+    flaggedAs (dropOf s m h)
+    (withHostState (hostAfter (s .host) h)
+    (withConns (λ d. withHost (atHost (changeHeard h m d) (s .conns d .host)) (s .conns d)) s))
+
+abbrev pub hearing : ℕ → ℕ → ℕ → List Octets → Bool → State → Effect
+hearing mt gid oid [] b s = flaggedAs b s
+hearing mt gid oid (m ∷ ms) b s = understanding (hearOf (s .host .pending) mt gid oid m) m s
+
+abbrev pub heard : ℕ → ℕ → ℕ → Segment → State → Effect
+heard mt gid oid x s =
+    hearing mt gid oid (wholeBy (s .hearing) mt gid oid x) (flagBy (s .hearing) mt gid oid x) (withHearing (runAfter (s .hearing) mt gid oid x) s)
+
+abbrev pub coming : Meaning → State → Effect
+coming (datum c x) s = receiving c x s
+coming (control mt gid oid x) s = pick (eqb mt 1) (flaggedAs true s) (heard mt gid oid x s)
+coming junk s = flaggedAs true s
+
+abbrev pub reading : List Octets → State → Effect
+reading [] s = quiet s
+reading (p ∷ w) s = coming (meaning p) (withUp w s)
+
+-- a notice that would bring a connection above its grant (refusal 13)
+abbrev pub above : State → Heard → Octets → ℕ → Bool
+above s h m c =
+    isHeld s c && flows (s .conns c .host .grant) && ltb (s .conns c .host .grant) (s .conns c .host .held + creditsOf (changeHeard h m c))
+
+unfoldable pub anyOf : (ℕ → Bool) → List ℕ → Bool
+anyOf f [] = false
+anyOf f (c ∷ cs) = f c || anyOf f cs
+
+abbrev pub aboveIn : State → ℕ → ℕ → ℕ → List Octets → Bool
+aboveIn s mt gid oid [] = false
+aboveIn s mt gid oid (m ∷ ms) = anyOf (above s (hearOf (s .host .pending) mt gid oid m) m) ids
+
+abbrev pub tooMany : State → Meaning → Bool
+tooMany s (datum c x) = false
+tooMany s (control mt gid oid x) = not (eqb mt 1) && aboveIn s mt gid oid (wholeBy (s .hearing) mt gid oid x)
+tooMany s junk = false
+
+abbrev pub firstTooMany : State → List Octets → Bool
+firstTooMany s [] = false
+firstTooMany s (p ∷ w) = tooMany s (meaning p)
+
+-- ---- refusals
+
+abbrev pub upRules : State → List Rule
+upRules s = rule 8 (isNil (s .up)) ∷ rule 13 (firstTooMany s (s .up)) ∷ []
