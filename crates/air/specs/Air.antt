@@ -23,7 +23,7 @@ use Rattle.air.specs.declared.events.Aired.{Aired}
 use Rattle.air.specs.declared.events.Aired.the-variants.{Refused, Goes, Activates, Ends, Speaks}
 use Rattle.state.specs.Conn.{termsOf, openedAt, shutAt}
 use Rattle.state.specs.Radio.{isListening, isAsleep, isActive, polls, listens, idOk, pairOf, samePair, listed, startedWith, addedTo}
-use Rattle.nfcc.specs.Layout.{Message, nothing, genericErrorNtf, discoverNtf, activatedNtf, deactivateNtf}
+use Rattle.messages.specs.Layout.{Message, nothing, genericErrorNtf, discoverNtf, activatedNtf, deactivateNtf}
 
 -- ---- the octets of an event, kind first; what is outside its limits is `Bad` (refusal 3)
 

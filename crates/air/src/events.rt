@@ -1,10 +1,10 @@
 // The air (document 01, "The air"): the octets of an event, whether the state takes it, its notification and the state after.
-use nfcc::layout::Note;
-use nfcc::layout::activated_ntf;
-use nfcc::layout::deactivate_ntf;
-use nfcc::layout::discover_ntf;
-use nfcc::layout::generic_error_ntf;
-use nfcc::layout::no_message;
+use messages::layout::Note;
+use messages::layout::activated_ntf;
+use messages::layout::deactivate_ntf;
+use messages::layout::discover_ntf;
+use messages::layout::generic_error_ntf;
+use messages::layout::no_message;
 use state::conn::opened_at;
 use state::conn::shut_at;
 use state::conn::terms_of;
@@ -32,7 +32,7 @@ ghost use Prim.Native.Nat.{_+_, _≤_};
 ghost use lib.ListN.{length, drop};
 ghost use Rattle.octets.specs.Octets.{pick};
 ghost use Rattle.state.specs.Conn.{termsOf};
-ghost use Rattle.nfcc.specs.Layout.{Put, discoverNtf, activatedNtf};
+ghost use Rattle.messages.specs.Layout.{Put, discoverNtf, activatedNtf};
 ghost use Rattle.air.specs.Air.{targetOf, foundIn, pollIn, listenIn, eventOf, noRoom, foundTo, foundBy, pollBy, listenBy, failedBy, airedBy, airMessage, listedAfter, movedTo, controllerAired, connsAired};
 
 // An event, by its kind. Bad: octets outside the limits of any. Found carries the notification type.

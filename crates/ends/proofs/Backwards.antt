@@ -17,7 +17,7 @@ use Rattle.dh.specs.declared.contents.Notice.the-variants as notice
 use Rattle.state.specs.Commands.{activationFailed}
 use Rattle.state.specs.Conn.{placeOf, connOf}
 use Rattle.state.specs.Radio.{polls, idOk}
-use Rattle.nfcc.specs.Layout.{resetNtf, initRsp, entriesFrom, entryCount, creditsNtf, genericErrorNtf, discoverNtf, deactivateNtf}
+use Rattle.messages.specs.Layout.{resetNtf, initRsp, entriesFrom, entryCount, creditsNtf, genericErrorNtf, discoverNtf, deactivateNtf}
 use Rattle.dh.specs.Contents.{zeros, initWritten, resetWritten, entryId, entryCredits, entryOk, entriesOk, creditsWritten, discoverWritten, deactivateWritten, noticeWritten}
 use Rattle.dh.specs.Host.{creditsIn, creditsFor}
 use Rattle.state.proofs.Places.{place-conn, conn-place, conn-suc}

@@ -13,11 +13,11 @@ use lib.Dec.{eqb, ltb, eqb·suc-zero}
 use borrow.Author.Tests.{le-leb, lt-ltb, eq-eqb, ne-eqb}
 use Rattle.octets.specs.Octets.{Octets}
 use Rattle.state.specs.Conn.{connOf}
-use Rattle.nfcc.specs.Layout.{entriesFrom, entryCount, creditsNtf}
+use Rattle.messages.specs.Layout.{entriesFrom, entryCount, creditsNtf}
 use Rattle.dh.specs.Contents.{noticeOf, entryId, entryCredits, entriesOk, creditsWritten, written}
 use Rattle.dh.specs.Host.{creditsIn, creditsFor}
 use Rattle.state.proofs.Places.{place-conn, conn-suc}
-use Rattle.nfcc.proofs.Messages.{entries-length}
+use Rattle.messages.proofs.Messages.{entries-length}
 
 -- ---- Conn IDs and places
 

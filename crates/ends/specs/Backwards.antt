@@ -9,7 +9,7 @@ use lib.ListN.{getD}
 use Rattle.octets.specs.Octets.{Octets, cut}
 use Rattle.state.specs.declared.kinds.Activation.{Activation}
 use Rattle.dh.specs.declared.contents.Notice.the-variants as notice
-use Rattle.nfcc.specs.Layout.{resetNtf, initRsp, creditsNtf, genericErrorNtf, discoverNtf, deactivateNtf}
+use Rattle.messages.specs.Layout.{resetNtf, initRsp, creditsNtf, genericErrorNtf, discoverNtf, deactivateNtf}
 use Rattle.dh.specs.Contents.{initWritten, resetWritten, creditsWritten, discoverWritten, deactivateWritten, noticeWritten}
 use Rattle.dh.specs.Host.{creditsFor}
 

@@ -1,2 +1,3 @@
 pub mod RoundTrips
 pub mod Backwards
+pub mod Table

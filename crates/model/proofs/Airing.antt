@@ -22,7 +22,7 @@ use Rattle.air.specs.declared.events.Aired.the-variants.{Refused, Goes, Activat
 use Rattle.state.specs.Conn.{placeOf, termsOf}
 use Rattle.state.specs.Radio.{isActive, isListening, isAsleep}
 use Rattle.state.specs.Runs.{dataLimit}
-use Rattle.nfcc.specs.Layout.{nothing, genericErrorNtf, discoverNtf, activatedNtf, deactivateNtf}
+use Rattle.messages.specs.Layout.{nothing, genericErrorNtf, discoverNtf, activatedNtf, deactivateNtf}
 use Rattle.air.specs.Air.{eventOf, airedBy, airMessage, controllerAired}
 use Rattle.state.proofs.Chains.{on, or-left, or-right}
 use Rattle.model.specs.Connection.{Connection, withController, spoken}

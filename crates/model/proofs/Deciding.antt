@@ -13,8 +13,8 @@ use Rattle.octets.specs.Octets.{Octets, pick}
 use Rattle.state.specs.declared.kinds.Terms.{Terms}
 use Rattle.state.specs.declared.kinds.Profile.{Profile}
 use Rattle.packets.specs.Reassembly.{run}
-use Rattle.nfcc.specs.declared.controller.Verdict.{Verdict}
-use Rattle.nfcc.specs.declared.controller.Verdict.the-variants as verdict
+use Rattle.state.specs.declared.verdict.Verdict.{Verdict}
+use Rattle.state.specs.declared.verdict.Verdict.the-variants as verdict
 use Rattle.dh.specs.declared.host.Answer.{Answer}
 use Rattle.dh.specs.declared.host.Heard.the-variants.{Nothing, Answered}
 use Rattle.dh.specs.Contents.{written}
@@ -23,7 +23,7 @@ use Rattle.state.specs.Conn.{placeOf}
 use Rattle.state.specs.Radio.{isActive}
 use Rattle.state.specs.Runs.{controlLimit}
 use Rattle.nfcc.specs.Controller.{controllerAfter}
-use Rattle.nfcc.specs.Layout.{responseOf, responseMessage, noticeMessage, resetNtf, deactivateNtf}
+use Rattle.messages.specs.Layout.{responseOf, responseMessage, noticeMessage, resetNtf, deactivateNtf}
 use Rattle.state.proofs.Chains.{on}
 use Rattle.model.specs.Connection.{Connection}
 use Rattle.model.specs.Packets.{aimedAt, says, responsePacket, noticePacket, noticePackets}

@@ -13,7 +13,7 @@ use Rattle.octets.specs.Octets.{Octets, pick}
 use Rattle.packets.specs.Segments.{Segment, more, last, segments, segmentPacket, packetsOf}
 use Rattle.packets.specs.Reassembly.{run, grown, finished}
 use Rattle.state.specs.Conn.{flows}
-use Rattle.nfcc.specs.Layout.{creditsNtf, entriesFrom}
+use Rattle.messages.specs.Layout.{creditsNtf, entriesFrom}
 use Rattle.dh.specs.Contents.{creditsOk}
 use Rattle.state.specs.Runs.{dataLimit, controlLimit}
 use Rattle.state.proofs.Chains.{on, or-left, or-right}

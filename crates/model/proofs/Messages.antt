@@ -17,8 +17,8 @@ use Rattle.state.specs.declared.kinds.Profile.{Profile}
 use Rattle.state.specs.declared.kinds.Activation.{Activation}
 use Rattle.state.specs.declared.kinds.Pairs.{Pairs}
 use Rattle.state.specs.declared.kinds.Rf.{Rf}
-use Rattle.nfcc.specs.declared.controller.Verdict.{Verdict}
-use Rattle.nfcc.specs.declared.controller.Verdict.the-variants as verdict
+use Rattle.state.specs.declared.verdict.Verdict.{Verdict}
+use Rattle.state.specs.declared.verdict.Verdict.the-variants as verdict
 use Rattle.air.specs.declared.events.Event.{Event}
 use Rattle.air.specs.declared.events.Event.the-variants.{Bad, Found, Poll, Listen, Failed, Sleeps, LinkLost, Releases, Endpoint}
 use Rattle.air.specs.declared.events.Aired.{Aired}
@@ -29,7 +29,7 @@ use Rattle.dh.specs.declared.host.Heard.{Heard}
 use Rattle.dh.specs.declared.host.Heard.the-variants.{Nothing, Answered, Activated, Deactivated, Credits}
 use Rattle.state.specs.Conn.{placeOf, connOf, termsOf}
 use Rattle.state.specs.Commands.{commandOf}
-use Rattle.nfcc.specs.Layout.{Message, resetNtf, creditsNtf, genericErrorNtf, discoverNtf, activatedNtf, deactivateNtf, responseOf, responseMessage, noticeMessage}
+use Rattle.messages.specs.Layout.{Message, resetNtf, creditsNtf, genericErrorNtf, discoverNtf, activatedNtf, deactivateNtf, responseOf, responseMessage, noticeMessage}
 use Rattle.state.specs.Radio.{isActive, isListening, isAsleep, polls}
 use Rattle.dh.specs.Contents.{creditsOk, written, noticeOf, entryId, entryCredits, entryOk, entriesOk, creditsWritten}
 use Rattle.dh.specs.Host.{answerOf, heardAlone, creditsFor, creditsIn}

@@ -14,8 +14,8 @@ use Rattle.state.specs.declared.kinds.Profile.{Profile}
 use Rattle.state.specs.declared.kinds.Pending.{Pending}
 use Rattle.state.specs.declared.commands.Command.{Command}
 use Rattle.state.specs.declared.commands.Command.the-variants.{Reset, Init, ConnCreate, ConnClose, Discover, Select, Deactivate, Unknown}
-use Rattle.nfcc.specs.declared.controller.Verdict.{Verdict}
-use Rattle.nfcc.specs.declared.controller.Verdict.the-variants as verdict
+use Rattle.state.specs.declared.verdict.Verdict.{Verdict}
+use Rattle.state.specs.declared.verdict.Verdict.the-variants as verdict
 use Rattle.air.specs.declared.events.Event.{Event}
 use Rattle.air.specs.declared.events.Event.the-variants.{Bad, Found, Poll, Listen, Failed, Sleeps, LinkLost, Releases, Endpoint}
 use Rattle.dh.specs.declared.host.Answer.{Answer}
@@ -24,7 +24,7 @@ use Rattle.dh.specs.declared.host.Heard.{Heard}
 use Rattle.dh.specs.declared.host.Heard.the-variants.{Nothing, Dropped, Answered, Activated, Deactivated, Credits}
 use Rattle.state.specs.Conn.{placeOf, termsOf}
 use Rattle.state.specs.Commands.{commandOf}
-use Rattle.nfcc.specs.Layout.{resetNtf, creditsNtf, genericErrorNtf, discoverNtf, activatedNtf, deactivateNtf, responseOf, noticeMessage}
+use Rattle.messages.specs.Layout.{resetNtf, creditsNtf, genericErrorNtf, discoverNtf, activatedNtf, deactivateNtf, responseOf, noticeMessage}
 use Rattle.dh.specs.Contents.{written, noticeOf}
 use Rattle.dh.specs.Host.{answerOf, okAnswer, aimOf, noticed, heardAlone, expected, hearOf, creditsFor}
 use Rattle.air.specs.Air.{airMessage}

@@ -15,12 +15,12 @@ use Rattle.packets.specs.Packet.{packetOf, readOf, Writable}
 use Rattle.packets.specs.Segments.{Segment, body, flag, marked, segmentsWithin, segments, segmentPacket}
 use Rattle.packets.proofs.RoundTrip.{read-written}
 use Rattle.state.specs.declared.kinds.Profile.{Profile}
-use Rattle.nfcc.specs.declared.controller.Verdict.{Verdict}
-use Rattle.nfcc.specs.declared.controller.Verdict.the-variants as verdict
+use Rattle.state.specs.declared.verdict.Verdict.{Verdict}
+use Rattle.state.specs.declared.verdict.Verdict.the-variants as verdict
 use Rattle.air.specs.declared.events.Event.{Event}
 use Rattle.air.specs.declared.events.Event.the-variants.{Bad, Found, Poll, Listen, Failed, Sleeps, LinkLost, Releases, Endpoint}
 use Rattle.state.specs.Conn.{termsOf}
-use Rattle.nfcc.specs.Layout.{resetNtf, creditsNtf, genericErrorNtf, discoverNtf, activatedNtf, deactivateNtf, responseOf, noticeMessage}
+use Rattle.messages.specs.Layout.{resetNtf, creditsNtf, genericErrorNtf, discoverNtf, activatedNtf, deactivateNtf, responseOf, noticeMessage}
 use Rattle.air.specs.Air.{airMessage}
 use Rattle.state.proofs.Chains.{on}
 use Rattle.model.specs.Connection.{Connection, withHost, withController}

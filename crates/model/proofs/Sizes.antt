@@ -13,8 +13,8 @@ use Rattle.packets.specs.Segments.{Segment, more, last, segments, segmentPacket
 use Rattle.packets.specs.Reassembly.{Run, run}
 use Rattle.state.specs.declared.kinds.Profile.{Profile}
 use Rattle.state.specs.declared.kinds.Host.{Host}
-use Rattle.nfcc.specs.declared.controller.Verdict.{Verdict}
-use Rattle.nfcc.specs.declared.controller.Verdict.the-variants as verdict
+use Rattle.state.specs.declared.verdict.Verdict.{Verdict}
+use Rattle.state.specs.declared.verdict.Verdict.the-variants as verdict
 use Rattle.air.specs.declared.events.Event.{Event}
 use Rattle.air.specs.declared.events.Event.the-variants.{Bad, Found, Poll, Listen, Failed, Sleeps, LinkLost, Releases, Endpoint}
 use Rattle.air.specs.declared.events.Aired.{Aired}
@@ -25,7 +25,7 @@ use Rattle.dh.specs.declared.host.Heard.the-variants.{Nothing, Dropped, Answere
 use Rattle.state.specs.Conn.{placeOf, termsOf}
 use Rattle.state.specs.Runs.{dataLimit, controlLimit}
 use Rattle.nfcc.specs.Controller.{judgeOf}
-use Rattle.nfcc.specs.Layout.{noticeMessage}
+use Rattle.messages.specs.Layout.{noticeMessage}
 use Rattle.dh.specs.Host.{hostAfter, hearOf}
 use Rattle.air.specs.Air.{eventOf, airMessage}
 use Rattle.state.proofs.Chains.{on, or-left, or-right}

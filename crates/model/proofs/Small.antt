@@ -17,8 +17,8 @@ use Rattle.state.specs.declared.kinds.Profile.{Profile}
 use Rattle.state.specs.declared.kinds.Pairs.{Pairs}
 use Rattle.state.specs.declared.kinds.Rf.{Rf}
 use Rattle.state.specs.declared.kinds.Controller.{Controller}
-use Rattle.nfcc.specs.declared.controller.Verdict.{Verdict}
-use Rattle.nfcc.specs.declared.controller.Verdict.the-variants as verdict
+use Rattle.state.specs.declared.verdict.Verdict.{Verdict}
+use Rattle.state.specs.declared.verdict.Verdict.the-variants as verdict
 use Rattle.air.specs.declared.events.Listing.{Listing}
 use Rattle.air.specs.declared.events.Listing.the-variants.{Keeps, Starts, Adds}
 use Rattle.air.specs.declared.events.Aired.{Aired}

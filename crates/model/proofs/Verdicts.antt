@@ -21,8 +21,8 @@ use Rattle.state.specs.declared.kinds.Rf.{Rf}
 use Rattle.state.specs.declared.kinds.Rf.the-variants.{Idle, Discovery, AllDiscoveries, HostSelect, PollActive, ListenActive, ListenSleep}
 use Rattle.state.specs.declared.commands.Command.{Command}
 use Rattle.state.specs.declared.commands.Command.the-variants as command
-use Rattle.nfcc.specs.declared.controller.Verdict.{Verdict}
-use Rattle.nfcc.specs.declared.controller.Verdict.the-variants as verdict
+use Rattle.state.specs.declared.verdict.Verdict.{Verdict}
+use Rattle.state.specs.declared.verdict.Verdict.the-variants as verdict
 use Rattle.air.specs.declared.events.Event.{Event}
 use Rattle.air.specs.declared.events.Event.the-variants.{Bad, Found, Poll, Listen, Failed, Sleeps, LinkLost, Releases, Endpoint}
 use Rattle.air.specs.declared.events.Listing.{Listing}

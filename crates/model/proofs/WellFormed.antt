@@ -10,7 +10,7 @@ use lib.ListN.{length, drop}
 use borrow.Author.Tests.{ltb-false, not-false}
 use Rattle.octets.specs.Octets.{Octets, pick}
 use Rattle.packets.specs.Segments.{Segment, segments, segmentPacket, packetsOf}
-use Rattle.nfcc.specs.declared.controller.Verdict.{Verdict}
+use Rattle.state.specs.declared.verdict.Verdict.{Verdict}
 use Rattle.air.specs.declared.events.Aired.{Aired}
 use Rattle.air.specs.declared.events.Aired.the-variants.{Refused, Goes, Activates, Ends, Speaks}
 use Rattle.state.specs.Conn.{placeOf, termsOf}

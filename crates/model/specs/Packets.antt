@@ -16,7 +16,7 @@ use Rattle.state.specs.declared.kinds.Pending.the-variants.{Command}
 use Rattle.dh.specs.declared.host.Answer.the-variants.{Done, ClosesAll, Sized, Opens, Closes}
 use Rattle.dh.specs.declared.host.Heard.{Heard}
 use Rattle.dh.specs.declared.host.Heard.the-variants.{Nothing, Dropped, Answered, Activated, Deactivated, Credits}
-use Rattle.nfcc.specs.Layout.{Message}
+use Rattle.messages.specs.Layout.{Message}
 use Rattle.dh.specs.Contents.{written}
 use Rattle.dh.specs.Host.{heardAlone, creditsFor}
 

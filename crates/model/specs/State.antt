@@ -13,7 +13,7 @@ use Rattle.state.specs.declared.kinds.Phase.the-variants.{Cold}
 use Rattle.state.specs.declared.kinds.Pending.the-variants as pending
 use Rattle.state.specs.declared.kinds.Host.{Host}
 use Rattle.state.specs.declared.kinds.Controller.{Controller}
-use Rattle.nfcc.specs.declared.controller.Verdict.the-variants as verdict
+use Rattle.state.specs.declared.verdict.Verdict.the-variants as verdict
 use Rattle.dh.specs.declared.host.Heard.the-variants.{Nothing}
 use Rattle.state.specs.Radio.{noPairs}
 use Rattle.dh.specs.Contents.{creditsOk}

@@ -1,3 +1,1 @@
-pub mod Messages
-pub mod Whole
 pub mod CommandTrips

@@ -13,7 +13,7 @@ use Rattle.state.specs.declared.kinds.Phase.the-variants as phase
 use Rattle.state.specs.declared.kinds.Rf.the-variants.{Idle, HostSelect, Discovery}
 use Rattle.state.specs.declared.kinds.Selection.{Selection}
 use Rattle.state.specs.declared.kinds.Controller.{Controller}
-use Rattle.nfcc.specs.declared.controller.Verdict.the-variants.{Resets, Initialises, Closes, Turns, Selects}
+use Rattle.state.specs.declared.verdict.Verdict.the-variants.{Resets, Initialises, Closes, Turns, Selects}
 use Rattle.state.specs.Radio.{listed}
 use Rattle.nfcc.specs.Controller.{nextId, opensAs, configOk, deactivateBy, judgeOf}
 

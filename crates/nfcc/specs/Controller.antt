@@ -20,8 +20,8 @@ use Rattle.state.specs.declared.kinds.Controller.{Controller}
 use Rattle.state.specs.declared.kinds.Counts.{Counts}
 use Rattle.state.specs.declared.commands.Command.{Command}
 use Rattle.state.specs.declared.commands.Command.the-variants.{Reset, Init, ConnCreate, ConnClose, Discover, Select, Deactivate, Unknown}
-use Rattle.nfcc.specs.declared.controller.Verdict.{Verdict}
-use Rattle.nfcc.specs.declared.controller.Verdict.the-variants.{Refuses, Resets, Initialises, Opens, Closes, Turns, Selects, Deactivates}
+use Rattle.state.specs.declared.verdict.Verdict.{Verdict}
+use Rattle.state.specs.declared.verdict.Verdict.the-variants.{Refuses, Resets, Initialises, Opens, Closes, Turns, Selects, Deactivates}
 use Rattle.state.specs.Conn.{termsOf, shutAt, openedAt, allShut}
 use Rattle.state.specs.Radio.{isIdle, polls, listens, noPairs, listed}
 use Rattle.state.specs.Commands.{rejected, syntaxError, semanticError, alreadyStarted, commandOf}

@@ -1,4 +1,2 @@
 pub mod Controller
-pub mod Layout
-pub mod Table
 pub mod CommandTrips

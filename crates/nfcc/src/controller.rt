@@ -15,28 +15,16 @@ use state::kinds::Phase;
 use state::kinds::Profile;
 use state::kinds::Rf;
 use state::kinds::Selection;
-use state::kinds::Terms;
 use state::radio::is_idle;
 use state::radio::is_listed;
 use state::radio::listens;
 use state::radio::no_pairs;
 use state::radio::polls;
+use state::verdict::Verdict;
 ghost use mathlib.Core.Path.{_≡_};
 ghost use Rattle.state.specs.declared.kinds.Rf.the-variants.{ListenActive, ListenSleep};
 ghost use Rattle.state.specs.Conn.{openAt};
 ghost use Rattle.nfcc.specs.Controller.{shortest, isReset, isReady, allowed, resetBy, after, nextId, opensAs, createBy, closeBy, configOk, configsOk, discoverBy, selectBy, sleepRejected, restState, ended, deactivateBy, valuesOf, judgeOf, turned, controllerAfter, connsAfter, closesZero};
-
-// What the controller decides. Refuses: a status other than OK, alone, and nothing changes.
-pub enum Verdict {
-    Refuses(u8),
-    Resets(u8),
-    Initialises,
-    Opens(u8, Terms),
-    Closes(u8),
-    Turns(Rf),
-    Selects(Pair),
-    Deactivates(u8, Rf),
-}
 
 // The statuses of a refusal (003, Table 129).
 pub const REJECTED: u8 = 0x01;

@@ -10,7 +10,7 @@ use Rattle.state.specs.Conn.{placeOf, connOf, termsOf}
 use Rattle.state.specs.Radio.{listedIn, addedTo}
 use Rattle.state.specs.Commands.{commandOf}
 use Rattle.nfcc.specs.Controller.{shortest, allowed, resetBy, after, seek, nextId, createBy, closeBy, configsOk, discoverBy, deactivateBy, judgeOf, controllerAfter}
-use Rattle.nfcc.specs.Layout.{entriesFrom, entryCount, responseOf, noticeMessage}
+use Rattle.messages.specs.Layout.{entriesFrom, entryCount, responseOf, noticeMessage}
 use Rattle.air.specs.Air.{foundIn, pollIn, listenIn, eventOf, foundBy, pollBy, listenBy, failedBy, airedBy, airMessage, controllerAired}
 use Rattle.dh.specs.Contents.{noticeOf, zeros, initWritten, createWritten, entriesOk, creditsWritten, discoverWritten, activatedWritten, deactivateWritten, written}
 use Rattle.dh.specs.Host.{answerOf, heardAlone, hearOf, creditsIn, namesClosed, hostAfter, dropHeard}

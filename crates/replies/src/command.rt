@@ -1,9 +1,9 @@
 // A command through the controller's judgement: its response, the notification after it, and the state after both.
 use crate::given;
 use crate::given::State;
+use messages::layout;
+use messages::layout::Note;
 use nfcc::controller;
-use nfcc::layout;
-use nfcc::layout::Note;
 use packets::Header;
 use state::conn;
 use state::kinds::Counts;

@@ -5,3 +5,4 @@ pub mod conn;
 pub mod kinds;
 pub mod radio;
 pub mod runs;
+pub mod verdict;

@@ -4,7 +4,7 @@ use Prim.Native.Nat.{ℕ}
 use mathlib.Core.Bool.{Bool, true, false, _&&_}
 use mathlib.Core.List.{List, [], _∷_, map}
 use lib.Dec.{eqb}
-use Rattle.nfcc.specs.Layout.{creditsNtf}
+use Rattle.messages.specs.Layout.{creditsNtf}
 use Rattle.model.specs.Connection.{withController, noticed}
 use Rattle.model.specs.Packets.{noticePacket}
 use Rattle.model.specs.State.{State, withConns}

@@ -8,9 +8,9 @@ use lib.ListN.{length}
 use Rattle.octets.specs.Octets.{Octets, pick}
 use Rattle.packets.specs.Segments.{Segment, more, last}
 use Rattle.state.specs.declared.kinds.Profile.{Profile}
-use Rattle.nfcc.specs.declared.controller.Verdict.{Verdict}
+use Rattle.state.specs.declared.verdict.Verdict.{Verdict}
 use Rattle.nfcc.specs.Controller.{judgeOf, controllerAfter}
-use Rattle.nfcc.specs.Layout.{responseMessage, noticeMessage}
+use Rattle.messages.specs.Layout.{responseMessage, noticeMessage}
 use Rattle.model.specs.Connection.{withController, stored}
 use Rattle.model.specs.Packets.{responsePacket, noticePackets, Meaning, datum, control, junk, meaning}
 use Rattle.model.specs.State.{State, isOpen, at, withConns, withDown, withControllerState, withAsking}

@@ -1,11 +1,11 @@
 -- `air::events::active_message` meets its contract: the parameters are all that is left of the octets.
 -- Assumes nothing.
-use Rattle.nfcc.proofs.Messages.{put-same}
+use Rattle.messages.proofs.Messages.{put-same}
 use mathlib.Core.Path.{_∙_, ap}
 use native.Mathlib.Omega.{arith}
 use lib.ListN.{length}
 use Rattle.octets.proofs.Octets.{cut-rest}
-use Rattle.nfcc.specs.Layout.{activatedNtf}
+use Rattle.messages.specs.Layout.{activatedNtf}
 use borrow.Author.Needs.{needs}
 use Rattle.air.proofs.events.active_message.Statement.{statement}
 use Rattle.air.proofs.events.active_message.Tie as tie

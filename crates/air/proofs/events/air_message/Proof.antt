@@ -6,7 +6,7 @@ use native.Mathlib.Omega.{arith}
 use lib.ListN.{length, length-append}
 use Rattle.air.specs.declared.events.Event.{Event}
 use Rattle.air.specs.Air.{airMessage}
-use Rattle.nfcc.proofs.Messages.{put-nothing}
+use Rattle.messages.proofs.Messages.{put-nothing}
 use borrow.Author.Needs.{needs}
 use Rattle.air.proofs.events.air_message.Statement.{statement}
 use Rattle.air.proofs.events.air_message.Tie as tie

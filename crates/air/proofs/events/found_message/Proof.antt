@@ -1,11 +1,11 @@
 -- `air::events::found_message` meets its contract: the parameters are all that is left of the octets.
 -- Assumes nothing.
-use Rattle.nfcc.proofs.Messages.{put-same}
+use Rattle.messages.proofs.Messages.{put-same}
 use mathlib.Core.Path.{_∙_, ap}
 use native.Mathlib.Omega.{arith}
 use lib.ListN.{length}
 use Rattle.octets.proofs.Octets.{cut-rest}
-use Rattle.nfcc.specs.Layout.{discoverNtf}
+use Rattle.messages.specs.Layout.{discoverNtf}
 use borrow.Author.Needs.{needs}
 use Rattle.air.proofs.events.found_message.Statement.{statement}
 use Rattle.air.proofs.events.found_message.Tie as tie

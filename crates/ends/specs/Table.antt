@@ -12,8 +12,8 @@ use Rattle.state.specs.declared.kinds.Controller.{Controller}
 use Rattle.state.specs.declared.kinds.Phase.the-variants.{Ready}
 use Rattle.state.specs.declared.kinds.Rf.the-variants.{Idle}
 use Rattle.state.specs.Radio.{noPairs}
 use Rattle.nfcc.specs.Controller.{judgeOf}
-use Rattle.nfcc.specs.Layout.{responseOf, creditsNtf}
+use Rattle.messages.specs.Layout.{responseOf, creditsNtf}
 
 -- the table's profile: dynamic connections with payload 4 and 2 credits
 abbrev pub tableProfile : Profile

@@ -1,18 +1,18 @@
 // The octets of every message that the controller sends, written into a buffer that the caller lends. The longest is an
 // activation with 32 parameter octets: 43 octets.
-use crate::controller::Verdict;
 use state::conn::conn_of;
 use state::kinds::Activation;
 use state::kinds::Counts;
 use state::kinds::Profile;
 use state::kinds::Terms;
+use state::verdict::Verdict;
 ghost use mathlib.Core.Path.{_≡_};
 ghost use mathlib.Core.List.{[], _∷_, _++_};
 ghost use Prim.Native.Nat.{_+_, _≤_};
 ghost use lib.ListN.{length};
 ghost use lib.Dec.{eqb};
 ghost use Rattle.octets.specs.Octets.{pick, splice};
-ghost use Rattle.nfcc.specs.Layout.{Put, resetNtf, initRsp, createRsp, genericErrorNtf, discoverNtf, activatedNtf, deactivateNtf, creditsMessage, responseMessage, noticeMessage};
+ghost use Rattle.messages.specs.Layout.{Put, resetNtf, initRsp, createRsp, genericErrorNtf, discoverNtf, activatedNtf, deactivateNtf, creditsMessage, responseMessage, noticeMessage};
 
 // A message that was written: its GID and OID, and its length; length 0 is no message.
 pub struct Note {

@@ -1,4 +1,4 @@
--- `nfcc::layout::emit_around` meets its contract: three parts written one after another are written as one.
+-- `messages::layout::emit_around` meets its contract: three parts written one after another are written as one.
 -- Assumes nothing.
 use mathlib.Core.Path.{_≡_, _∙_}
 use mathlib.Core.List.{_++_}
@@ -8,8 +8,8 @@ use lib.ListN.{length, length-append}
 use Rattle.octets.specs.Octets.{splice}
 use Rattle.octets.proofs.Octets.{splice-three}
 use borrow.Author.Needs.{needs}
-use Rattle.nfcc.proofs.layout.emit_around.Statement.{statement}
-use Rattle.nfcc.proofs.layout.emit_around.Tie as tie
+use Rattle.messages.proofs.layout.emit_around.Statement.{statement}
+use Rattle.messages.proofs.layout.emit_around.Tie as tie
 
 put-requires : tie.Need-put-requires
 put-requires c κs = search needs

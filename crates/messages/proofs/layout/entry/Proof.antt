@@ -1,12 +1,12 @@
--- `nfcc::layout::entry` meets its contract: nothing where no credit is owed, else the entry's two octets.
+-- `messages::layout::entry` meets its contract: nothing where no credit is owed, else the entry's two octets.
 -- Assumes nothing.
 use mathlib.Core.Path.{refl, sym}
 use native.Mathlib.Omega.{arith}
 use borrow.Author.Tests.{eq-eqb, ne-eqb}
 use Rattle.octets.proofs.Octets.{splice-nil}
 use borrow.Author.Needs.{needs}
-use Rattle.nfcc.proofs.layout.entry.Statement.{statement}
-use Rattle.nfcc.proofs.layout.entry.Tie as tie
+use Rattle.messages.proofs.layout.entry.Statement.{statement}
+use Rattle.messages.proofs.layout.entry.Tie as tie
 
 returns : tie.Need-returns
 returns c = rw (eq-eqb _ 0 (c .if1 .taken)) (sym (splice-nil _ _), omega arith)

@@ -1,4 +1,4 @@
--- `nfcc::layout::credits_ntf` meets its contract. The loop's invariant: the entries before place i are written, up to index at.
+-- `messages::layout::credits_ntf` meets its contract. The loop's invariant: the entries before place i are written, up to index at.
 -- Assumes nothing.
 use Prim.Native.Nat.{_-_}
 use mathlib.Core.Path.{_≡_, sym, _∙_}
@@ -7,10 +7,10 @@ use lib.ListN.{length, length-set, length-map, List·getD-map}
 use Rattle.state.specs.declared.kinds.Counts.{Counts}
 use Rattle.state.specs.Conn.{closedCounts}
 use borrow.Author.Needs.{needs}
-use Rattle.nfcc.specs.Layout.{owedOf}
-use Rattle.nfcc.proofs.Messages.{Entries, entries-none, entries-turn, entries-all}
-use Rattle.nfcc.proofs.layout.credits_ntf.Statement.{statement}
-use Rattle.nfcc.proofs.layout.credits_ntf.Tie as tie
+use Rattle.messages.specs.Layout.{owedOf}
+use Rattle.messages.proofs.Messages.{Entries, entries-none, entries-turn, entries-all}
+use Rattle.messages.proofs.layout.credits_ntf.Statement.{statement}
+use Rattle.messages.proofs.layout.credits_ntf.Tie as tie
 
 abbrev Inv-loop : tie.InvT-loop
 Inv-loop out₀ conns at₀ i₀ out at i = Entries (owedOf conns) out₀ out at i

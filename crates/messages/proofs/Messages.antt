@@ -13,10 +13,10 @@ use Rattle.octets.specs.Octets.{Octets, pick, splice}
 use Rattle.octets.proofs.Octets.{length-splice, splice-nil, splice-next, splice-ahead}
 use Rattle.state.specs.declared.kinds.Terms.{Terms}
 use Rattle.state.specs.declared.kinds.Activation.{Activation}
-use Rattle.nfcc.specs.declared.layout.Note.{Note}
+use Rattle.messages.specs.declared.layout.Note.{Note}
 use Rattle.state.specs.declared.kinds.Counts.{Counts}
 use Rattle.state.specs.Conn.{connOf}
-use Rattle.nfcc.specs.Layout.{Put, nothing, entriesFrom, entryCount, owedOf, creditsMessage, discoverNtf, activatedNtf}
+use Rattle.messages.specs.Layout.{Put, nothing, entriesFrom, entryCount, owedOf, creditsMessage, discoverNtf, activatedNtf}
 
 -- ---- no message
 

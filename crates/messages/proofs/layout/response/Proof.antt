@@ -1,9 +1,9 @@
--- `nfcc::layout::response` meets its contract: by the verdict's cases.
+-- `messages::layout::response` meets its contract: by the verdict's cases.
 -- Assumes nothing.
-use Rattle.nfcc.specs.Layout.{responseOf}
+use Rattle.messages.specs.Layout.{responseOf}
 use borrow.Author.Needs.{needs}
-use Rattle.nfcc.proofs.layout.response.Statement.{statement}
-use Rattle.nfcc.proofs.layout.response.Tie as tie
+use Rattle.messages.proofs.layout.response.Statement.{statement}
+use Rattle.messages.proofs.layout.response.Tie as tie
 
 enum-known-v : tie.Need-enum-known-v
 enum-known-v c = search needs

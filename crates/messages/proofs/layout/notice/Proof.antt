@@ -1,10 +1,10 @@
--- `nfcc::layout::notice` meets its contract: by the verdict's cases.
+-- `messages::layout::notice` meets its contract: by the verdict's cases.
 -- Assumes nothing.
-use Rattle.nfcc.specs.Layout.{noticeMessage}
-use Rattle.nfcc.proofs.Messages.{put-nothing}
+use Rattle.messages.specs.Layout.{noticeMessage}
+use Rattle.messages.proofs.Messages.{put-nothing}
 use borrow.Author.Needs.{needs}
-use Rattle.nfcc.proofs.layout.notice.Statement.{statement}
-use Rattle.nfcc.proofs.layout.notice.Tie as tie
+use Rattle.messages.proofs.layout.notice.Statement.{statement}
+use Rattle.messages.proofs.layout.notice.Tie as tie
 
 enum-told : tie.Need-enum-told
 enum-told c = search needs

@@ -10,9 +10,9 @@ use Rattle.state.specs.declared.kinds.Terms.{Terms}
 use Rattle.state.specs.declared.kinds.Profile.{Profile}
 use Rattle.state.specs.declared.kinds.Activation.{Activation}
 use Rattle.state.specs.declared.kinds.Counts.{Counts}
-use Rattle.nfcc.specs.declared.controller.Verdict.{Verdict}
-use Rattle.nfcc.specs.declared.controller.Verdict.the-variants.{Refuses, Resets, Initialises, Opens, Closes, Turns, Selects, Deactivates}
-use Rattle.nfcc.specs.declared.layout.Note.{Note}
+use Rattle.state.specs.declared.verdict.Verdict.{Verdict}
+use Rattle.state.specs.declared.verdict.Verdict.the-variants.{Refuses, Resets, Initialises, Opens, Closes, Turns, Selects, Deactivates}
+use Rattle.messages.specs.declared.layout.Note.{Note}
 use Rattle.state.specs.Commands.{activationFailed}
 use Rattle.state.specs.Conn.{connOf}
 
