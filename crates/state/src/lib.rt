@@ -1,5 +1,5 @@
-// What the record holds: its types, and what connections, radio states, runs of packets and the names of commands are. Both
-// ends stand on this floor.
+// What the record holds: its types, and what connections, radio states, runs of packets, the names of commands and verdicts
+// are. Both ends stand on this floor.
 pub mod commands;
 pub mod conn;
 pub mod kinds;
