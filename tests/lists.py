@@ -132,7 +132,7 @@ def lists_file(first, lists):
         "use mathlib.Core.Path.{_≡_, refl}",
         *use("mathlib.Core.Bool", ["true", "false"], words),
         "use mathlib.Core.List.{[], _∷_}",
-        *use("Rattle.model.specs.Bench", CALLS, words),
+        *use("Rattle.model.specs.Effects", CALLS, words),
         *use("Rattle.opinions.specs.Shown", SHOWN, words),
     ]
     return "\n\n".join(["\n".join(heading), *statements]) + "\n"
