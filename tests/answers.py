@@ -10,7 +10,6 @@ The rules are those of ends_rules.py, the lines those of ends_cases.py and the v
 import re
 import sys
 from dataclasses import replace
-from itertools import zip_longest
 from pathlib import Path
 
 from ends_cases import (
@@ -19,6 +18,7 @@ from ends_cases import (
     to_host, unknown, values,
 )
 from ends_rules import COLD, DISCOVERY, IDLE, LISTEN_SLEEP, RESET, State, W4_HOST_SELECT, opened
+from stored import run
 
 ROOT = Path(__file__).resolve().parent.parent
 VECTORS = ROOT / "tests" / "data" / "nci-vectors.txt"
@@ -141,15 +141,6 @@ def lines_in(vectors):
     yield to_controller("last", State(), 0, 0, b"\x00")
 
 
-def compare(name, stored, made):
-    """The lines of a stored file against those made here."""
-    pairs = list(zip_longest(stored.splitlines(keepends=True), made.splitlines(keepends=True)))
-    wrong = [(n, a, b) for n, (a, b) in enumerate(pairs, 1) if a != b]
-    for n, a, b in wrong:
-        print(f"{name}, line {n}: {a!r}, expected {b!r}")
-    return len(pairs), len(wrong)
-
-
 def fields_of(line):
     return dict(field.split("=", 1) for field in line.split(" ") if "=" in field)
 
@@ -173,24 +164,8 @@ def check_vectors(vectors, stored):
 
 def main():
     vectors = load()
-    lines = list(lines_in(vectors))
-    # the last line has no line end
-    made_in = "\n".join(lines)
-    made_out = "".join(line_out(line) + "\n" for line in lines)
-    if sys.argv[1:] in (["--stdin"], ["--stdout"]):
-        print(made_in if sys.argv[1] == "--stdin" else made_out, end="")
-        return 0
-    stored_in, stored_out = (CRATE / "stdin").read_text(), (CRATE / "stdout").read_text()
-    results = {
-        "lines of input": compare("stdin", stored_in, made_in),
-        "lines of output": compare("stdout", stored_out, made_out),
-        "fields of the vectors": check_vectors(vectors, stored_out),
-    }
-    for name, (count, wrong) in results.items():
-        print(f"{count} {name}, {wrong} wrong")
-    count, wrong = (sum(r[i] for r in results.values()) for i in (0, 1))
-    print(f"answers: {count - wrong} passed, {wrong} failed")
-    return 1 if wrong else 0
+    checks = {"fields of the vectors": lambda stored: check_vectors(vectors, stored)}
+    return run("answers", CRATE, list(lines_in(vectors)), line_out, checks)
 
 
 if __name__ == "__main__":

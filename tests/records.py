@@ -11,8 +11,10 @@ import random
 import re
 import sys
 from dataclasses import dataclass, field, replace
-from itertools import product, zip_longest
+from itertools import product
 from pathlib import Path
+
+from stored import run
 
 CRATE = Path(__file__).resolve().parent.parent / "crates" / "records"
 
@@ -665,15 +667,6 @@ def lines_in():
 # ---- the checks
 
 
-def compare(name, stored, made):
-    """The lines of a stored file against those made here."""
-    pairs = list(zip_longest(stored.splitlines(keepends=True), made.splitlines(keepends=True)))
-    wrong = [(n, a, b) for n, (a, b) in enumerate(pairs, 1) if a != b]
-    for n, a, b in wrong:
-        print(f"{name}, line {n}: {a!r}, expected {b!r}")
-    return len(pairs), len(wrong)
-
-
 def check_good():
     """The good records against what is known of them beforehand: row 1 does not apply, and they come back unchanged."""
     count = wrong = 0
@@ -686,24 +679,7 @@ def check_good():
 
 
 def main():
-    lines = list(lines_in())
-    # the last line has no line end
-    made_in = "\n".join(lines)
-    made_out = "".join(line_out(line) + "\n" for line in lines)
-    if sys.argv[1:] in (["--stdin"], ["--stdout"]):
-        print(made_in if sys.argv[1] == "--stdin" else made_out, end="")
-        return 0
-    stored_in, stored_out = (CRATE / "stdin").read_text(), (CRATE / "stdout").read_text()
-    results = {
-        "lines of input": compare("stdin", stored_in, made_in),
-        "lines of output": compare("stdout", stored_out, made_out),
-        "good records": check_good(),
-    }
-    for name, (count, wrong) in results.items():
-        print(f"{count} {name}, {wrong} wrong")
-    count, wrong = (sum(r[i] for r in results.values()) for i in (0, 1))
-    print(f"records: {count - wrong} passed, {wrong} failed")
-    return 1 if wrong else 0
+    return run("records", CRATE, list(lines_in()), line_out, {"good records": lambda stored: check_good()})
 
 
 if __name__ == "__main__":

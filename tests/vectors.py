@@ -10,8 +10,9 @@ The reading and writing here come from the standard (003, 3.4) and from document
 the program."""
 import re
 import sys
-from itertools import zip_longest
 from pathlib import Path
+
+from stored import run
 
 ROOT = Path(__file__).resolve().parent.parent
 VECTORS = ROOT / "tests" / "data" / "nci-vectors.txt"
@@ -286,15 +287,6 @@ def fields(lines):
 # ---- the checks
 
 
-def compare(name, stored, made):
-    """The lines of a stored file against those made here."""
-    pairs = list(zip_longest(stored.splitlines(keepends=True), made.splitlines(keepends=True)))
-    wrong = [(n, a, b) for n, (a, b) in enumerate(pairs, 1) if a != b]
-    for n, a, b in wrong:
-        print(f"{name}, line {n}: {a!r}, expected {b!r}")
-    return len(pairs), len(wrong)
-
-
 def check_facts(vectors, told):
     count = wrong = 0
     before = {}
@@ -324,26 +316,11 @@ def check_damage(vectors, told):
 
 def main():
     vectors = load()
-    lines = lines_in(vectors)
-    # the last line has no line end
-    made_in = "\n".join(lines)
-    made_out = "".join(line_out(line) + "\n" for line in lines)
-    if sys.argv[1:] in (["--stdin"], ["--stdout"]):
-        print(made_in if sys.argv[1] == "--stdin" else made_out, end="")
-        return 0
-    stored_in, stored_out = (CRATE / "stdin").read_text(), (CRATE / "stdout").read_text()
-    told = fields(stored_out.splitlines())
-    results = {
-        "lines of input": compare("stdin", stored_in, made_in),
-        "lines of output": compare("stdout", stored_out, made_out),
-        "facts of the explanations": check_facts(vectors, told),
-        "damaged packets": check_damage(vectors, told),
+    checks = {
+        "facts of the explanations": lambda stored: check_facts(vectors, fields(stored.splitlines())),
+        "damaged packets": lambda stored: check_damage(vectors, fields(stored.splitlines())),
     }
-    for name, (count, wrong) in results.items():
-        print(f"{count} {name}, {wrong} wrong")
-    count, wrong = (sum(r[i] for r in results.values()) for i in (0, 1))
-    print(f"vectors: {count - wrong} passed, {wrong} failed")
-    return 1 if wrong else 0
+    return run("vectors", CRATE, lines_in(vectors), line_out, checks)
 
 
 if __name__ == "__main__":

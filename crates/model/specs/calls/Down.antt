@@ -1,7 +1,7 @@
 -- down: the controller takes the first down packet, stores data and answers a command when it is whole.
 -- Assumes nothing.
 use Prim.Native.Nat.{ℕ}
-use mathlib.Core.Bool.{Bool, true, false, not, _&&_}
+use mathlib.Core.Bool.{Bool, true, false, _&&_}
 use mathlib.Core.List.{List, [], _∷_}
 use lib.Dec.{eqb, leb}
 use lib.ListN.{length}
@@ -25,9 +25,6 @@ needsTwo (datum c x) = false
 needsTwo (control mt gid oid (more b)) = false
 needsTwo (control mt gid oid (last b)) = eqb mt 1
 needsTwo junk = false
-
-abbrev pub answerFits : State → Bool
-answerFits s = not (full 2 (s .up))
 
 abbrev pub tooTight : State → List Octets → Bool
 tooTight s [] = false
