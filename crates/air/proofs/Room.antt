@@ -9,9 +9,8 @@ use lib.ListN.{length, getD, length-append, length-drop}
 use lib.Dec.{eqb, leb}
 use borrow.Author.Tests.{leb-true}
 use Rattle.octets.specs.Octets.{Octets, pick}
-use Rattle.state.specs.declared.kinds.Profile.{Profile}
-use Rattle.air.specs.declared.events.Event.{Event}
-use Rattle.air.specs.declared.events.Event.the-variants.{Bad, Found, Poll, Listen, Failed, Sleeps, LinkLost, Releases, Endpoint}
+use Rattle.air.specs.Kinds.{Profile, Event}
+use Rattle.air.specs.Kinds.event.{Bad, Found, Poll, Listen, Failed, Sleeps, LinkLost, Releases, Endpoint}
 use Rattle.state.specs.Radio.{polls, listens, idOk}
 use Rattle.air.specs.Air.{targetOf, foundIn, pollIn, listenIn, eventOf, airMessage}
 use Rattle.state.proofs.Chains.{every-at, pick-by}

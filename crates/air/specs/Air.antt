@@ -6,21 +6,12 @@ use mathlib.Core.List.{List}
 use lib.ListN.{length, getD, drop}
 use lib.Dec.{eqb, leb}
 use Rattle.octets.specs.Octets.{Octets, pick}
-use Rattle.state.specs.declared.kinds.Profile.{Profile}
-use Rattle.state.specs.declared.kinds.Pair.{Pair}
-use Rattle.state.specs.declared.kinds.Pairs.{Pairs}
-use Rattle.state.specs.declared.kinds.Activation.{Activation}
-use Rattle.state.specs.declared.kinds.Selection.the-variants.{Nothing, Chosen}
-use Rattle.state.specs.declared.kinds.Rf.{Rf}
-use Rattle.state.specs.declared.kinds.Rf.the-variants.{Idle, Discovery, AllDiscoveries, HostSelect, PollActive, ListenActive, ListenSleep}
-use Rattle.state.specs.declared.kinds.Controller.{Controller}
-use Rattle.state.specs.declared.kinds.Counts.{Counts}
-use Rattle.air.specs.declared.events.Event.{Event}
-use Rattle.air.specs.declared.events.Event.the-variants.{Bad, Found, Poll, Listen, Failed, Sleeps, LinkLost, Releases, Endpoint}
-use Rattle.air.specs.declared.events.Listing.{Listing}
-use Rattle.air.specs.declared.events.Listing.the-variants.{Keeps, Starts, Adds}
-use Rattle.air.specs.declared.events.Aired.{Aired}
-use Rattle.air.specs.declared.events.Aired.the-variants.{Refused, Goes, Activates, Ends, Speaks}
+use Rattle.air.specs.Kinds.{Profile, Pair, Pairs, Activation, Rf, Controller, Counts, Event, Listing, Aired}
+use Rattle.air.specs.Kinds.selection.{Nothing, Chosen}
+use Rattle.air.specs.Kinds.rf.{Idle, Discovery, AllDiscoveries, HostSelect, PollActive, ListenActive, ListenSleep}
+use Rattle.air.specs.Kinds.event.{Bad, Found, Poll, Listen, Failed, Sleeps, LinkLost, Releases, Endpoint}
+use Rattle.air.specs.Kinds.listing.{Keeps, Starts, Adds}
+use Rattle.air.specs.Kinds.aired.{Refused, Goes, Activates, Ends, Speaks}
 use Rattle.state.specs.Conn.{termsOf, openedAt, shutAt}
 use Rattle.state.specs.Radio.{isListening, isAsleep, isActive, polls, listens, idOk, pairOf, samePair, listed, startedWith, addedTo}
 use Rattle.messages.specs.Layout.{Message, nothing, genericErrorNtf, discoverNtf, activatedNtf, deactivateNtf}

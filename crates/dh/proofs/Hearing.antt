@@ -8,8 +8,7 @@ use lib.Dec.{ltb}
 use lib.Seq.{getD-set-other}
 use borrow.Author.Tests.{ltb-false}
 use Rattle.octets.specs.Octets.{Octets}
-use Rattle.state.specs.declared.kinds.HostSide.{HostSide}
-use Rattle.state.specs.declared.kinds.Counts.{Counts}
+use Rattle.dh.specs.Kinds.{HostSide, Counts}
 use Rattle.state.specs.Conn.{placeOf, closedCounts}
 use Rattle.dh.specs.Host.{creditedAt}
 use Rattle.dh.specs.Credited.{sideOf, counting, Fits}

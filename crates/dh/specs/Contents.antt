@@ -6,10 +6,9 @@ use mathlib.Core.Bool.{Bool, true, false, _&&_, _||_, not}
 use lib.ListN.{length, getD}
 use lib.Dec.{eqb, ltb, leb}
 use Rattle.octets.specs.Octets.{Octets, pick}
-use Rattle.state.specs.declared.commands.Command.{Command}
-use Rattle.state.specs.declared.commands.Command.the-variants as command
-use Rattle.dh.specs.declared.contents.Notice.{Notice}
-use Rattle.dh.specs.declared.contents.Notice.the-variants as notice
+use Rattle.dh.specs.Kinds.{Command, Notice}
+use Rattle.dh.specs.Kinds.command as command
+use Rattle.dh.specs.Kinds.notice as notice
 use Rattle.state.specs.Conn.{placeOf}
 use Rattle.state.specs.Commands.{commandOf, activationFailed}
 use Rattle.state.specs.Radio.{polls, listens, idOk}

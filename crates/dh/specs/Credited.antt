@@ -5,10 +5,8 @@ use mathlib.Core.Path.{_≡_}
 use mathlib.Core.Bool.{Bool, true, _&&_}
 use mathlib.Core.List.{List}
 use Rattle.octets.specs.Octets.{Octets}
-use Rattle.state.specs.declared.kinds.HostSide.{HostSide}
-use Rattle.state.specs.declared.kinds.Counts.{Counts}
-use Rattle.dh.specs.declared.host.Heard.{Heard}
-use Rattle.dh.specs.declared.host.Heard.the-variants.{Credits}
+use Rattle.dh.specs.Kinds.{HostSide, Counts, Heard}
+use Rattle.dh.specs.Kinds.heard.{Credits}
 use Rattle.state.specs.Conn.{flows, countsOf}
 use Rattle.dh.specs.Host.{creditsFor}
 

@@ -7,20 +7,12 @@ use mathlib.Core.List.{List}
 use lib.ListN.{getD}
 use lib.Dec.{eqb}
 use Rattle.octets.specs.Octets.{Octets, pick}
-use Rattle.state.specs.declared.kinds.Asked.{Asked}
-use Rattle.state.specs.declared.kinds.Pending.{Pending}
-use Rattle.state.specs.declared.kinds.Pending.the-variants as pending
-use Rattle.state.specs.declared.kinds.Host.{Host}
-use Rattle.state.specs.declared.kinds.HostSide.{HostSide}
-use Rattle.state.specs.declared.kinds.Counts.{Counts}
-use Rattle.state.specs.declared.commands.Command.{Command}
-use Rattle.state.specs.declared.commands.Command.the-variants as command
-use Rattle.dh.specs.declared.contents.Notice.{Notice}
-use Rattle.dh.specs.declared.contents.Notice.the-variants as notice
-use Rattle.dh.specs.declared.host.Answer.{Answer}
-use Rattle.dh.specs.declared.host.Answer.the-variants.{Done, ClosesAll, Sized, Opens, Closes}
-use Rattle.dh.specs.declared.host.Heard.{Heard}
-use Rattle.dh.specs.declared.host.Heard.the-variants.{Nothing, Dropped, Answered, Activated, Deactivated, Credits}
+use Rattle.dh.specs.Kinds.{Asked, Pending, Host, HostSide, Counts, Command, Notice, Answer, Heard}
+use Rattle.dh.specs.Kinds.pending as pending
+use Rattle.dh.specs.Kinds.command as command
+use Rattle.dh.specs.Kinds.notice as notice
+use Rattle.dh.specs.Kinds.answer.{Done, ClosesAll, Sized, Opens, Closes}
+use Rattle.dh.specs.Kinds.heard.{Nothing, Dropped, Answered, Activated, Deactivated, Credits}
 use Rattle.state.specs.Conn.{flows, countsOf, withHost, leftAt, joinedAt, allLeft}
 use Rattle.state.specs.Commands.{commandOf}
 use Rattle.dh.specs.Contents.{noticeOf, entryId, entryCredits, written}

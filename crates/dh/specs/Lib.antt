@@ -1,3 +1,4 @@
+pub mod Kinds
 pub mod Contents
 pub mod Hearing
 pub mod Host

@@ -12,8 +12,8 @@ use lib.Seq.{getD-append-add, drop-cons, take-append-seam, drop-drop}
 use lib.Dec.{eqb, ltb, leb, eqb·suc-zero}
 use borrow.Author.Tests.{ltb-true, ltb-false, leb-true, eqb-true, eq-eqb, ne-eqb}
 use Rattle.octets.specs.Octets.{Octets, pick, cut}
-use Rattle.state.specs.declared.kinds.Activation.{Activation}
-use Rattle.dh.specs.declared.contents.Notice.the-variants as notice
+use Rattle.ends.specs.Kinds.{Activation}
+use Rattle.ends.specs.Kinds.notice as notice
 use Rattle.state.specs.Commands.{activationFailed}
 use Rattle.state.specs.Conn.{placeOf, connOf}
 use Rattle.state.specs.Radio.{polls, idOk}

@@ -11,14 +11,12 @@ use lib.Seq.{getD-append-add, drop-drop}
 use lib.Dec.{eqb, leb}
 use borrow.Author.Tests.{le-leb, eq-eqb, ne-eqb, eqb-true}
 use Rattle.octets.specs.Octets.{Octets, cut}
-use Rattle.state.specs.declared.kinds.Terms.{Terms}
-use Rattle.state.specs.declared.kinds.Activation.{Activation}
-use Rattle.state.specs.declared.commands.Command.{Command}
-use Rattle.state.specs.declared.commands.Command.the-variants as command
-use Rattle.dh.specs.declared.contents.Notice.the-variants as notice
-use Rattle.dh.specs.declared.host.Answer.the-variants.{Done, ClosesAll, Sized, Opens, Closes}
-use Rattle.dh.specs.declared.host.Heard.the-variants.{Nothing, Activated, Deactivated}
-use Rattle.air.specs.declared.events.Event.the-variants.{Found, Poll, Listen}
+use Rattle.ends.specs.Kinds.{Terms, Activation, Command}
+use Rattle.ends.specs.Kinds.command as command
+use Rattle.ends.specs.Kinds.notice as notice
+use Rattle.ends.specs.Kinds.answer.{Done, ClosesAll, Sized, Opens, Closes}
+use Rattle.ends.specs.Kinds.heard.{Nothing, Activated, Deactivated}
+use Rattle.ends.specs.Kinds.event.{Found, Poll, Listen}
 use Rattle.state.specs.Commands.{commandOf}
 use Rattle.state.specs.Radio.{polls, listens, idOk}
 use Rattle.messages.specs.Layout.{resetNtf, initRsp, createRsp, genericErrorNtf, discoverNtf, activatedNtf, deactivateNtf}

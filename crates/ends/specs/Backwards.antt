@@ -7,8 +7,8 @@ use mathlib.Core.Bool.{true}
 use mathlib.Core.List.{[], _∷_, map}
 use lib.ListN.{getD}
 use Rattle.octets.specs.Octets.{Octets, cut}
-use Rattle.state.specs.declared.kinds.Activation.{Activation}
-use Rattle.dh.specs.declared.contents.Notice.the-variants as notice
+use Rattle.ends.specs.Kinds.{Activation}
+use Rattle.ends.specs.Kinds.notice as notice
 use Rattle.messages.specs.Layout.{resetNtf, initRsp, creditsNtf, genericErrorNtf, discoverNtf, deactivateNtf}
 use Rattle.dh.specs.Contents.{initWritten, resetWritten, creditsWritten, discoverWritten, deactivateWritten, noticeWritten}
 use Rattle.dh.specs.Host.{creditsFor}

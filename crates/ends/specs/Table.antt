@@ -7,10 +7,9 @@ use mathlib.Core.List.{List, [], _∷_}
 use Rattle.octets.specs.Octets.{Octets}
 use Rattle.packets.specs.Packet.{packetOf}
 use Rattle.packets.specs.Table.{PacketTable}
-use Rattle.state.specs.declared.kinds.Profile.{Profile}
-use Rattle.state.specs.declared.kinds.Controller.{Controller}
-use Rattle.state.specs.declared.kinds.Phase.the-variants.{Ready}
-use Rattle.state.specs.declared.kinds.Rf.the-variants.{Idle}
+use Rattle.ends.specs.Kinds.{Profile, Controller}
+use Rattle.ends.specs.Kinds.phase.{Ready}
+use Rattle.ends.specs.Kinds.rf.{Idle}
 use Rattle.state.specs.Radio.{noPairs}
 use Rattle.nfcc.specs.Controller.{judgeOf}
 use Rattle.messages.specs.Layout.{responseOf, creditsNtf}

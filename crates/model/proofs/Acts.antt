@@ -12,7 +12,7 @@ use Rattle.octets.specs.Octets.{Octets, pick}
 use Rattle.packets.specs.Segments.{Segment, segments}
 use Rattle.packets.specs.Reassembly.{Run, run, grown, finished, Flow}
 use Rattle.packets.proofs.Reassembly.{flow-start, flow-same, flow-send, flow-read}
-use Rattle.state.specs.declared.kinds.Terms.{Terms}
+use Rattle.model.specs.Kinds.{Terms}
 use Rattle.state.specs.Conn.{flows}
 use Rattle.state.specs.Runs.{dataLimit}
 use Rattle.model.specs.Connection.{Connection, withHost, withController, sent, pushed, stored, consumed, noticed, spoken}

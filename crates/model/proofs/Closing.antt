@@ -9,16 +9,12 @@ use lib.ListN.{getD}
 use borrow.Author.Tests.{eq-eqb}
 use Rattle.octets.specs.Octets.{Octets, pick}
 use Rattle.packets.specs.Segments.{more, last}
-use Rattle.state.specs.declared.kinds.Pending.{Pending}
-use Rattle.state.specs.declared.kinds.Pending.the-variants as pending
-use Rattle.state.specs.declared.commands.Command.{Command}
-use Rattle.state.specs.declared.commands.Command.the-variants as command
-use Rattle.dh.specs.declared.contents.Notice.{Notice}
-use Rattle.dh.specs.declared.contents.Notice.the-variants as notice
-use Rattle.dh.specs.declared.host.Answer.{Answer}
-use Rattle.dh.specs.declared.host.Answer.the-variants.{Done}
-use Rattle.dh.specs.declared.host.Heard.{Heard}
-use Rattle.dh.specs.declared.host.Heard.the-variants.{Nothing, Answered}
+use Rattle.model.specs.Kinds.{Pending, Command, Notice, Answer, Heard}
+use Rattle.model.specs.Kinds.pending as pending
+use Rattle.model.specs.Kinds.command as command
+use Rattle.model.specs.Kinds.notice as notice
+use Rattle.model.specs.Kinds.answer.{Done}
+use Rattle.model.specs.Kinds.heard.{Nothing, Answered}
 use Rattle.state.specs.Commands.{commandOf}
 use Rattle.dh.specs.Contents.{noticeOf, written}
 use Rattle.dh.specs.Host.{okAnswer, answerOf, noticed, heardAlone, creditsFor}

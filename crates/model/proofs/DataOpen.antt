@@ -9,8 +9,8 @@ use lib.Dec.{eqb}
 use borrow.Author.Tests.{eq-eqb}
 use Rattle.octets.specs.Octets.{Octets}
 use Rattle.packets.specs.Segments.{Segment}
-use Rattle.state.specs.declared.kinds.Pending.{Pending}
-use Rattle.state.specs.declared.kinds.Pending.the-variants as pending
+use Rattle.model.specs.Kinds.{Pending}
+use Rattle.model.specs.Kinds.pending as pending
 use Rattle.dh.specs.Host.{aimOf}
 use Rattle.state.proofs.Chains.{on}
 use Rattle.model.specs.Packets.{Meaning, datum, control, junk, meaning}

@@ -10,13 +10,10 @@ use lib.Dec.{eqb, leb}
 use lib.ListN.{length}
 use borrow.Author.Tests.{ne-eqb, eqb-false}
 use Rattle.octets.specs.Octets.{Octets, pick}
-use Rattle.state.specs.declared.kinds.Terms.{Terms}
-use Rattle.state.specs.declared.kinds.Profile.{Profile}
+use Rattle.model.specs.Kinds.{Terms, Profile, Verdict, Answer}
 use Rattle.packets.specs.Reassembly.{run}
-use Rattle.state.specs.declared.verdict.Verdict.{Verdict}
-use Rattle.state.specs.declared.verdict.Verdict.the-variants as verdict
-use Rattle.dh.specs.declared.host.Answer.{Answer}
-use Rattle.dh.specs.declared.host.Heard.the-variants.{Nothing, Answered}
+use Rattle.model.specs.Kinds.verdict as verdict
+use Rattle.model.specs.Kinds.heard.{Nothing, Answered}
 use Rattle.dh.specs.Contents.{written}
 use Rattle.dh.specs.Host.{heardAlone}
 use Rattle.state.specs.Conn.{placeOf}

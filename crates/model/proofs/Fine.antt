@@ -12,9 +12,8 @@ use borrow.Author.Tests.{eqb-true, leb-false}
 use Rattle.octets.specs.Octets.{Octets, pick}
 use Rattle.packets.specs.Segments.{Segment, more, last}
 use Rattle.packets.specs.Reassembly.{run}
-use Rattle.state.specs.declared.kinds.Profile.{Profile}
-use Rattle.state.specs.declared.kinds.Pending.{Pending}
-use Rattle.state.specs.declared.kinds.Pending.the-variants as pending
+use Rattle.model.specs.Kinds.{Profile, Pending}
+use Rattle.model.specs.Kinds.pending as pending
 use Rattle.state.specs.Conn.{placeOf, termsOf}
 use Rattle.state.specs.Radio.{isActive}
 use Rattle.state.specs.Runs.{controlLimit}

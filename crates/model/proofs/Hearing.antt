@@ -11,19 +11,15 @@ use borrow.Author.Tests.{eq-eqb}
 use Rattle.octets.specs.Octets.{Octets, pick}
 use Rattle.packets.specs.Segments.{Segment, more, last}
 use Rattle.packets.specs.Reassembly.{Run, run, grown, finished, flagged}
-use Rattle.state.specs.declared.kinds.Pending.{Pending}
-use Rattle.state.specs.declared.kinds.Pending.the-variants as pending
-use Rattle.state.specs.declared.kinds.Host.{Host}
-use Rattle.dh.specs.declared.host.Answer.{Answer}
-use Rattle.dh.specs.declared.host.Answer.the-variants.{Done, ClosesAll, Sized, Opens, Closes}
-use Rattle.dh.specs.declared.host.Heard.{Heard}
-use Rattle.dh.specs.declared.host.Heard.the-variants.{Nothing, Answered, Activated, Credits}
+use Rattle.model.specs.Kinds.{Pending, Host, Answer, Heard, Notice}
+use Rattle.model.specs.Kinds.pending as pending
+use Rattle.model.specs.Kinds.answer.{Done, ClosesAll, Sized, Opens, Closes}
+use Rattle.model.specs.Kinds.heard.{Nothing, Answered, Activated, Credits}
 use Rattle.state.specs.Runs.{dataLimit, controlLimit}
 use Rattle.state.specs.Commands.{commandOf}
 use Rattle.dh.specs.Contents.{written, noticeOf}
 use Rattle.dh.specs.Host.{noticed, answerOf, heardAlone, hearOf, hostAfter}
-use Rattle.dh.specs.declared.contents.Notice.{Notice}
-use Rattle.dh.specs.declared.contents.Notice.the-variants as notice
+use Rattle.model.specs.Kinds.notice as notice
 use Rattle.packets.proofs.Reassembly.{within}
 use Rattle.state.proofs.Chains.{on}
 use Rattle.model.specs.Connection.{Connection, withHost, heardData}

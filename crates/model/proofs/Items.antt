@@ -7,7 +7,7 @@ use lib.Dec.{eqb}
 use Rattle.octets.specs.Octets.{Octets, pick}
 use Rattle.packets.specs.Segments.{Segment}
 use Rattle.packets.specs.Reassembly.{finished}
-use Rattle.state.specs.declared.kinds.Terms.{Terms}
+use Rattle.model.specs.Kinds.{Terms}
 use Rattle.state.specs.Runs.{dataLimit}
 use Rattle.model.specs.Connection.{Connection, ControllerEnd, withHost, withController, closedHost, openedHost, closedController, openedController, heardData, credited}
 use Rattle.model.specs.Packets.{Meaning, datum, control, junk, meaning}

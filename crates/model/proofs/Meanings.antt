@@ -9,19 +9,15 @@ use lib.Dec.{eqb}
 use lib.ListN.{length, getD, length-append}
 use borrow.Author.Tests.{eqb-true, eq-eqb}
 use Rattle.octets.specs.Octets.{Octets, pick}
-use Rattle.packets.specs.declared.Header.{Header}
-use Rattle.packets.specs.declared.Reading.the-variants.{Packet}
+use Rattle.model.specs.Kinds.{Header, Asked, Pending, Command, Heard}
+use Rattle.model.specs.Kinds.reading.{Packet}
 use Rattle.packets.specs.Packet.{packetOf, readOf, payloadOf, Writable}
 use Rattle.packets.specs.Segments.{Segment, more, last, segment, body, flag, marked, segments, segmentPacket, packetsOf}
 use Rattle.packets.proofs.RoundTrip.{read-written, payload-written}
-use Rattle.state.specs.declared.kinds.Asked.{Asked}
-use Rattle.state.specs.declared.kinds.Pending.{Pending}
-use Rattle.state.specs.declared.kinds.Pending.the-variants as pending
-use Rattle.state.specs.declared.commands.Command.{Command}
-use Rattle.state.specs.declared.commands.Command.the-variants.{Reset, Init, ConnCreate, ConnClose, Discover, Select, Deactivate, Unknown}
-use Rattle.dh.specs.declared.host.Answer.the-variants.{Done, ClosesAll, Sized, Opens, Closes}
-use Rattle.dh.specs.declared.host.Heard.{Heard}
-use Rattle.dh.specs.declared.host.Heard.the-variants.{Nothing, Dropped, Answered, Activated, Deactivated, Credits}
+use Rattle.model.specs.Kinds.pending as pending
+use Rattle.model.specs.Kinds.command.{Reset, Init, ConnCreate, ConnClose, Discover, Select, Deactivate, Unknown}
+use Rattle.model.specs.Kinds.answer.{Done, ClosesAll, Sized, Opens, Closes}
+use Rattle.model.specs.Kinds.heard.{Nothing, Dropped, Answered, Activated, Deactivated, Credits}
 use Rattle.state.specs.Commands.{commandOf}
 use Rattle.dh.specs.Contents.{written, noticeOf}
 use Rattle.dh.specs.Host.{heardAlone, hearOf, answerOf, okAnswer, noticed, creditsFor}

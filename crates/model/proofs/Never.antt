@@ -13,11 +13,9 @@ use Rattle.octets.specs.Octets.{Octets, pick}
 use Rattle.packets.specs.Segments.{more, last}
 use Rattle.packets.specs.Reassembly.{Run, run, finished}
 use Rattle.packets.proofs.Reassembly.{within}
-use Rattle.state.specs.declared.kinds.Pending.{Pending}
-use Rattle.dh.specs.declared.host.Answer.{Answer}
-use Rattle.dh.specs.declared.host.Answer.the-variants.{Done, ClosesAll, Sized, Opens, Closes}
-use Rattle.dh.specs.declared.host.Heard.{Heard}
-use Rattle.dh.specs.declared.host.Heard.the-variants.{Answered}
+use Rattle.model.specs.Kinds.{Pending, Answer, Heard}
+use Rattle.model.specs.Kinds.answer.{Done, ClosesAll, Sized, Opens, Closes}
+use Rattle.model.specs.Kinds.heard.{Answered}
 use Rattle.state.specs.Conn.{flows}
 use Rattle.state.specs.Runs.{controlLimit}
 use Rattle.state.specs.Commands.{commandOf}

@@ -13,8 +13,8 @@ use Rattle.packets.specs.Segments.{Segment, more, last, segmentsWithin, segment
 use Rattle.packets.specs.Reassembly.{Run, run, grown, Fit}
 use Rattle.packets.proofs.Reassembly.{run-fits, within}
 use Rattle.packets.proofs.Segments.{parse-segments, left-segments}
-use Rattle.state.specs.declared.kinds.Pending.{Pending}
-use Rattle.state.specs.declared.kinds.Pending.the-variants as pending
+use Rattle.model.specs.Kinds.{Pending}
+use Rattle.model.specs.Kinds.pending as pending
 use Rattle.state.specs.Runs.{controlLimit}
 use Rattle.model.specs.Packets.{controlHeader, Meaning, datum, control, junk, meaning}
 use Rattle.model.specs.State.{noRun, ControlRun}

@@ -9,19 +9,12 @@ use lib.Dec.{eqb}
 use lib.ListN.{length, getD, drop}
 use Rattle.octets.specs.Octets.{Octets, pick}
 use Rattle.packets.specs.Segments.{Segment, more, last}
-use Rattle.state.specs.declared.kinds.Terms.{Terms}
-use Rattle.state.specs.declared.kinds.Profile.{Profile}
-use Rattle.state.specs.declared.kinds.Pending.{Pending}
-use Rattle.state.specs.declared.commands.Command.{Command}
-use Rattle.state.specs.declared.commands.Command.the-variants.{Reset, Init, ConnCreate, ConnClose, Discover, Select, Deactivate, Unknown}
-use Rattle.state.specs.declared.verdict.Verdict.{Verdict}
-use Rattle.state.specs.declared.verdict.Verdict.the-variants as verdict
-use Rattle.air.specs.declared.events.Event.{Event}
-use Rattle.air.specs.declared.events.Event.the-variants.{Bad, Found, Poll, Listen, Failed, Sleeps, LinkLost, Releases, Endpoint}
-use Rattle.dh.specs.declared.host.Answer.{Answer}
-use Rattle.dh.specs.declared.host.Answer.the-variants.{Done, ClosesAll, Sized, Opens, Closes}
-use Rattle.dh.specs.declared.host.Heard.{Heard}
-use Rattle.dh.specs.declared.host.Heard.the-variants.{Nothing, Dropped, Answered, Activated, Deactivated, Credits}
+use Rattle.model.specs.Kinds.{Terms, Profile, Pending, Command, Verdict, Event, Answer, Heard}
+use Rattle.model.specs.Kinds.command.{Reset, Init, ConnCreate, ConnClose, Discover, Select, Deactivate, Unknown}
+use Rattle.model.specs.Kinds.verdict as verdict
+use Rattle.model.specs.Kinds.event.{Bad, Found, Poll, Listen, Failed, Sleeps, LinkLost, Releases, Endpoint}
+use Rattle.model.specs.Kinds.answer.{Done, ClosesAll, Sized, Opens, Closes}
+use Rattle.model.specs.Kinds.heard.{Nothing, Dropped, Answered, Activated, Deactivated, Credits}
 use Rattle.state.specs.Conn.{placeOf, termsOf}
 use Rattle.state.specs.Commands.{commandOf}
 use Rattle.messages.specs.Layout.{resetNtf, creditsNtf, genericErrorNtf, discoverNtf, activatedNtf, deactivateNtf, responseOf, noticeMessage}

@@ -10,15 +10,12 @@ use lib.Dec.{eqb, ltb}
 use lib.ListN.{length, drop, length-append, length-take, length-drop}
 use borrow.Author.Tests.{ltb-false}
 use Rattle.octets.specs.Octets.{Octets}
-use Rattle.packets.specs.declared.Header.{Header}
+use Rattle.model.specs.Kinds.{Header, Profile, Verdict, Event}
 use Rattle.packets.specs.Packet.{packetOf, readOf, Writable}
 use Rattle.packets.specs.Segments.{Segment, body, flag, marked, segmentsWithin, segments, segmentPacket}
 use Rattle.packets.proofs.RoundTrip.{read-written}
-use Rattle.state.specs.declared.kinds.Profile.{Profile}
-use Rattle.state.specs.declared.verdict.Verdict.{Verdict}
-use Rattle.state.specs.declared.verdict.Verdict.the-variants as verdict
-use Rattle.air.specs.declared.events.Event.{Event}
-use Rattle.air.specs.declared.events.Event.the-variants.{Bad, Found, Poll, Listen, Failed, Sleeps, LinkLost, Releases, Endpoint}
+use Rattle.model.specs.Kinds.verdict as verdict
+use Rattle.model.specs.Kinds.event.{Bad, Found, Poll, Listen, Failed, Sleeps, LinkLost, Releases, Endpoint}
 use Rattle.state.specs.Conn.{termsOf}
 use Rattle.messages.specs.Layout.{resetNtf, creditsNtf, genericErrorNtf, discoverNtf, activatedNtf, deactivateNtf, responseOf, noticeMessage}
 use Rattle.air.specs.Air.{airMessage}

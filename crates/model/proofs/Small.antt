@@ -13,17 +13,11 @@ use borrow.Author.Tests.{ltb-false, ltb-true}
 use Rattle.octets.specs.Octets.{Octets, pick}
 use Rattle.packets.specs.Segments.{Segment, more, last, segmentsWithin, segments}
 use Rattle.packets.specs.Reassembly.{Run, run, lost, grown, finished}
-use Rattle.state.specs.declared.kinds.Profile.{Profile}
-use Rattle.state.specs.declared.kinds.Pairs.{Pairs}
-use Rattle.state.specs.declared.kinds.Rf.{Rf}
-use Rattle.state.specs.declared.kinds.Controller.{Controller}
-use Rattle.state.specs.declared.verdict.Verdict.{Verdict}
-use Rattle.state.specs.declared.verdict.Verdict.the-variants as verdict
-use Rattle.air.specs.declared.events.Listing.{Listing}
-use Rattle.air.specs.declared.events.Listing.the-variants.{Keeps, Starts, Adds}
-use Rattle.air.specs.declared.events.Aired.{Aired}
-use Rattle.air.specs.declared.events.Aired.the-variants.{Refused, Goes, Activates, Ends, Speaks}
-use Rattle.dh.specs.declared.host.Answer.the-variants.{Opens, Closes}
+use Rattle.model.specs.Kinds.{Profile, Pairs, Rf, Controller, Verdict, Listing, Aired}
+use Rattle.model.specs.Kinds.verdict as verdict
+use Rattle.model.specs.Kinds.listing.{Keeps, Starts, Adds}
+use Rattle.model.specs.Kinds.aired.{Refused, Goes, Activates, Ends, Speaks}
+use Rattle.model.specs.Kinds.answer.{Opens, Closes}
 use Rattle.state.specs.Radio.{isIdle, addedTo}
 use Rattle.state.specs.Runs.{dataLimit, controlLimit}
 use Rattle.nfcc.specs.Controller.{turned, controllerAfter}

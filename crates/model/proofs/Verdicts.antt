@@ -11,24 +11,14 @@ use lib.Dec.{eqb, ltb, leb}
 use lib.ListN.{length, getD, drop, length-drop}
 use borrow.Author.Tests.{eqb-true, ltb-true, ltb-false, leb-true, not-true}
 use Rattle.octets.specs.Octets.{Octets}
-use Rattle.state.specs.declared.kinds.Profile.{Profile}
-use Rattle.state.specs.declared.kinds.Controller.{Controller}
-use Rattle.state.specs.declared.kinds.Pair.{Pair}
-use Rattle.state.specs.declared.kinds.Pairs.{Pairs}
-use Rattle.state.specs.declared.kinds.Activation.{Activation}
-use Rattle.state.specs.declared.kinds.Selection.the-variants.{Nothing, Chosen}
-use Rattle.state.specs.declared.kinds.Rf.{Rf}
-use Rattle.state.specs.declared.kinds.Rf.the-variants.{Idle, Discovery, AllDiscoveries, HostSelect, PollActive, ListenActive, ListenSleep}
-use Rattle.state.specs.declared.commands.Command.{Command}
-use Rattle.state.specs.declared.commands.Command.the-variants as command
-use Rattle.state.specs.declared.verdict.Verdict.{Verdict}
-use Rattle.state.specs.declared.verdict.Verdict.the-variants as verdict
-use Rattle.air.specs.declared.events.Event.{Event}
-use Rattle.air.specs.declared.events.Event.the-variants.{Bad, Found, Poll, Listen, Failed, Sleeps, LinkLost, Releases, Endpoint}
-use Rattle.air.specs.declared.events.Listing.{Listing}
-use Rattle.air.specs.declared.events.Listing.the-variants.{Keeps, Starts, Adds}
-use Rattle.air.specs.declared.events.Aired.{Aired}
-use Rattle.air.specs.declared.events.Aired.the-variants.{Refused, Goes, Activates, Ends, Speaks}
+use Rattle.model.specs.Kinds.{Profile, Controller, Pair, Pairs, Activation, Rf, Command, Verdict, Event, Listing, Aired}
+use Rattle.model.specs.Kinds.selection.{Nothing, Chosen}
+use Rattle.model.specs.Kinds.rf.{Idle, Discovery, AllDiscoveries, HostSelect, PollActive, ListenActive, ListenSleep}
+use Rattle.model.specs.Kinds.command as command
+use Rattle.model.specs.Kinds.verdict as verdict
+use Rattle.model.specs.Kinds.event.{Bad, Found, Poll, Listen, Failed, Sleeps, LinkLost, Releases, Endpoint}
+use Rattle.model.specs.Kinds.listing.{Keeps, Starts, Adds}
+use Rattle.model.specs.Kinds.aired.{Refused, Goes, Activates, Ends, Speaks}
 use Rattle.state.specs.Conn.{termsOf}
 use Rattle.state.specs.Commands.{commandOf}
 use Rattle.nfcc.specs.Controller.{shortest, allowed, resetBy, after, seek, nextId, createBy, closeBy, configsOk, discoverBy, selectBy, sleepRejected, restState, deactivateBy, valuesOf, judgeOf}

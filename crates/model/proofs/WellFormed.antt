@@ -10,9 +10,8 @@ use lib.ListN.{length, drop}
 use borrow.Author.Tests.{ltb-false, not-false}
 use Rattle.octets.specs.Octets.{Octets, pick}
 use Rattle.packets.specs.Segments.{Segment, segments, segmentPacket, packetsOf}
-use Rattle.state.specs.declared.verdict.Verdict.{Verdict}
-use Rattle.air.specs.declared.events.Aired.{Aired}
-use Rattle.air.specs.declared.events.Aired.the-variants.{Refused, Goes, Activates, Ends, Speaks}
+use Rattle.model.specs.Kinds.{Verdict, Aired}
+use Rattle.model.specs.Kinds.aired.{Refused, Goes, Activates, Ends, Speaks}
 use Rattle.state.specs.Conn.{placeOf, termsOf}
 use Rattle.nfcc.specs.Controller.{judgeOf}
 use Rattle.dh.specs.Host.{hearOf}

@@ -3,15 +3,11 @@
 use Prim.Native.Nat.{ℕ}
 use lib.Dec.{eqb}
 use Rattle.octets.specs.Octets.{Octets, pick}
-use Rattle.state.specs.declared.kinds.Terms.{Terms}
-use Rattle.state.specs.declared.verdict.Verdict.{Verdict}
-use Rattle.state.specs.declared.verdict.Verdict.the-variants as verdict
-use Rattle.air.specs.declared.events.Aired.{Aired}
-use Rattle.air.specs.declared.events.Aired.the-variants.{Refused, Goes, Activates, Ends, Speaks}
-use Rattle.dh.specs.declared.host.Answer.{Answer}
-use Rattle.dh.specs.declared.host.Answer.the-variants.{Done, ClosesAll, Sized, Opens, Closes}
-use Rattle.dh.specs.declared.host.Heard.{Heard}
-use Rattle.dh.specs.declared.host.Heard.the-variants.{Nothing, Dropped, Answered, Activated, Deactivated, Credits}
+use Rattle.model.specs.Kinds.{Terms, Verdict, Aired, Answer, Heard}
+use Rattle.model.specs.Kinds.verdict as verdict
+use Rattle.model.specs.Kinds.aired.{Refused, Goes, Activates, Ends, Speaks}
+use Rattle.model.specs.Kinds.answer.{Done, ClosesAll, Sized, Opens, Closes}
+use Rattle.model.specs.Kinds.heard.{Nothing, Dropped, Answered, Activated, Deactivated, Credits}
 use Rattle.dh.specs.Host.{creditsFor}
 use Rattle.model.specs.Connection.{HostEnd, ControllerEnd, closedHost, openedHost, closedController, openedController, credited}
 

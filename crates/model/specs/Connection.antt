@@ -6,7 +6,7 @@ use mathlib.Core.List.{List, [], _∷_, _++_}
 use Rattle.octets.specs.Octets.{Octets, pick}
 use Rattle.packets.specs.Segments.{Segment, segments}
 use Rattle.packets.specs.Reassembly.{Run, run, grown}
-use Rattle.state.specs.declared.kinds.Terms.{Terms}
+use Rattle.model.specs.Kinds.{Terms}
 use Rattle.state.specs.Conn.{flows}
 use Rattle.state.specs.Runs.{dataLimit}
 

@@ -1,3 +1,4 @@
+pub mod Kinds
 pub mod Connection
 pub mod Packets
 pub mod State

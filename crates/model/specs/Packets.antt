@@ -6,16 +6,13 @@ use mathlib.Core.List.{List, [], _∷_}
 use lib.ListN.{length}
 use lib.Dec.{eqb}
 use Rattle.octets.specs.Octets.{Octets, pick}
-use Rattle.packets.specs.declared.Header.{Header}
-use Rattle.packets.specs.declared.Reading.{Reading}
-use Rattle.packets.specs.declared.Reading.the-variants.{Packet, Drop}
+use Rattle.model.specs.Kinds.{Header, Reading, Pending, Heard}
+use Rattle.model.specs.Kinds.reading.{Packet, Drop}
 use Rattle.packets.specs.Packet.{packetOf, readOf, payloadOf}
 use Rattle.packets.specs.Segments.{Segment, segment, more, last}
-use Rattle.state.specs.declared.kinds.Pending.{Pending}
-use Rattle.state.specs.declared.kinds.Pending.the-variants.{Command}
-use Rattle.dh.specs.declared.host.Answer.the-variants.{Done, ClosesAll, Sized, Opens, Closes}
-use Rattle.dh.specs.declared.host.Heard.{Heard}
-use Rattle.dh.specs.declared.host.Heard.the-variants.{Nothing, Dropped, Answered, Activated, Deactivated, Credits}
+use Rattle.model.specs.Kinds.pending.{Command}
+use Rattle.model.specs.Kinds.answer.{Done, ClosesAll, Sized, Opens, Closes}
+use Rattle.model.specs.Kinds.heard.{Nothing, Dropped, Answered, Activated, Deactivated, Credits}
 use Rattle.messages.specs.Layout.{Message}
 use Rattle.dh.specs.Contents.{written}
 use Rattle.dh.specs.Host.{heardAlone, creditsFor}

@@ -7,12 +7,11 @@ use mathlib.Core.Bool.{Bool, true, false, _||_}
 use mathlib.Core.List.{List, [], _∷_, _++_}
 use lib.ListN.{length}
 use Rattle.octets.specs.Octets.{Octets}
-use Rattle.packets.specs.declared.Header.{Header}
-use Rattle.packets.specs.declared.Reading.the-variants.{Packet}
+use Rattle.model.specs.Kinds.{Header, Profile}
+use Rattle.model.specs.Kinds.reading.{Packet}
 use Rattle.packets.specs.Packet.{readOf}
 use Rattle.packets.specs.Segments.{Segment, more, last, body}
 use Rattle.packets.specs.Reassembly.{Run, run, lost}
-use Rattle.state.specs.declared.kinds.Profile.{Profile}
 use Rattle.dh.specs.Contents.{creditsOk}
 use Rattle.dh.specs.Host.{aimOf}
 use Rattle.model.specs.Connection.{HostEnd, ControllerEnd, closed}

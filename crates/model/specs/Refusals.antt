@@ -7,8 +7,8 @@ use mathlib.Core.List.{List, [], _∷_}
 use lib.Dec.{eqb, ltb, leb}
 use lib.ListN.{length}
 use Rattle.octets.specs.Octets.{Octets, pick}
-use Rattle.state.specs.declared.kinds.Pending.{Pending}
-use Rattle.state.specs.declared.kinds.Pending.the-variants as pending
+use Rattle.model.specs.Kinds.{Pending}
+use Rattle.model.specs.Kinds.pending as pending
 use Rattle.state.specs.Conn.{placeOf}
 use Rattle.model.specs.State.{State}
 use Rattle.model.specs.Effects.{Result, taken, refused}

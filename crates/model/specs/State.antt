@@ -7,14 +7,12 @@ use lib.Dec.{eqb, leb}
 use lib.ListN.{length, getD}
 use Rattle.octets.specs.Octets.{Octets, pick}
 use Rattle.packets.specs.Reassembly.{Run, run}
-use Rattle.state.specs.declared.kinds.Profile.{Profile}
-use Rattle.state.specs.declared.kinds.Rf.the-variants.{Idle}
-use Rattle.state.specs.declared.kinds.Phase.the-variants.{Cold}
-use Rattle.state.specs.declared.kinds.Pending.the-variants as pending
-use Rattle.state.specs.declared.kinds.Host.{Host}
-use Rattle.state.specs.declared.kinds.Controller.{Controller}
-use Rattle.state.specs.declared.verdict.Verdict.the-variants as verdict
-use Rattle.dh.specs.declared.host.Heard.the-variants.{Nothing}
+use Rattle.model.specs.Kinds.{Profile, Host, Controller}
+use Rattle.model.specs.Kinds.rf.{Idle}
+use Rattle.model.specs.Kinds.phase.{Cold}
+use Rattle.model.specs.Kinds.pending as pending
+use Rattle.model.specs.Kinds.verdict as verdict
+use Rattle.model.specs.Kinds.heard.{Nothing}
 use Rattle.state.specs.Radio.{noPairs}
 use Rattle.dh.specs.Contents.{creditsOk}
 use Rattle.dh.specs.Host.{leastSize}

@@ -7,13 +7,10 @@ use mathlib.Core.List.{List, [], _∷_}
 use lib.ListN.{length}
 use lib.Dec.{eqb}
 use Rattle.octets.specs.Octets.{Octets}
-use Rattle.state.specs.declared.kinds.Profile.{Profile}
-use Rattle.state.specs.declared.kinds.Pair.{Pair}
-use Rattle.state.specs.declared.kinds.Phase.the-variants as phase
-use Rattle.state.specs.declared.kinds.Rf.the-variants.{Idle, HostSelect, Discovery}
-use Rattle.state.specs.declared.kinds.Selection.{Selection}
-use Rattle.state.specs.declared.kinds.Controller.{Controller}
-use Rattle.state.specs.declared.verdict.Verdict.the-variants.{Resets, Initialises, Closes, Turns, Selects}
+use Rattle.nfcc.specs.Kinds.{Profile, Pair, Selection, Controller}
+use Rattle.nfcc.specs.Kinds.phase as phase
+use Rattle.nfcc.specs.Kinds.rf.{Idle, HostSelect, Discovery}
+use Rattle.nfcc.specs.Kinds.verdict.{Resets, Initialises, Closes, Turns, Selects}
 use Rattle.state.specs.Radio.{listed}
 use Rattle.nfcc.specs.Controller.{nextId, opensAs, configOk, deactivateBy, judgeOf}
 

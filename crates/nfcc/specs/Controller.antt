@@ -6,22 +6,13 @@ use mathlib.Core.List.{List}
 use lib.ListN.{length, getD}
 use lib.Dec.{eqb, ltb, leb}
 use Rattle.octets.specs.Octets.{Octets, pick}
-use Rattle.state.specs.declared.kinds.Profile.{Profile}
-use Rattle.state.specs.declared.kinds.Pair.{Pair}
-use Rattle.state.specs.declared.kinds.Pairs.{Pairs}
-use Rattle.state.specs.declared.kinds.Activation.{Activation}
-use Rattle.state.specs.declared.kinds.Selection.the-variants.{Nothing, Chosen}
-use Rattle.state.specs.declared.kinds.Rf.{Rf}
-use Rattle.state.specs.declared.kinds.Rf.the-variants.{Idle, Discovery, AllDiscoveries, HostSelect, PollActive, ListenActive, ListenSleep}
-use Rattle.state.specs.declared.kinds.Phase.{Phase}
-use Rattle.state.specs.declared.kinds.Phase.the-variants.{Cold, Ready}
-use Rattle.state.specs.declared.kinds.Phase.the-variants as phase
-use Rattle.state.specs.declared.kinds.Controller.{Controller}
-use Rattle.state.specs.declared.kinds.Counts.{Counts}
-use Rattle.state.specs.declared.commands.Command.{Command}
-use Rattle.state.specs.declared.commands.Command.the-variants.{Reset, Init, ConnCreate, ConnClose, Discover, Select, Deactivate, Unknown}
-use Rattle.state.specs.declared.verdict.Verdict.{Verdict}
-use Rattle.state.specs.declared.verdict.Verdict.the-variants.{Refuses, Resets, Initialises, Opens, Closes, Turns, Selects, Deactivates}
+use Rattle.nfcc.specs.Kinds.{Profile, Pair, Pairs, Activation, Rf, Phase, Controller, Counts, Command, Verdict}
+use Rattle.nfcc.specs.Kinds.selection.{Nothing, Chosen}
+use Rattle.nfcc.specs.Kinds.rf.{Idle, Discovery, AllDiscoveries, HostSelect, PollActive, ListenActive, ListenSleep}
+use Rattle.nfcc.specs.Kinds.phase.{Cold, Ready}
+use Rattle.nfcc.specs.Kinds.phase as phase
+use Rattle.nfcc.specs.Kinds.command.{Reset, Init, ConnCreate, ConnClose, Discover, Select, Deactivate, Unknown}
+use Rattle.nfcc.specs.Kinds.verdict.{Refuses, Resets, Initialises, Opens, Closes, Turns, Selects, Deactivates}
 use Rattle.state.specs.Conn.{termsOf, shutAt, openedAt, allShut}
 use Rattle.state.specs.Radio.{isIdle, polls, listens, noPairs, listed}
 use Rattle.state.specs.Commands.{rejected, syntaxError, semanticError, alreadyStarted, commandOf}

@@ -22,7 +22,7 @@ use state::radio::no_pairs;
 use state::radio::polls;
 use state::verdict::Verdict;
 ghost use mathlib.Core.Path.{_≡_};
-ghost use Rattle.state.specs.declared.kinds.Rf.the-variants.{ListenActive, ListenSleep};
+ghost use Rattle.nfcc.specs.Kinds.rf.{ListenActive, ListenSleep};
 ghost use Rattle.state.specs.Conn.{openAt};
 ghost use Rattle.nfcc.specs.Controller.{shortest, isReset, isReady, allowed, resetBy, after, nextId, opensAs, createBy, closeBy, configOk, configsOk, discoverBy, selectBy, sleepRejected, restState, ended, deactivateBy, valuesOf, judgeOf, turned, controllerAfter, connsAfter, closesZero};
 

@@ -9,11 +9,7 @@ use lib.ListN.{length, getD}
 use lib.Dec.{eqb, ltb, leb}
 use borrow.Author.Tests.{leb-true, ltb-true, le-leb, lt-ltb, eqb-false, ne-eqb}
 use Rattle.octets.specs.Octets.{Octets}
-use Rattle.state.specs.declared.kinds.Terms.{Terms}
-use Rattle.state.specs.declared.kinds.Hand.{Hand}
-use Rattle.state.specs.declared.kinds.Ring.{Ring}
-use Rattle.state.specs.declared.kinds.Counts.{Counts}
-use Rattle.state.specs.declared.kinds.Record.{Record}
+use Rattle.record.specs.Kinds.{Terms, Hand, Ring, Counts, Record}
 use Rattle.state.specs.Conn.{closedCounts}
 use Rattle.state.proofs.Chains.{every-at}
 use Rattle.record.specs.Layout.{slot}

@@ -8,7 +8,7 @@ use lib.ListN.{length, getD, drop}
 use lib.Seq.{getD-take, getD-drop}
 use Rattle.octets.specs.Octets.{Octets, cut, splice}
 use Rattle.octets.proofs.Octets.{length-splice, cut-before, cut-after}
-use Rattle.state.specs.declared.kinds.Record.{Record}
+use Rattle.record.specs.Kinds.{Record}
 use Rattle.record.specs.Layout.{slot}
 use Rattle.record.specs.Reading.{recordOf, decodeOf}
 use Rattle.record.specs.Writing.{encodeOf}

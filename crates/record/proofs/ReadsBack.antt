@@ -10,19 +10,11 @@ use lib.Seq.{drop-cons, take-add}
 use lib.Dec.{eqb, leb}
 use Rattle.octets.specs.Octets.{Octets, cut}
 use Rattle.octets.proofs.Octets.{cut-same}
-use Rattle.state.specs.declared.kinds.Selection.the-variants as selection
-use Rattle.state.specs.declared.kinds.Rf.{Rf}
-use Rattle.state.specs.declared.kinds.Rf.the-variants.{Idle, Discovery, AllDiscoveries, HostSelect, PollActive, ListenActive, ListenSleep}
-use Rattle.state.specs.declared.kinds.Progress.{Progress}
-use Rattle.state.specs.declared.kinds.ControlRun.{ControlRun}
-use Rattle.state.specs.declared.kinds.Phase.{Phase}
-use Rattle.state.specs.declared.kinds.Phase.the-variants.{Cold, Reset, Ready}
-use Rattle.state.specs.declared.kinds.Pending.{Pending}
-use Rattle.state.specs.declared.kinds.Pending.the-variants as pending
-use Rattle.state.specs.declared.kinds.Hand.{Hand}
-use Rattle.state.specs.declared.kinds.Ring.{Ring}
-use Rattle.state.specs.declared.kinds.Counts.{Counts}
-use Rattle.state.specs.declared.kinds.Record.{Record}
+use Rattle.record.specs.Kinds.selection as selection
+use Rattle.record.specs.Kinds.{Rf, Progress, ControlRun, Phase, Pending, Hand, Ring, Counts, Record}
+use Rattle.record.specs.Kinds.rf.{Idle, Discovery, AllDiscoveries, HostSelect, PollActive, ListenActive, ListenSleep}
+use Rattle.record.specs.Kinds.phase.{Cold, Reset, Ready}
+use Rattle.record.specs.Kinds.pending as pending
 use Rattle.state.specs.Conn.{closedCounts}
 use Rattle.record.specs.Layout.{slot, high, low, bit}
 use Rattle.record.specs.Reading.{wideAt, pendingOf, phaseOf, rfOf, profileAt, progressAt, controlRunAt, handAt, ringAt, hostAt, pairAt, pairsAt, controllerAt, hostSideAt, controllerSideAt, countsAt, connsAt, endsOf, recordOf, decodeOf}

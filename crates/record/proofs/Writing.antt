@@ -6,19 +6,10 @@ use mathlib.Core.List.{List, [], _∷_, _++_}
 use lib.ListN.{length, length-append}
 use Rattle.octets.specs.Octets.{Octets, splice}
 use Rattle.octets.proofs.Octets.{splice-next}
-use Rattle.state.specs.declared.kinds.Profile.{Profile}
-use Rattle.state.specs.declared.kinds.Selection.the-variants as selection
-use Rattle.state.specs.declared.kinds.Rf.{Rf}
-use Rattle.state.specs.declared.kinds.Rf.the-variants.{Idle, Discovery, AllDiscoveries, HostSelect, PollActive, ListenActive, ListenSleep}
-use Rattle.state.specs.declared.kinds.Pairs.{Pairs}
-use Rattle.state.specs.declared.kinds.ControlRun.{ControlRun}
-use Rattle.state.specs.declared.kinds.Controller.{Controller}
-use Rattle.state.specs.declared.kinds.Pending.{Pending}
-use Rattle.state.specs.declared.kinds.Pending.the-variants as pending
-use Rattle.state.specs.declared.kinds.Host.{Host}
-use Rattle.state.specs.declared.kinds.Counts.{Counts}
-use Rattle.state.specs.declared.kinds.Ends.{Ends}
-use Rattle.state.specs.declared.kinds.Record.{Record}
+use Rattle.record.specs.Kinds.{Profile, Rf, Pairs, ControlRun, Controller, Pending, Host, Counts, Ends, Record}
+use Rattle.record.specs.Kinds.selection as selection
+use Rattle.record.specs.Kinds.rf.{Idle, Discovery, AllDiscoveries, HostSelect, PollActive, ListenActive, ListenSleep}
+use Rattle.record.specs.Kinds.pending as pending
 use Rattle.record.specs.Writing.{pendingOctets, phaseOctet, rfOctets, profileOctets, controlRunOctets, handOctets, ringOctets, hostOctets, pairsOctets, controllerOctets, countsOctets, countsIn, connsOctets, frontOctets, middleOctets, wiresOctets, encodeOf}
 
 -- ---- lengths

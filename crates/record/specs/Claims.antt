@@ -5,7 +5,7 @@ use mathlib.Core.Path.{_≡_}
 use mathlib.Core.Bool.{true, false}
 use lib.ListN.{length, getD}
 use Rattle.octets.specs.Octets.{Octets, cut, splice}
-use Rattle.state.specs.declared.kinds.Record.{Record}
+use Rattle.record.specs.Kinds.{Record}
 use Rattle.record.specs.Layout.{slot}
 use Rattle.record.specs.Reading.{decodeOf}
 use Rattle.record.specs.Writing.{encodeOf}

@@ -4,11 +4,7 @@ use Prim.Native.Nat.{ℕ, _≤_, _<_}
 use mathlib.Core.Path.{_≡_}
 use mathlib.Core.Bool.{true}
 use lib.ListN.{length, getD}
-use Rattle.state.specs.declared.kinds.Terms.{Terms}
-use Rattle.state.specs.declared.kinds.Hand.{Hand}
-use Rattle.state.specs.declared.kinds.Ring.{Ring}
-use Rattle.state.specs.declared.kinds.Counts.{Counts}
-use Rattle.state.specs.declared.kinds.Record.{Record}
+use Rattle.record.specs.Kinds.{Terms, Hand, Ring, Counts, Record}
 use Rattle.state.specs.Conn.{closedCounts}
 
 -- the lengths that the types of the code give its arrays

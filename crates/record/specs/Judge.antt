@@ -6,15 +6,7 @@ use mathlib.Core.List.{List}
 use lib.ListN.{getD}
 use lib.Dec.{eqb, ltb, leb}
 use Rattle.octets.specs.Octets.{Octets}
-use Rattle.state.specs.declared.kinds.Terms.{Terms}
-use Rattle.state.specs.declared.kinds.Profile.{Profile}
-use Rattle.state.specs.declared.kinds.Hand.{Hand}
-use Rattle.state.specs.declared.kinds.Ring.{Ring}
-use Rattle.state.specs.declared.kinds.HostSide.{HostSide}
-use Rattle.state.specs.declared.kinds.ControllerSide.{ControllerSide}
-use Rattle.state.specs.declared.kinds.Counts.{Counts}
-use Rattle.state.specs.declared.kinds.Ends.{Ends}
-use Rattle.state.specs.declared.kinds.Record.{Record}
+use Rattle.record.specs.Kinds.{Terms, Profile, Hand, Ring, HostSide, ControllerSide, Counts, Ends, Record}
 use Rattle.state.specs.Conn.{closedCounts}
 use Rattle.record.specs.Layout.{slot, hostPlace, hearingPlace, controllerPlace, askingPlace, endpointPlace, connsPlace}
 use Rattle.record.specs.Reading.{decodeOf}

@@ -5,8 +5,7 @@ use mathlib.Core.List.{[]}
 use lib.ListN.{length}
 use lib.Dec.{ltb}
 use Rattle.octets.specs.Octets.{Octets, pick}
-use Rattle.state.specs.declared.kinds.Record.{Record}
-use Rattle.record.specs.declared.load.Loaded.{Loaded}
+use Rattle.record.specs.Kinds.{Record, Loaded}
 use Rattle.area.specs.Map.{areaSize}
 use Rattle.record.specs.Reading.{decodeOf}
 use Rattle.record.specs.Judge.{judgeOf}

@@ -4,27 +4,11 @@ use Prim.Native.Nat.{ℕ}
 use mathlib.Core.List.{List, [], _∷_, _++_}
 use lib.ListN.{getD}
 use Rattle.octets.specs.Octets.{Octets}
-use Rattle.state.specs.declared.kinds.Profile.{Profile}
-use Rattle.state.specs.declared.kinds.Pair.{Pair}
-use Rattle.state.specs.declared.kinds.Selection.the-variants as selection
-use Rattle.state.specs.declared.kinds.Rf.{Rf}
-use Rattle.state.specs.declared.kinds.Rf.the-variants.{Idle, Discovery, AllDiscoveries, HostSelect, PollActive, ListenActive, ListenSleep}
-use Rattle.state.specs.declared.kinds.Pairs.{Pairs}
-use Rattle.state.specs.declared.kinds.Progress.{Progress}
-use Rattle.state.specs.declared.kinds.ControlRun.{ControlRun}
-use Rattle.state.specs.declared.kinds.Phase.{Phase}
-use Rattle.state.specs.declared.kinds.Phase.the-variants.{Cold, Reset, Ready}
-use Rattle.state.specs.declared.kinds.Controller.{Controller}
-use Rattle.state.specs.declared.kinds.Pending.{Pending}
-use Rattle.state.specs.declared.kinds.Pending.the-variants as pending
-use Rattle.state.specs.declared.kinds.Host.{Host}
-use Rattle.state.specs.declared.kinds.Hand.{Hand}
-use Rattle.state.specs.declared.kinds.Ring.{Ring}
-use Rattle.state.specs.declared.kinds.HostSide.{HostSide}
-use Rattle.state.specs.declared.kinds.ControllerSide.{ControllerSide}
-use Rattle.state.specs.declared.kinds.Counts.{Counts}
-use Rattle.state.specs.declared.kinds.Ends.{Ends}
-use Rattle.state.specs.declared.kinds.Record.{Record}
+use Rattle.record.specs.Kinds.{Profile, Pair, Rf, Pairs, Progress, ControlRun, Phase, Controller, Pending, Host, Hand, Ring, HostSide, ControllerSide, Counts, Ends, Record}
+use Rattle.record.specs.Kinds.selection as selection
+use Rattle.record.specs.Kinds.rf.{Idle, Discovery, AllDiscoveries, HostSelect, PollActive, ListenActive, ListenSleep}
+use Rattle.record.specs.Kinds.phase.{Cold, Reset, Ready}
+use Rattle.record.specs.Kinds.pending as pending
 use Rattle.state.specs.Conn.{closedCounts}
 use Rattle.record.specs.Layout.{high, low, bit}
 

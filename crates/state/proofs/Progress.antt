@@ -10,7 +10,7 @@ use lib.Dec.{leb, ltb}
 use borrow.Author.Tests.{le-leb, lt-leb, leb-true, lt-ltb, le-ltb}
 use Rattle.packets.specs.Segments.{Segment, more, last}
 use Rattle.packets.specs.Reassembly.{Run, run, lost}
-use Rattle.state.specs.declared.kinds.Progress.{Progress}
+use Rattle.state.specs.Kinds.{Progress}
 use Rattle.state.specs.Runs.{within, joinedOf, JoinsAs}
 
 -- ---- within

@@ -6,14 +6,7 @@ use mathlib.Core.List.{List}
 use lib.ListN.{getD, set}
 use lib.Dec.{eqb}
 use Rattle.octets.specs.Octets.{pick}
-use Rattle.state.specs.declared.kinds.Terms.{Terms}
-use Rattle.state.specs.declared.kinds.Profile.{Profile}
-use Rattle.state.specs.declared.kinds.Progress.{Progress}
-use Rattle.state.specs.declared.kinds.Hand.{Hand}
-use Rattle.state.specs.declared.kinds.Ring.{Ring}
-use Rattle.state.specs.declared.kinds.HostSide.{HostSide}
-use Rattle.state.specs.declared.kinds.ControllerSide.{ControllerSide}
-use Rattle.state.specs.declared.kinds.Counts.{Counts}
+use Rattle.state.specs.Kinds.{Terms, Profile, Progress, Hand, Ring, HostSide, ControllerSide, Counts}
 
 -- ---- Conn ID and place
 

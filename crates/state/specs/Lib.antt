@@ -1,3 +1,4 @@
+pub mod Kinds
 pub mod Conn
 pub mod Radio
 pub mod Runs

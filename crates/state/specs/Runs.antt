@@ -10,11 +10,7 @@ use lib.Dec.{eqb, leb}
 use Rattle.octets.specs.Octets.{Octets, pick}
 use Rattle.packets.specs.Segments.{Segment, body, flag}
 use Rattle.packets.specs.Reassembly.{Run, run, lost, grown, finished, flagged}
-use Rattle.packets.specs.declared.Header.{Header}
-use Rattle.state.specs.declared.kinds.Progress.{Progress}
-use Rattle.state.specs.declared.kinds.ControlRun.{ControlRun}
-use Rattle.state.specs.declared.runs.Joined.{Joined}
-use Rattle.state.specs.declared.runs.ControlJoined.{ControlJoined}
+use Rattle.state.specs.Kinds.{Header, Progress, ControlRun, Joined, ControlJoined}
 use Rattle.state.specs.Conn.{start}
 
 -- the longest message of each kind

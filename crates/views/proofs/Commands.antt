@@ -7,11 +7,9 @@ use mathlib.Core.List.{List, [], _∷_, _++_, map, append-assoc, append-nil}
 use lib.ListN.{length, take, drop, length-take}
 use Rattle.octets.specs.Octets.{Octets, splice}
 use Rattle.octets.proofs.Octets.{length-splice}
-use Rattle.packets.specs.declared.Header.{Header}
+use Rattle.views.specs.Kinds.{Header, Ring, Record}
 use Rattle.packets.specs.Segments.{Segment, more, last, body, flag, marked, segments, segmentPacket, packetsOf}
 use Rattle.packets.proofs.Segments.{segments-ind, segments-one, segments-more}
-use Rattle.state.specs.declared.kinds.Ring.{Ring}
-use Rattle.state.specs.declared.kinds.Record.{Record}
 use Rattle.area.specs.Map.{downAt}
 use Rattle.area.specs.Ring.{freeAt, putInto}
 use Rattle.area.specs.Movers.{putsAll}

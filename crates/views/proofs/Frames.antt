@@ -13,8 +13,7 @@ use lib.Dec.{eqb}
 use borrow.Author.Tests.{eqb-true, eqb-false}
 use Rattle.octets.specs.Octets.{Octets, pick, cut, splice}
 use Rattle.packets.specs.Segments.{Segment}
-use Rattle.state.specs.declared.kinds.Hand.{Hand}
-use Rattle.state.specs.declared.kinds.Counts.{Counts}
+use Rattle.views.specs.Kinds.{Hand, Counts}
 use Rattle.state.specs.Conn.{placeOf, connOf, closedCounts, countsOf}
 use Rattle.state.proofs.Places.{conn-place}
 use Rattle.record.specs.Fit.{FitCounts}

@@ -8,10 +8,9 @@ use mathlib.Core.List.{[], _∷_, _++_}
 use lib.ListN.{length}
 use Rattle.octets.specs.Octets.{Octets, cut, splice}
 use Rattle.octets.proofs.Octets.{length-cut}
-use Rattle.packets.specs.declared.Header.{Header}
+use Rattle.views.specs.Kinds.{Header, Record}
 use Rattle.packets.specs.Packet.{packetOf}
 use Rattle.packets.proofs.Packet.{length-packet}
-use Rattle.state.specs.declared.kinds.Record.{Record}
 use Rattle.area.specs.Map.{downAt, upAt, storeAt, handAt, endpointAt, hostRunAt, controllerRunAt, askingAt, hearingAt}
 use Rattle.area.specs.Ring.{slotPacket, trim, freeAt, tookFrom, putInto}
 use Rattle.area.proofs.Rings.{slot-written, slot-copied, wire, packets-put, packets-took}

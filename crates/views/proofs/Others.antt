@@ -10,12 +10,10 @@ use mathlib.Core.List.{[], _∷_}
 use lib.ListN.{length, getD}
 use lib.Dec.{eqb}
 use Rattle.octets.specs.Octets.{Octets, pick, cut, splice}
-use Rattle.packets.specs.declared.Header.{Header}
+use Rattle.views.specs.Kinds.{Header, Profile, Record}
 use Rattle.packets.specs.Segments.{Segment, body, flag, segments}
 use Rattle.packets.specs.Reassembly.{run, grown}
-use Rattle.state.specs.declared.kinds.Profile.{Profile}
-use Rattle.state.specs.declared.kinds.ControlRun as kinds
-use Rattle.state.specs.declared.kinds.Record.{Record}
+use Rattle.views.specs.Kinds as kinds
 use Rattle.state.specs.Conn.{start, empty, closedCounts, placeOf, countsOf}
 use Rattle.state.specs.Runs as runs
 use Rattle.area.specs.Map.{downAt, upAt, storeAt, handAt, endpointAt, hostRunAt, controllerRunAt, askingAt, hearingAt, spareAt}

@@ -13,9 +13,7 @@ use Rattle.octets.proofs.Octets.{length-cut, drop-cut, cut-same}
 use Rattle.packets.specs.Segments.{Segment, segments, segmentAt}
 use Rattle.packets.proofs.Segments.{segments-step}
 use Rattle.packets.specs.Reassembly.{run, lost}
-use Rattle.state.specs.declared.kinds.Progress.{Progress}
-use Rattle.state.specs.declared.kinds.Hand.{Hand}
-use Rattle.state.specs.declared.kinds.Ring.{Ring}
+use Rattle.views.specs.Kinds.{Progress, Hand, Ring}
 use Rattle.area.specs.Ring.{slotAt, trim, slotPacket, packetsIn}
 use Rattle.area.proofs.Rings.{apart, Size, packets-kept}
 use Rattle.state.specs.Conn.{empty}

@@ -10,8 +10,7 @@ use lib.Dec.{eqb}
 use Rattle.octets.specs.Octets.{Octets, pick, cut, splice}
 use Rattle.octets.proofs.Octets.{length-cut}
 use Rattle.packets.specs.Segments.{Segment, body}
-use Rattle.state.specs.declared.kinds.Counts.{Counts}
-use Rattle.state.specs.declared.kinds.Record.{Record}
+use Rattle.views.specs.Kinds.{Counts, Record}
 use Rattle.state.specs.Conn as conn
 use Rattle.state.specs.Conn.{placeOf, countsOf}
 use Rattle.record.specs.Fit.{FitCounts}

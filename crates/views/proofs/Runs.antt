@@ -12,7 +12,7 @@ use Rattle.octets.specs.Octets.{Octets, pick, cut, splice}
 use Rattle.octets.proofs.Octets.{length-cut, cut-grown}
 use Rattle.packets.specs.Segments.{Segment, more, last, body, flag}
 use Rattle.packets.specs.Reassembly.{run, lost}
-use Rattle.state.specs.declared.kinds.Progress.{Progress}
+use Rattle.views.specs.Kinds.{Progress}
 use Rattle.state.specs.Runs.{within, joinedOf}
 use Rattle.state.proofs.Progress.{within-room}
 use Rattle.views.specs.View.{runOf}

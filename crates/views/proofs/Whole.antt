@@ -7,7 +7,7 @@ use mathlib.Core.Bool.{true}
 use mathlib.Core.List.{_∷_}
 use Rattle.octets.specs.Octets.{Octets, cut}
 use Rattle.packets.specs.Segments.{segmentAt}
-use Rattle.state.specs.declared.kinds.Record.{Record}
+use Rattle.views.specs.Kinds.{Record}
 use Rattle.state.specs.Conn.{placeOf, countsOf}
 use Rattle.area.specs.Map.{storeAt, handAt, endpointAt}
 use Rattle.area.proofs.Rings.{store, packets-took}

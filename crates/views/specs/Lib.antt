@@ -1,3 +1,4 @@
+pub mod Kinds
 pub mod View
 pub mod Plan
 pub mod Moves

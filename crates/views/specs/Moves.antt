@@ -6,15 +6,10 @@ use mathlib.Core.Bool.{true}
 use mathlib.Core.List.{[], _∷_, _++_}
 use lib.ListN.{length, set}
 use Rattle.octets.specs.Octets.{Octets, cut, splice}
-use Rattle.packets.specs.declared.Header.{Header}
+use Rattle.views.specs.Kinds.{Header, Profile, Progress, Counts, Record, Joined}
 use Rattle.packets.specs.Packet.{packetOf}
 use Rattle.packets.specs.Segments.{Segment, body, flag, segments, segmentAt, packetsOf}
 use Rattle.packets.specs.Reassembly.{grown, finished, flagged}
-use Rattle.state.specs.declared.kinds.Profile.{Profile}
-use Rattle.state.specs.declared.kinds.Progress.{Progress}
-use Rattle.state.specs.declared.kinds.Counts.{Counts}
-use Rattle.state.specs.declared.kinds.Record.{Record}
-use Rattle.state.specs.declared.runs.Joined.{Joined}
 use Rattle.state.specs.Conn as conn
 use Rattle.state.specs.Conn.{placeOf, countsOf}
 use Rattle.state.specs.Runs.{handedOn, joinedOf, runFor, controlJoined}

@@ -6,16 +6,7 @@ use mathlib.Core.List.{List, [], _∷_}
 use lib.Dec.{ltb}
 use lib.ListN.{length}
 use Rattle.octets.specs.Octets.{Octets, pick, splice}
-use Rattle.state.specs.declared.kinds.Profile.{Profile}
-use Rattle.state.specs.declared.kinds.Hand.{Hand}
-use Rattle.state.specs.declared.kinds.Ring.{Ring}
-use Rattle.state.specs.declared.kinds.HostSide.{HostSide}
-use Rattle.state.specs.declared.kinds.ControllerSide.{ControllerSide}
-use Rattle.state.specs.declared.kinds.Counts.{Counts}
-use Rattle.state.specs.declared.kinds.Progress.{Progress}
-use Rattle.state.specs.declared.kinds.ControlRun.{ControlRun}
-use Rattle.state.specs.declared.kinds.Ends.{Ends}
-use Rattle.state.specs.declared.kinds.Record.{Record}
+use Rattle.views.specs.Kinds.{Profile, Hand, Ring, HostSide, ControllerSide, Counts, Progress, ControlRun, Ends, Record}
 use Rattle.state.specs.Conn.{start, empty, emptyRing, closedCounts}
 use Rattle.state.specs.Runs.{within}
 use Rattle.model.specs.State.{coldHost, coldController}

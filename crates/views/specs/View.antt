@@ -7,13 +7,8 @@ use lib.Dec.{eqb}
 use Rattle.octets.specs.Octets.{Octets, pick, cut}
 use Rattle.packets.specs.Segments.{Segment, segments}
 use Rattle.packets.specs.Reassembly.{Run, run, lost}
-use Rattle.state.specs.declared.kinds.Progress.{Progress}
-use Rattle.state.specs.declared.kinds.Hand.{Hand}
-use Rattle.state.specs.declared.kinds.HostSide.{HostSide}
-use Rattle.state.specs.declared.kinds.ControllerSide.{ControllerSide}
-use Rattle.state.specs.declared.kinds.Counts.{Counts}
-use Rattle.state.specs.declared.kinds.ControlRun as kinds
-use Rattle.state.specs.declared.kinds.Record.{Record}
+use Rattle.views.specs.Kinds.{Progress, Hand, HostSide, ControllerSide, Counts, Record}
+use Rattle.views.specs.Kinds as kinds
 use Rattle.state.specs.Conn.{placeOf, countsOf}
 use Rattle.area.specs.Map.{downAt, upAt, storeAt, handAt, endpointAt, hostRunAt, controllerRunAt, askingAt, hearingAt}
 use Rattle.area.specs.Ring.{packetsIn}

@@ -6,11 +6,9 @@ use mathlib.Core.List.{List, [], _∷_}
 use lib.ListN.{drop}
 use Rattle.octets.specs.Octets.{Octets}
 use Rattle.packets.specs.Segments.{segments}
-use Rattle.state.specs.declared.kinds.Terms.{Terms}
-use Rattle.air.specs.declared.events.Event.{Event}
-use Rattle.air.specs.declared.events.Event.the-variants.{Bad, Found, Poll, Listen, Failed, Sleeps, LinkLost, Releases, Endpoint}
-use Rattle.air.specs.declared.events.Aired.{Aired}
-use Rattle.air.specs.declared.events.Aired.the-variants.{Refused, Goes, Activates, Ends, Speaks}
+use Rattle.model.specs.Kinds.{Terms, Event, Aired}
+use Rattle.model.specs.Kinds.event.{Bad, Found, Poll, Listen, Failed, Sleeps, LinkLost, Releases, Endpoint}
+use Rattle.model.specs.Kinds.aired.{Refused, Goes, Activates, Ends, Speaks}
 use Rattle.state.specs.Conn.{termsOf}
 use Rattle.air.specs.Air.{eventOf, airedBy, airMessage, controllerAired}
 use Rattle.model.specs.Connection.{Connection, withController, spoken}

@@ -7,7 +7,7 @@ use lib.Dec.{ltb}
 use lib.ListN.{length}
 use Rattle.octets.specs.Octets.{Octets}
 use Rattle.packets.specs.Segments.{segments, packetsOf}
-use Rattle.state.specs.declared.kinds.Pending.the-variants as pending
+use Rattle.model.specs.Kinds.pending as pending
 use Rattle.dh.specs.Host.{askedOf}
 use Rattle.model.specs.Packets.{controlHeader}
 use Rattle.model.specs.State.{State, withHostState}

@@ -7,8 +7,7 @@ use lib.Dec.{eqb, leb}
 use lib.ListN.{length}
 use Rattle.octets.specs.Octets.{Octets, pick}
 use Rattle.packets.specs.Segments.{Segment, more, last}
-use Rattle.state.specs.declared.kinds.Profile.{Profile}
-use Rattle.state.specs.declared.verdict.Verdict.{Verdict}
+use Rattle.model.specs.Kinds.{Profile, Verdict}
 use Rattle.nfcc.specs.Controller.{judgeOf, controllerAfter}
 use Rattle.messages.specs.Layout.{responseMessage, noticeMessage}
 use Rattle.model.specs.Connection.{withController, stored}

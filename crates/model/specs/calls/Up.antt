@@ -8,7 +8,7 @@ use lib.ListN.{drop}
 use Rattle.octets.specs.Octets.{Octets, pick}
 use Rattle.packets.specs.Segments.{Segment}
 use Rattle.packets.specs.Reassembly.{finished, flagged}
-use Rattle.dh.specs.declared.host.Heard.{Heard}
+use Rattle.model.specs.Kinds.{Heard}
 use Rattle.state.specs.Conn.{flows}
 use Rattle.state.specs.Runs.{dataLimit}
 use Rattle.dh.specs.Host.{hearOf, hostAfter, dropHeard}

@@ -4,7 +4,7 @@ use Prim.Native.Nat.{_≤_}
 use mathlib.Core.Path.{subst}
 use native.Mathlib.Omega.{arith}
 use lib.ListN.{length, length-append}
-use Rattle.air.specs.declared.events.Event.{Event}
+use Rattle.air.specs.Kinds.{Event}
 use Rattle.air.specs.Air.{airMessage}
 use Rattle.messages.proofs.Messages.{put-nothing}
 use borrow.Author.Needs.{needs}

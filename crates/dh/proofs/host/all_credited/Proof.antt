@@ -4,7 +4,7 @@
 use mathlib.Core.List.{List}
 use Prim.Native.Nat.{ℕ}
 use native.Mathlib.Omega.{arith}
-use Rattle.state.specs.declared.kinds.Counts.{Counts}
+use Rattle.dh.specs.Kinds.{Counts}
 use Rattle.state.specs.Conn.{placeOf}
 use Rattle.dh.specs.Host.{creditsFor, creditedAt}
 use Rattle.dh.proofs.Hearing.{fits-kept, five}

@@ -4,7 +4,7 @@ use Prim.Native.Nat.{_≤_, ℕ}
 use mathlib.Core.Path.{sym, ap, _∙_}
 use native.Mathlib.Omega.{arith}
 use lib.ListN.{length, getD, List·getD-eq-default}
-use Rattle.state.specs.declared.kinds.Counts.{Counts}
+use Rattle.dh.specs.Kinds.{Counts}
 use Rattle.state.specs.Conn.{placeOf, closedCounts}
 use borrow.Author.Needs.{needs}
 use Rattle.dh.proofs.host.side_of.Statement.{statement}

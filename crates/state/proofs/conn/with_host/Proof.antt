@@ -5,7 +5,7 @@ use mathlib.Core.Path.{sym}
 use native.Mathlib.Omega.{arith}
 use lib.ListN.{length, getD, set}
 use lib.Seq.{set-out}
-use Rattle.state.specs.declared.kinds.Counts.{Counts}
+use Rattle.state.specs.Kinds.{Counts}
 use Rattle.state.specs.Conn.{placeOf, closedCounts}
 use borrow.Author.Needs.{needs}
 use Rattle.state.proofs.conn.with_host.Statement.{statement}

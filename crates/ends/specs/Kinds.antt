@@ -1,0 +1,21 @@
+-- The types that the code of this crate and of those below it declares, in one place. The constructors of an enum stand under its
+-- name in small letters, as `rf.Idle`.
+-- Assumes nothing.
+pub use Rattle.state.specs.declared.commands.Command.{Command}
+pub use Rattle.state.specs.declared.commands.Command.the-variants as command
+pub use Rattle.state.specs.declared.kinds.Activation.{Activation}
+pub use Rattle.state.specs.declared.kinds.Controller.{Controller}
+pub use Rattle.state.specs.declared.kinds.Phase.{Phase}
+pub use Rattle.state.specs.declared.kinds.Phase.the-variants as phase
+pub use Rattle.state.specs.declared.kinds.Profile.{Profile}
+pub use Rattle.state.specs.declared.kinds.Rf.{Rf}
+pub use Rattle.state.specs.declared.kinds.Rf.the-variants as rf
+pub use Rattle.state.specs.declared.kinds.Terms.{Terms}
+pub use Rattle.air.specs.declared.events.Event.{Event}
+pub use Rattle.air.specs.declared.events.Event.the-variants as event
+pub use Rattle.dh.specs.declared.contents.Notice.{Notice}
+pub use Rattle.dh.specs.declared.contents.Notice.the-variants as notice
+pub use Rattle.dh.specs.declared.host.Answer.{Answer}
+pub use Rattle.dh.specs.declared.host.Answer.the-variants as answer
+pub use Rattle.dh.specs.declared.host.Heard.{Heard}
+pub use Rattle.dh.specs.declared.host.Heard.the-variants as heard
