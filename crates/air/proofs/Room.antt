@@ -1,4 +1,4 @@
--- Laws of the events of the air: the notification of an event that was read is within 43 octets, whatever the octets were.
+-- Laws of the events of the air: the notification of an event that was read is within the longest control message, whatever the octets were.
 -- Assumes nothing.
 use Prim.Native.Nat.{ℕ, _≤_}
 use mathlib.Core.Path.{_≡_, sym, subst}
@@ -11,15 +11,16 @@ use borrow.Author.Tests.{leb-true}
 use Rattle.octets.specs.Octets.{Octets, pick}
 use Rattle.air.specs.Kinds.{Profile, Event}
 use Rattle.air.specs.Kinds.event.{Bad, Found, Poll, Listen, Failed, Sleeps, LinkLost, Releases, Endpoint}
+use Rattle.state.specs.Runs.{controlLimit}
 use Rattle.state.specs.Radio.{polls, listens, idOk}
 use Rattle.air.specs.Air.{targetOf, foundIn, pollIn, listenIn, eventOf, airMessage}
 use Rattle.state.proofs.Chains.{every-at, pick-by}
 
 -- ---- the notification of an event that was read
 
--- it has at most 43 octets
+-- it fits a packet
 record Short (p : Profile) (m : Octets) (e : Event) : Type 0 where
-  short : length (airMessage p e m .payload) ≤ 43
+  short : length (airMessage p e m .payload) ≤ controlLimit
 
 module _ (p : Profile) (m : Octets) where
   found-short : Short p m (foundIn m)
@@ -79,9 +80,9 @@ module _ (p : Profile) (m : Octets) where
       (or (kind 7) (or alone releases bad)
       (or (kind 8) (or (leb (length m) 1025) endpoint bad) bad)))))))
 
-  pub message-short : length (airMessage p (eventOf m) m .payload) ≤ 43
+  pub message-short : length (airMessage p (eventOf m) m .payload) ≤ controlLimit
   message-short = short .short
 
 -- what a caller of `air_message` shows of an event that it has read
-pub event-room : (p : Profile) (m : Octets) (e : Event) → e ≡ eventOf m → length (airMessage p e m .payload) ≤ 43
-event-room p m e q = subst (λ (x : Event). length (airMessage p x m .payload) ≤ 43) (sym q) (message-short p m)
+pub event-room : (p : Profile) (m : Octets) (e : Event) → e ≡ eventOf m → length (airMessage p e m .payload) ≤ controlLimit
+event-room p m e q = subst (λ (x : Event). length (airMessage p x m .payload) ≤ controlLimit) (sym q) (message-short p m)

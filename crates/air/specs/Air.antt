@@ -1,18 +1,18 @@
 -- The air (document 01, "The air"; 003, 5.2): the octets of an event, whether it is taken, its notification and the state after.
 -- Assumes nothing.
 use Prim.Native.Nat.{ℕ}
-use mathlib.Core.Bool.{Bool, _&&_, _||_}
+use mathlib.Core.Bool.{Bool, true, false, _&&_, _||_}
 use mathlib.Core.List.{List}
 use lib.ListN.{length, getD, drop}
 use lib.Dec.{eqb, leb}
 use Rattle.octets.specs.Octets.{Octets, pick}
-use Rattle.air.specs.Kinds.{Profile, Pair, Pairs, Activation, Rf, Controller, Counts, Event, Listing, Aired}
+use Rattle.air.specs.Kinds.{Hand, Profile, Pair, Pairs, Activation, Rf, Controller, Counts, Event, Listing, Aired}
 use Rattle.air.specs.Kinds.selection.{Nothing, Chosen}
-use Rattle.air.specs.Kinds.rf.{Idle, Discovery, AllDiscoveries, HostSelect, PollActive, ListenActive, ListenSleep}
+use Rattle.air.specs.Kinds.rf.{Idle, Discovery, W4AllDiscoveries, W4HostSelect, PollActive, ListenActive, ListenSleep}
 use Rattle.air.specs.Kinds.event.{Bad, Found, Poll, Listen, Failed, Sleeps, LinkLost, Releases, Endpoint}
 use Rattle.air.specs.Kinds.listing.{Keeps, Starts, Adds}
 use Rattle.air.specs.Kinds.aired.{Refused, Goes, Activates, Ends, Speaks}
-use Rattle.state.specs.Conn.{termsOf, openedAt, shutAt}
+use Rattle.state.specs.Conn.{termsOf, openedAt, shutAt, empty, handWith}
 use Rattle.state.specs.Radio.{isListening, isAsleep, isActive, polls, listens, idOk, pairOf, samePair, listed, startedWith, addedTo}
 use Rattle.messages.specs.Layout.{Message, nothing, genericErrorNtf, discoverNtf, activatedNtf, deactivateNtf}
 
@@ -55,6 +55,18 @@ eventOf m =
     (pick (eqb (getD m 0 0) 7) (alone m Releases)
     (pick (eqb (getD m 0 0) 8) (spokenIn m) Bad)))))))
 
+-- the kind of an event, 1 to 8; 0 for octets that are none
+abbrev pub kindOf : Event → ℕ
+kindOf Bad = 0
+kindOf (Found a type) = 1
+kindOf (Poll a) = 2
+kindOf (Listen a) = 3
+kindOf Failed = 4
+kindOf Sleeps = 5
+kindOf LinkLost = 6
+kindOf Releases = 7
+kindOf Endpoint = 8
+
 -- ---- whether the state takes it (else refusal 11), and what it then does
 
 -- a repeated pair, an eighth with type 2, or a list with no place left
@@ -63,13 +75,13 @@ noRoom ps p type = listed ps p || leb 8 (ps .count) || (eqb type 2 && leb 7 (ps 
 
 -- more follow, or this was the last: W4_HOST_SELECT is entered with no selection
 abbrev pub foundTo : ℕ → Rf
-foundTo type = pick (eqb type 2) AllDiscoveries (HostSelect Nothing)
+foundTo type = pick (eqb type 2) W4AllDiscoveries (W4HostSelect Nothing)
 
 unfoldable pub foundBy : Rf → Pairs → Activation → ℕ → Aired
 foundBy Idle ps a type = Refused
-foundBy Discovery ps a type = pick (eqb type 2) (Goes AllDiscoveries (Starts (pairOf a))) Refused
-foundBy AllDiscoveries ps a type = pick (noRoom ps (pairOf a) type) Refused (Goes (foundTo type) (Adds (pairOf a)))
-foundBy (HostSelect s) ps a type = Refused
+foundBy Discovery ps a type = pick (eqb type 2) (Goes W4AllDiscoveries (Starts (pairOf a))) Refused
+foundBy W4AllDiscoveries ps a type = pick (noRoom ps (pairOf a) type) Refused (Goes (foundTo type) (Adds (pairOf a)))
+foundBy (W4HostSelect s) ps a type = Refused
 foundBy (PollActive b) ps a type = Refused
 foundBy (ListenActive b) ps a type = Refused
 foundBy ListenSleep ps a type = Refused
@@ -78,9 +90,9 @@ foundBy ListenSleep ps a type = Refused
 unfoldable pub pollBy : Rf → Activation → Aired
 pollBy Idle a = Refused
 pollBy Discovery a = Activates (PollActive a) (Starts (pairOf a))
-pollBy AllDiscoveries a = Refused
-pollBy (HostSelect Nothing) a = Refused
-pollBy (HostSelect (Chosen p)) a = pick (samePair p (pairOf a)) (Activates (PollActive a) Keeps) Refused
+pollBy W4AllDiscoveries a = Refused
+pollBy (W4HostSelect Nothing) a = Refused
+pollBy (W4HostSelect (Chosen p)) a = pick (samePair p (pairOf a)) (Activates (PollActive a) Keeps) Refused
 pollBy (PollActive b) a = Refused
 pollBy (ListenActive b) a = Refused
 pollBy ListenSleep a = Refused
@@ -88,8 +100,8 @@ pollBy ListenSleep a = Refused
 unfoldable pub listenBy : Rf → Activation → Aired
 listenBy Idle a = Refused
 listenBy Discovery a = Activates (ListenActive a) Keeps
-listenBy AllDiscoveries a = Refused
-listenBy (HostSelect s) a = Refused
+listenBy W4AllDiscoveries a = Refused
+listenBy (W4HostSelect s) a = Refused
 listenBy (PollActive b) a = Refused
 listenBy (ListenActive b) a = Refused
 listenBy ListenSleep a = Activates (ListenActive a) Keeps
@@ -98,9 +110,9 @@ listenBy ListenSleep a = Activates (ListenActive a) Keeps
 unfoldable pub failedBy : Rf → Aired
 failedBy Idle = Refused
 failedBy Discovery = Refused
-failedBy AllDiscoveries = Refused
-failedBy (HostSelect Nothing) = Refused
-failedBy (HostSelect (Chosen p)) = Goes (HostSelect Nothing) Keeps
+failedBy W4AllDiscoveries = Refused
+failedBy (W4HostSelect Nothing) = Refused
+failedBy (W4HostSelect (Chosen p)) = Goes (W4HostSelect Nothing) Keeps
 failedBy (PollActive b) = Refused
 failedBy (ListenActive b) = Refused
 failedBy ListenSleep = Refused
@@ -115,6 +127,13 @@ airedBy rf ps Sleeps = pick (isListening rf) (Ends ListenSleep) Refused
 airedBy rf ps LinkLost = pick (isListening rf || isAsleep rf) (Ends Discovery) Refused
 airedBy rf ps Releases = pick (isListening rf) (Ends Discovery) Refused
 airedBy rf ps Endpoint = pick (isActive rf) Speaks Refused
+
+abbrev pub isRefused : Aired → Bool
+isRefused Refused = true
+isRefused (Goes rf l) = false
+isRefused (Activates rf l) = false
+isRefused (Ends rf) = false
+isRefused Speaks = false
 
 -- ---- the notification
 
@@ -153,3 +172,11 @@ connsAired p conns (Goes rf l) = conns
 connsAired p conns (Activates rf l) = openedAt conns 0 (termsOf p 0)
 connsAired p conns (Ends rf) = shutAt conns 0
 connsAired p conns Speaks = conns
+
+-- the endpoint's message in hand, n being the octets of the one that an event of kind 8 brings; connection 0 opens and closes with none
+unfoldable pub endpointAired : Hand → Aired → ℕ → Hand
+endpointAired h Refused n = h
+endpointAired h (Goes rf l) n = h
+endpointAired h (Activates rf l) n = empty
+endpointAired h (Ends rf) n = empty
+endpointAired h Speaks n = handWith n

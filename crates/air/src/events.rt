@@ -5,12 +5,15 @@ use messages::layout::deactivate_ntf;
 use messages::layout::discover_ntf;
 use messages::layout::generic_error_ntf;
 use messages::layout::no_message;
+use state::conn::empty_hand;
+use state::conn::hand_with;
 use state::conn::opened_at;
 use state::conn::shut_at;
 use state::conn::terms_of;
 use state::kinds::Activation;
 use state::kinds::Controller;
 use state::kinds::Counts;
+use state::kinds::Hand;
 use state::kinds::Pair;
 use state::kinds::Pairs;
 use state::kinds::Profile;
@@ -27,13 +30,15 @@ use state::radio::pair_of;
 use state::radio::polls;
 use state::radio::same_pair;
 use state::radio::started_with;
+use state::runs::CONTROL_LIMIT;
 ghost use mathlib.Core.Path.{_≡_};
 ghost use Prim.Native.Nat.{_+_, _≤_};
 ghost use lib.ListN.{length, drop};
 ghost use Rattle.octets.specs.Octets.{pick};
 ghost use Rattle.state.specs.Conn.{termsOf};
+ghost use Rattle.state.specs.Runs.{controlLimit};
 ghost use Rattle.messages.specs.Layout.{Put, discoverNtf, activatedNtf};
-ghost use Rattle.air.specs.Air.{targetOf, foundIn, pollIn, listenIn, eventOf, noRoom, foundTo, foundBy, pollBy, listenBy, failedBy, airedBy, airMessage, listedAfter, movedTo, controllerAired, connsAired};
+ghost use Rattle.air.specs.Air.{targetOf, foundIn, pollIn, listenIn, eventOf, kindOf, noRoom, foundTo, foundBy, pollBy, listenBy, failedBy, airedBy, isRefused, airMessage, listedAfter, movedTo, controllerAired, connsAired, endpointAired};
 
 // An event, by its kind. Bad: octets outside the limits of any. Found carries the notification type.
 pub enum Event {
@@ -141,6 +146,23 @@ pub fn event_of(m: &[u8]) -> Event
     }
 }
 
+// The kind of an event, 1 to 8; 0 for octets that are none.
+pub fn kind_of(e: Event) -> u8
+    ensures { λ r. ⌜ r ≡ kindOf e ⌝ }
+{
+    match e {
+        Event::Bad => 0,
+        Event::Found(_, _) => 1,
+        Event::Poll(_) => 2,
+        Event::Listen(_) => 3,
+        Event::Failed => 4,
+        Event::Sleeps => 5,
+        Event::LinkLost => 6,
+        Event::Releases => 7,
+        Event::Endpoint => 8,
+    }
+}
+
 // What an event does where the state takes it, and Refused elsewhere.
 fn taken(ok: bool, a: Aired) -> Aired
     ensures { λ r. ⌜ r ≡ pick ok a Aired.Refused ⌝ }
@@ -162,9 +184,9 @@ fn found_to(kind: u8) -> Rf
     ensures { λ r. ⌜ r ≡ foundTo kind ⌝ }
 {
     if kind == 2 {
-        Rf::AllDiscoveries
+        Rf::W4AllDiscoveries
     } else {
-        Rf::HostSelect(Selection::Nothing)
+        Rf::W4HostSelect(Selection::Nothing)
     }
 }
 
@@ -190,13 +212,13 @@ fn found_by(rf: Rf, ps: Pairs, a: Activation, kind: u8) -> Aired
         Rf::Idle => Aired::Refused,
         Rf::Discovery => {
             if kind == 2 {
-                Aired::Goes(Rf::AllDiscoveries, Listing::Starts(p))
+                Aired::Goes(Rf::W4AllDiscoveries, Listing::Starts(p))
             } else {
                 Aired::Refused
             }
         }
-        Rf::AllDiscoveries => found_more(ps, p, kind),
-        Rf::HostSelect(_) => Aired::Refused,
+        Rf::W4AllDiscoveries => found_more(ps, p, kind),
+        Rf::W4HostSelect(_) => Aired::Refused,
         Rf::PollActive(_) => Aired::Refused,
         Rf::ListenActive(_) => Aired::Refused,
         Rf::ListenSleep => Aired::Refused,
@@ -211,8 +233,8 @@ fn poll_by(rf: Rf, a: Activation) -> Aired
     match rf {
         Rf::Idle => Aired::Refused,
         Rf::Discovery => Aired::Activates(Rf::PollActive(a), Listing::Starts(p)),
-        Rf::AllDiscoveries => Aired::Refused,
-        Rf::HostSelect(s) => match s {
+        Rf::W4AllDiscoveries => Aired::Refused,
+        Rf::W4HostSelect(s) => match s {
             Selection::Nothing => Aired::Refused,
             Selection::Chosen(q) => taken(
                 same_pair(q, p),
@@ -232,8 +254,8 @@ fn listen_by(rf: Rf, a: Activation) -> Aired
     match rf {
         Rf::Idle => Aired::Refused,
         Rf::Discovery => Aired::Activates(Rf::ListenActive(a), Listing::Keeps),
-        Rf::AllDiscoveries => Aired::Refused,
-        Rf::HostSelect(_) => Aired::Refused,
+        Rf::W4AllDiscoveries => Aired::Refused,
+        Rf::W4HostSelect(_) => Aired::Refused,
         Rf::PollActive(_) => Aired::Refused,
         Rf::ListenActive(_) => Aired::Refused,
         Rf::ListenSleep => Aired::Activates(Rf::ListenActive(a), Listing::Keeps),
@@ -247,10 +269,10 @@ fn failed_by(rf: Rf) -> Aired
     match rf {
         Rf::Idle => Aired::Refused,
         Rf::Discovery => Aired::Refused,
-        Rf::AllDiscoveries => Aired::Refused,
-        Rf::HostSelect(s) => match s {
+        Rf::W4AllDiscoveries => Aired::Refused,
+        Rf::W4HostSelect(s) => match s {
             Selection::Nothing => Aired::Refused,
-            Selection::Chosen(_) => Aired::Goes(Rf::HostSelect(Selection::Nothing), Listing::Keeps),
+            Selection::Chosen(_) => Aired::Goes(Rf::W4HostSelect(Selection::Nothing), Listing::Keeps),
         },
         Rf::PollActive(_) => Aired::Refused,
         Rf::ListenActive(_) => Aired::Refused,
@@ -272,6 +294,19 @@ pub fn judge_event(rf: Rf, ps: Pairs, e: Event) -> Aired
         Event::LinkLost => taken(is_listening(rf) | is_asleep(rf), Aired::Ends(Rf::Discovery)),
         Event::Releases => taken(is_listening(rf), Aired::Ends(Rf::Discovery)),
         Event::Endpoint => taken(is_active(rf), Aired::Speaks),
+    }
+}
+
+// Whether the state does not take the event.
+pub fn is_refused(a: Aired) -> bool
+    ensures { λ r. ⌜ r ≡ isRefused a ⌝ }
+{
+    match a {
+        Aired::Refused => true,
+        Aired::Goes(_, _) => false,
+        Aired::Activates(_, _) => false,
+        Aired::Ends(_) => false,
+        Aired::Speaks => false,
     }
 }
 
@@ -326,26 +361,41 @@ pub fn conns_aired(p: Profile, conns: [Counts; 5], a: Aired) -> [Counts; 5]
     }
 }
 
+// The endpoint's message after an event, n being the octets of the one that it brings: connection 0 opens and closes with
+// none in hand.
+pub fn endpoint_aired(h: Hand, a: Aired, n: usize) -> Hand
+    ensures { λ r. ⌜ r ≡ endpointAired h a n ⌝ }
+{
+    match a {
+        Aired::Refused => h,
+        Aired::Goes(_, _) => h,
+        Aired::Activates(_, _) => empty_hand(),
+        Aired::Ends(_) => empty_hand(),
+        Aired::Speaks => hand_with(n),
+    }
+}
+
 // RF_DISCOVER_NTF for a target that was found; its parameters are a part of the event's octets.
-fn found_message(out: &mut [u8], a: Activation, kind: u8, m: &[u8]) -> Note
-    requires { ⌜ (43 ≤ length (now out)) × (5 + length (drop 5 (now m)) ≤ 43) ⌝ }
+fn found_message(out: &mut [u8; CONTROL_LIMIT], a: Activation, kind: u8, m: &[u8]) -> Note
+    requires { ⌜ 5 + length (drop 5 (now m)) ≤ controlLimit ⌝ }
     ensures { λ r. ⌜ Put (now (out .entry)) (record { gid = 1; oid = 3; payload = discoverNtf a kind (drop 5 (now (m .entry))) }) r (now (out .exit)) ⌝ }
 {
     discover_ntf(out, a, kind, octets::window(m, 5, m.len()))
 }
 
 // RF_INTF_ACTIVATED_NTF for an activation.
-fn active_message(out: &mut [u8], p: Profile, a: Activation, m: &[u8]) -> Note
-    requires { ⌜ (43 ≤ length (now out)) × (11 + length (drop 4 (now m)) ≤ 43) ⌝ }
+fn active_message(out: &mut [u8; CONTROL_LIMIT], p: Profile, a: Activation, m: &[u8]) -> Note
+    requires { ⌜ 11 + length (drop 4 (now m)) ≤ controlLimit ⌝ }
     ensures { λ r. ⌜ Put (now (out .entry)) (record { gid = 1; oid = 5; payload = activatedNtf a (termsOf p 0) (drop 4 (now (m .entry))) }) r (now (out .exit)) ⌝ }
 {
     let t = terms_of(p, 0);
     activated_ntf(out, a, t, octets::window(m, 4, m.len()))
 }
 
-// The notification that an event gives, where it gives one. The message of an event that was read from m has at most 43 octets.
-pub fn air_message(out: &mut [u8], p: Profile, e: Event, m: &[u8]) -> Note
-    requires { ⌜ (43 ≤ length (now out)) × (length (airMessage p e (now m) .payload) ≤ 43) ⌝ }
+// The notification that an event gives, where it gives one. That of an event that was
+// read from m is short enough for the buffer, whatever m is (`event-room`).
+pub fn air_message(out: &mut [u8; CONTROL_LIMIT], p: Profile, e: Event, m: &[u8]) -> Note
+    requires { ⌜ length (airMessage p e (now m) .payload) ≤ controlLimit ⌝ }
     ensures { λ r. ⌜ Put (now (out .entry)) (airMessage p e (now (m .entry))) r (now (out .exit)) ⌝ }
 {
     match e {

@@ -13,7 +13,7 @@ use Rattle.dh.specs.Kinds.command as command
 use Rattle.dh.specs.Kinds.notice as notice
 use Rattle.dh.specs.Kinds.answer.{Done, ClosesAll, Sized, Opens, Closes}
 use Rattle.dh.specs.Kinds.heard.{Nothing, Dropped, Answered, Activated, Deactivated, Credits}
-use Rattle.state.specs.Conn.{flows, countsOf, withHost, leftAt, joinedAt, allLeft}
+use Rattle.state.specs.Conn.{flows, creditSum, countsOf, withHost, leftAt, joinedAt, allLeft}
 use Rattle.state.specs.Commands.{commandOf}
 use Rattle.dh.specs.Contents.{noticeOf, entryId, entryCredits, written}
 
@@ -31,6 +31,15 @@ awaits (pending.Command a) gid oid = eqb (a .gid) gid && eqb (a .oid) oid
 abbrev pub aimOf : Pending → ℕ
 aimOf pending.Nothing = 0
 aimOf (pending.Command a) = a .aim
+
+-- a command is unanswered; RESET or CONN_CLOSE is
+abbrev pub isBusy : Pending → Bool
+isBusy pending.Nothing = false
+isBusy (pending.Command a) = true
+
+abbrev pub isClosing : Pending → Bool
+isClosing pending.Nothing = false
+isClosing (pending.Command a) = eqb (a .gid) 0 && (eqb (a .oid) 0 || eqb (a .oid) 5)
 
 -- ---- what they say
 
@@ -117,7 +126,7 @@ credited h n =
       opened = h .opened;
       payload = h .payload;
       grant = h .grant;
-      held = pick (h .opened && flows (h .grant)) (h .held + n) (h .held);
+      held = pick (h .opened && flows (h .grant)) (creditSum (h .held) n) (h .held);
       hand = h .hand;
       run = h .run;
     }

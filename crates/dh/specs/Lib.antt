@@ -2,4 +2,3 @@ pub mod Kinds
 pub mod Contents
 pub mod Hearing
 pub mod Host
-pub mod Credited

@@ -13,9 +13,8 @@ use state::kinds::Terms;
 ghost use mathlib.Core.Path.{_≡_};
 ghost use Prim.Native.Nat.{_≤_};
 ghost use Rattle.state.specs.Conn.{heldOpen};
-ghost use Rattle.dh.specs.Host.{askedOf, awaits, aimOf, okAnswer, answerOf, noticed, heardAlone, expected, hearOf, creditsFor, namesClosed, settled, hostAnswered, hostAfter, credited, creditedAt, allCredited, connsAnswered, connsHeard, dropHeard};
+ghost use Rattle.dh.specs.Host.{askedOf, awaits, aimOf, isBusy, isClosing, okAnswer, answerOf, noticed, heardAlone, expected, hearOf, creditsFor, namesClosed, settled, hostAnswered, hostAfter, credited, creditedAt, allCredited, connsAnswered, connsHeard, dropHeard};
 ghost use Rattle.dh.specs.Hearing.{entryFor};
-ghost use Rattle.dh.specs.Credited.{sideOf, Fits, Room, RoomFor};
 
 // What the awaited response says.
 pub enum Answer {
@@ -66,6 +65,26 @@ fn aim_of(p: Pending) -> u8
     match p {
         Pending::Nothing => 0,
         Pending::Command(a) => a.aim,
+    }
+}
+
+// Whether a command is unanswered.
+pub fn is_busy(p: Pending) -> bool
+    ensures { λ r. ⌜ r ≡ isBusy p ⌝ }
+{
+    match p {
+        Pending::Nothing => false,
+        Pending::Command(_) => true,
+    }
+}
+
+// Whether RESET or CONN_CLOSE is unanswered.
+pub fn is_closing(p: Pending) -> bool
+    ensures { λ r. ⌜ r ≡ isClosing p ⌝ }
+{
+    match p {
+        Pending::Nothing => false,
+        Pending::Command(a) => (a.gid == 0) & ((a.oid == 0) | (a.oid == 5)),
     }
 }
 
@@ -254,46 +273,29 @@ pub fn host_after(h: Host, x: Heard) -> Host
     }
 }
 
-// The host's side of a Conn ID; that of a closed connection for an ID that no connection has.
-fn side_of(conns: [Counts; 5], conn: u8) -> HostSide
-    ensures { λ r. ⌜ r ≡ sideOf conns conn ⌝ }
-{
-    let place = conn::place_of(conn);
-    if place < 5 {
-        let c = conns[place];
-        let side = c.host;
-        side
-    } else {
-        conn::closed_host()
-    }
-}
-
 // Credits come to a connection: open and flow-controlled, it holds so many more; for any other they do nothing.
 fn credited(s: HostSide, n: usize) -> HostSide
-    requires { ⌜ Fits s n ⌝ }
     ensures { λ r. ⌜ r ≡ credited s n ⌝ }
 {
     let mut next = s;
-    if s.opened & (s.grant != 255) {
-        next.held = s.held + n as u8;
+    if s.opened & (s.grant != conn::UNMETERED) {
+        next.held = conn::credit_sum(s.held, n);
     }
     next
 }
 
 // The credits of a notice come to one connection.
 fn credited_at(conns: [Counts; 5], m: &[u8], conn: u8) -> [Counts; 5]
-    requires { ⌜ Fits (sideOf conns conn) (creditsFor (now m) conn) ⌝ }
     ensures { λ r. ⌜ r ≡ creditedAt conns (now (m .entry)) conn ⌝ }
 {
     let n = credits_for(m, conn);
-    let side = side_of(conns, conn);
-    let next = credited(side, n);
+    let c = conn::counts_of(conns, conn);
+    let next = credited(c.host, n);
     conn::with_host(conns, conn, next)
 }
 
 // The credits of a notice come to all connections.
 fn all_credited(conns: [Counts; 5], m: &[u8]) -> [Counts; 5]
-    requires { ⌜ Room conns (now m) ⌝ }
     ensures { λ r. ⌜ r ≡ allCredited conns (now (m .entry)) ⌝ }
 {
     let a = credited_at(conns, m, 0);
@@ -316,10 +318,8 @@ fn conns_answered(conns: [Counts; 5], a: Answer) -> [Counts; 5]
     }
 }
 
-// The connections after what the host heard. A credit notice must have been seen to leave every connection within its
-// grant.
+// The connections after what the host heard.
 pub fn conns_heard(conns: [Counts; 5], m: &[u8], x: Heard) -> [Counts; 5]
-    requires { ⌜ RoomFor conns (now m) x ⌝ }
     ensures { λ r. ⌜ r ≡ connsHeard conns (now (m .entry)) x ⌝ }
 {
     match x {

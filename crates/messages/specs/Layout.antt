@@ -9,12 +9,13 @@ use Rattle.octets.specs.Octets.{Octets, pick, splice}
 use Rattle.state.specs.declared.kinds.Terms.{Terms}
 use Rattle.state.specs.declared.kinds.Profile.{Profile}
 use Rattle.state.specs.declared.kinds.Activation.{Activation}
+use Rattle.state.specs.declared.kinds.ControllerSide.{ControllerSide}
 use Rattle.state.specs.declared.kinds.Counts.{Counts}
 use Rattle.state.specs.declared.verdict.Verdict.{Verdict}
 use Rattle.state.specs.declared.verdict.Verdict.the-variants.{Refuses, Resets, Initialises, Opens, Closes, Turns, Selects, Deactivates}
 use Rattle.messages.specs.declared.layout.Note.{Note}
 use Rattle.state.specs.Commands.{activationFailed}
-use Rattle.state.specs.Conn.{connOf}
+use Rattle.state.specs.Conn.{connOf, owing}
 
 -- a control message that the controller sends
 pub record Message : Type 0 where
@@ -62,8 +63,11 @@ abbrev pub creditsNtf : List ℕ → Octets
 creditsNtf owed = entryCount owed ∷ entriesFrom 0 owed
 
 -- what is owed on the five connections
+abbrev pub owedOn : ControllerSide → ℕ
+owedOn k = owing (k .opened) (k .grant) (k .owed)
+
 abbrev pub owedOf : List Counts → List ℕ
-owedOf conns = map (λ (c : Counts). c .controller .owed) conns
+owedOf conns = map (λ (c : Counts). owedOn (c .controller)) conns
 
 abbrev pub creditsMessage : List Counts → Message
 creditsMessage conns = record { gid = 0; oid = 6; payload = creditsNtf (owedOf conns) }

@@ -1,10 +1,12 @@
-// The octets of every message that the controller sends, written into a buffer that the caller lends. The longest is an
-// activation with 32 parameter octets: 43 octets.
+// The octets of every message that the controller sends, written into a buffer that the caller lends. It has room for the
+// longest payload of a control message.
 use state::conn::conn_of;
+use state::conn::owing;
 use state::kinds::Activation;
 use state::kinds::Counts;
 use state::kinds::Profile;
 use state::kinds::Terms;
+use state::runs::CONTROL_LIMIT;
 use state::verdict::Verdict;
 ghost use mathlib.Core.Path.{_≡_};
 ghost use mathlib.Core.List.{[], _∷_, _++_};
@@ -12,6 +14,7 @@ ghost use Prim.Native.Nat.{_+_, _≤_};
 ghost use lib.ListN.{length};
 ghost use lib.Dec.{eqb};
 ghost use Rattle.octets.specs.Octets.{pick, splice};
+ghost use Rattle.state.specs.Runs.{controlLimit};
 ghost use Rattle.messages.specs.Layout.{Put, resetNtf, initRsp, createRsp, genericErrorNtf, discoverNtf, activatedNtf, deactivateNtf, creditsMessage, responseMessage, noticeMessage};
 
 // A message that was written: its GID and OID, and its length; length 0 is no message.
@@ -52,8 +55,7 @@ fn emit_around(out: &mut [u8], gid: u8, oid: u8, head: &[u8], params: &[u8], tai
 }
 
 // A status alone.
-fn status(out: &mut [u8], gid: u8, oid: u8, s: u8) -> Note
-    requires { ⌜ 43 ≤ length (now out) ⌝ }
+fn status(out: &mut [u8; CONTROL_LIMIT], gid: u8, oid: u8, s: u8) -> Note
     ensures { λ r. ⌜ Put (now (out .entry)) (record { gid = gid; oid = oid; payload = s ∷ [] }) r (now (out .exit)) ⌝ }
 {
     let o = [s];
@@ -61,8 +63,7 @@ fn status(out: &mut [u8], gid: u8, oid: u8, s: u8) -> Note
 }
 
 // CORE_INIT_RSP (003, Table 8).
-fn init_rsp(out: &mut [u8], gid: u8, oid: u8, control: u8) -> Note
-    requires { ⌜ 43 ≤ length (now out) ⌝ }
+fn init_rsp(out: &mut [u8; CONTROL_LIMIT], gid: u8, oid: u8, control: u8) -> Note
     ensures { λ r. ⌜ Put (now (out .entry)) (record { gid = gid; oid = oid; payload = initRsp control }) r (now (out .exit)) ⌝ }
 {
     let o = [
@@ -87,8 +88,7 @@ fn init_rsp(out: &mut [u8], gid: u8, oid: u8, control: u8) -> Note
 }
 
 // CORE_CONN_CREATE_RSP (003, Table 14).
-fn create_rsp(out: &mut [u8], gid: u8, oid: u8, t: Terms, id: u8) -> Note
-    requires { ⌜ 43 ≤ length (now out) ⌝ }
+fn create_rsp(out: &mut [u8; CONTROL_LIMIT], gid: u8, oid: u8, t: Terms, id: u8) -> Note
     ensures { λ r. ⌜ Put (now (out .entry)) (record { gid = gid; oid = oid; payload = createRsp t id }) r (now (out .exit)) ⌝ }
 {
     let o = [0x00, t.payload, t.credits, id];
@@ -96,8 +96,7 @@ fn create_rsp(out: &mut [u8], gid: u8, oid: u8, t: Terms, id: u8) -> Note
 }
 
 // The response to a command: its GID and OID, and what the verdict is answered with.
-pub fn response(out: &mut [u8], gid: u8, oid: u8, p: Profile, v: Verdict) -> Note
-    requires { ⌜ 43 ≤ length (now out) ⌝ }
+pub fn response(out: &mut [u8; CONTROL_LIMIT], gid: u8, oid: u8, p: Profile, v: Verdict) -> Note
     ensures { λ r. ⌜ Put (now (out .entry)) (responseMessage gid oid p v) r (now (out .exit)) ⌝ }
 {
     match v {
@@ -124,8 +123,7 @@ pub fn no_message() -> Note
 }
 
 // CORE_RESET_NTF (003, Table 5).
-fn reset_ntf(out: &mut [u8], kind: u8) -> Note
-    requires { ⌜ 43 ≤ length (now out) ⌝ }
+fn reset_ntf(out: &mut [u8; CONTROL_LIMIT], kind: u8) -> Note
     ensures { λ r. ⌜ Put (now (out .entry)) (record { gid = 0; oid = 0; payload = resetNtf kind }) r (now (out .exit)) ⌝ }
 {
     let o = [0x02, kind, 0x20, 0x00, 0x00];
@@ -133,8 +131,7 @@ fn reset_ntf(out: &mut [u8], kind: u8) -> Note
 }
 
 // RF_DEACTIVATE_NTF (003, Tables 79 to 81).
-pub fn deactivate_ntf(out: &mut [u8], kind: u8, reason: u8) -> Note
-    requires { ⌜ 43 ≤ length (now out) ⌝ }
+pub fn deactivate_ntf(out: &mut [u8; CONTROL_LIMIT], kind: u8, reason: u8) -> Note
     ensures { λ r. ⌜ Put (now (out .entry)) (record { gid = 1; oid = 6; payload = deactivateNtf kind reason }) r (now (out .exit)) ⌝ }
 {
     let o = [kind, reason];
@@ -142,8 +139,7 @@ pub fn deactivate_ntf(out: &mut [u8], kind: u8, reason: u8) -> Note
 }
 
 // The notification that follows a verdict's response, where there is one.
-pub fn notice(out: &mut [u8], v: Verdict) -> Note
-    requires { ⌜ 43 ≤ length (now out) ⌝ }
+pub fn notice(out: &mut [u8; CONTROL_LIMIT], v: Verdict) -> Note
     ensures { λ r. ⌜ Put (now (out .entry)) (noticeMessage v) r (now (out .exit)) ⌝ }
 {
     match v {
@@ -173,15 +169,14 @@ fn entry(out: &mut [u8], at: usize, conn: u8, n: u8) -> usize
 }
 
 // CORE_CONN_CREDITS_NTF (003, Table 18): all that is owed, in ascending order of the Conn IDs.
-pub fn credits_ntf(out: &mut [u8], conns: [Counts; 5]) -> Note
-    requires { ⌜ 43 ≤ length (now out) ⌝ }
+pub fn credits_ntf(out: &mut [u8; CONTROL_LIMIT], conns: [Counts; 5]) -> Note
     ensures { λ r. ⌜ Put (now (out .entry)) (creditsMessage conns) r (now (out .exit)) ⌝ }
 {
     let mut at: usize = 1;
     let mut i: usize = 0;
     while i < 5 {
         let c = conns[i];
-        at = entry(out, at, conn_of(i), c.controller.owed);
+        at = entry(out, at, conn_of(i), owing(c.controller));
         i += 1;
     }
     out[0] = (at / 2) as u8;
@@ -193,8 +188,8 @@ pub fn credits_ntf(out: &mut [u8], conns: [Counts; 5]) -> Note
 }
 
 // RF_DISCOVER_NTF (003, Table 66).
-pub fn discover_ntf(out: &mut [u8], a: Activation, kind: u8, params: &[u8]) -> Note
-    requires { ⌜ (43 ≤ length (now out)) × (5 + length (now params) ≤ 43) ⌝ }
+pub fn discover_ntf(out: &mut [u8; CONTROL_LIMIT], a: Activation, kind: u8, params: &[u8]) -> Note
+    requires { ⌜ 5 + length (now params) ≤ controlLimit ⌝ }
     ensures { λ r. ⌜ Put (now (out .entry)) (record { gid = 1; oid = 3; payload = discoverNtf a kind (now (params .entry)) }) r (now (out .exit)) ⌝ }
 {
     let head = [a.id, a.protocol, a.mode, params.len() as u8];
@@ -203,8 +198,8 @@ pub fn discover_ntf(out: &mut [u8], a: Activation, kind: u8, params: &[u8]) -> N
 }
 
 // RF_INTF_ACTIVATED_NTF (003, Table 78).
-pub fn activated_ntf(out: &mut [u8], a: Activation, t: Terms, params: &[u8]) -> Note
-    requires { ⌜ (43 ≤ length (now out)) × (11 + length (now params) ≤ 43) ⌝ }
+pub fn activated_ntf(out: &mut [u8; CONTROL_LIMIT], a: Activation, t: Terms, params: &[u8]) -> Note
+    requires { ⌜ 11 + length (now params) ≤ controlLimit ⌝ }
     ensures { λ r. ⌜ Put (now (out .entry)) (record { gid = 1; oid = 5; payload = activatedNtf a t (now (params .entry)) }) r (now (out .exit)) ⌝ }
 {
     let head = [
@@ -221,8 +216,7 @@ pub fn activated_ntf(out: &mut [u8], a: Activation, t: Terms, params: &[u8]) -> 
 }
 
 // CORE_GENERIC_ERROR_NTF (003, Table 19): the target's activation failed.
-pub fn generic_error_ntf(out: &mut [u8]) -> Note
-    requires { ⌜ 43 ≤ length (now out) ⌝ }
+pub fn generic_error_ntf(out: &mut [u8; CONTROL_LIMIT]) -> Note
     ensures { λ r. ⌜ Put (now (out .entry)) (record { gid = 0; oid = 7; payload = genericErrorNtf }) r (now (out .exit)) ⌝ }
 {
     let o = [0xA1];

@@ -16,7 +16,7 @@ use Rattle.model.specs.Kinds.{Terms}
 use Rattle.state.specs.Conn.{flows}
 use Rattle.state.specs.Runs.{dataLimit}
 use Rattle.model.specs.Connection.{Connection, withHost, withController, sent, pushed, stored, consumed, noticed, spoken}
-use Rattle.model.specs.Packets.{meaning}
+use Rattle.wires.specs.Meaning.{meaning}
 use Rattle.model.specs.Changes.{givenTo}
 use Rattle.model.specs.calls.Consume.{segmentIn}
 use Rattle.model.specs.Observer.{Ledger, pushedL, arrivedL, consumedL, sentL, spokenL}

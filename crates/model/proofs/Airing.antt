@@ -20,7 +20,7 @@ use Rattle.messages.specs.Layout.{nothing, genericErrorNtf, discoverNtf, activa
 use Rattle.air.specs.Air.{eventOf, airedBy, airMessage, controllerAired}
 use Rattle.state.proofs.Chains.{on, or-left, or-right}
 use Rattle.model.specs.Connection.{Connection, withController, spoken}
-use Rattle.model.specs.Packets.{noticePackets}
+use Rattle.messages.specs.Packets.{noticePackets}
 use Rattle.model.specs.State.{State, withConns, withUp, withControllerState, at}
 use Rattle.model.specs.Effects.{air}
 use Rattle.model.specs.Refusals.{isNil}

@@ -13,7 +13,7 @@ use Rattle.state.specs.Runs.{controlLimit}
 use Rattle.nfcc.specs.Controller.{judgeOf}
 use Rattle.state.proofs.Chains.{on}
 use Rattle.model.specs.Connection.{withController, stored}
-use Rattle.model.specs.Packets.{Meaning, datum, control, junk, meaning}
+use Rattle.wires.specs.Meaning.{Meaning, datum, control, junk, meaning}
 use Rattle.model.specs.State.{State, isOpen, at, withDown, withConns, withAsking}
 use Rattle.model.specs.Effects.{Effect, taken, down}
 use Rattle.model.specs.Refusals.{isNil}

@@ -17,10 +17,10 @@ use Rattle.model.specs.Kinds.answer.{Done}
 use Rattle.model.specs.Kinds.heard.{Nothing, Answered}
 use Rattle.state.specs.Commands.{commandOf}
 use Rattle.dh.specs.Contents.{noticeOf, written}
-use Rattle.dh.specs.Host.{okAnswer, answerOf, noticed, heardAlone, creditsFor}
+use Rattle.dh.specs.Host.{okAnswer, answerOf, noticed, heardAlone, creditsFor, isClosing}
 use Rattle.state.proofs.Chains.{on}
-use Rattle.model.specs.Packets.{Meaning, datum, control, junk, meaning, says}
-use Rattle.model.specs.Refusals.{isClosing}
+use Rattle.wires.specs.Meaning.{Meaning, datum, control, junk, meaning}
+use Rattle.wires.specs.Tally.{says}
 use Rattle.model.specs.Changes.{Change, stays, opens, changeHeard}
 use Rattle.model.proofs.Items.{Item, carry, credit, opened, closed, itemsBy, itemsIn, itemsOf}
 use Rattle.model.proofs.Phases.{walk, start, live, Ends, bad-walk}

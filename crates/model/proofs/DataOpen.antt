@@ -13,7 +13,7 @@ use Rattle.model.specs.Kinds.{Pending}
 use Rattle.model.specs.Kinds.pending as pending
 use Rattle.dh.specs.Host.{aimOf}
 use Rattle.state.proofs.Chains.{on}
-use Rattle.model.specs.Packets.{Meaning, datum, control, junk, meaning}
+use Rattle.wires.specs.Meaning.{Meaning, datum, control, junk, meaning}
 use Rattle.model.specs.State.{State}
 use Rattle.model.specs.Changes.{Change, stays, opens, closes, gives}
 use Rattle.model.specs.Observer.{Ledger, changeIn}

@@ -15,7 +15,7 @@ use Rattle.packets.specs.Reassembly.{run}
 use Rattle.model.specs.Kinds.verdict as verdict
 use Rattle.model.specs.Kinds.heard.{Nothing, Answered}
 use Rattle.dh.specs.Contents.{written}
-use Rattle.dh.specs.Host.{heardAlone}
+use Rattle.dh.specs.Host.{heardAlone, isClosing}
 use Rattle.state.specs.Conn.{placeOf}
 use Rattle.state.specs.Radio.{isActive}
 use Rattle.state.specs.Runs.{controlLimit}
@@ -23,9 +23,10 @@ use Rattle.nfcc.specs.Controller.{controllerAfter}
 use Rattle.messages.specs.Layout.{responseOf, responseMessage, noticeMessage, resetNtf, deactivateNtf}
 use Rattle.state.proofs.Chains.{on}
 use Rattle.model.specs.Connection.{Connection}
-use Rattle.model.specs.Packets.{aimedAt, says, responsePacket, noticePacket, noticePackets}
+use Rattle.wires.specs.Tally.{aimedAt, says}
+use Rattle.messages.specs.Packets.{responsePacket, noticePacket, noticePackets}
 use Rattle.model.specs.State.{State, isOpen}
-use Rattle.model.specs.Refusals.{isClosing, noConn}
+use Rattle.model.specs.Refusals.{noConn}
 use Rattle.model.specs.Changes.{Change, stays, opens, closes, changeBy, atController}
 use Rattle.model.specs.calls.Down.{answers, deciding}
 use Rattle.model.specs.Observer.{Ledger, shown}

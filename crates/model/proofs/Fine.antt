@@ -20,10 +20,11 @@ use Rattle.state.specs.Runs.{controlLimit}
 use Rattle.dh.specs.Contents.{written}
 use Rattle.state.proofs.Chains.{on}
 use Rattle.model.specs.Connection.{Connection, ControllerEnd, withHost, withController}
-use Rattle.model.specs.Packets.{Meaning, datum, control, junk, meaning}
+use Rattle.wires.specs.Meaning.{Meaning, datum, control, junk, meaning}
 use Rattle.model.specs.State.{State, cold, at}
 use Rattle.model.specs.Effects.{Call, taken}
-use Rattle.model.specs.Refusals.{isClosing, noConn, first}
+use Rattle.dh.specs.Host.{isClosing}
+use Rattle.model.specs.Refusals.{noConn, first}
 use Rattle.model.specs.Changes.{Change, stays, opens, closes, gives, atController, atHost}
 use Rattle.model.specs.calls.Consume.{isLoop}
 use Rattle.model.specs.Bench.{rules, act, judged}

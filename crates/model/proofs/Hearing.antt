@@ -23,7 +23,8 @@ use Rattle.model.specs.Kinds.notice as notice
 use Rattle.packets.proofs.Reassembly.{within}
 use Rattle.state.proofs.Chains.{on}
 use Rattle.model.specs.Connection.{Connection, withHost, heardData}
-use Rattle.model.specs.Packets.{Meaning, datum, control, junk, meaning, says}
+use Rattle.wires.specs.Meaning.{Meaning, datum, control, junk, meaning}
+use Rattle.wires.specs.Tally.{says}
 use Rattle.model.specs.State.{State, at, withUp, withConns, withHearing}
 use Rattle.model.specs.Effects.{Effect, taken, up}
 use Rattle.model.specs.Refusals.{isNil}

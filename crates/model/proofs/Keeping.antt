@@ -18,10 +18,13 @@ use Rattle.dh.specs.Contents.{creditsOk}
 use Rattle.state.specs.Runs.{dataLimit, controlLimit}
 use Rattle.state.proofs.Chains.{on, or-left, or-right}
 use Rattle.model.specs.Connection.{ControllerEnd, withHost, withController, sent, pushed, consumed, spoken}
-use Rattle.model.specs.Packets.{noticePacket, dataHeader, controlHeader, Meaning, datum, control, junk, meaning}
+use Rattle.messages.specs.Packets.{noticePacket}
+use Rattle.packets.specs.Headers.{dataHeader, controlHeader}
+use Rattle.wires.specs.Meaning.{Meaning, datum, control, junk, meaning}
 use Rattle.model.specs.State.{State, profileIn, withConns, withUp, at}
 use Rattle.model.specs.Effects.{taken, fresh, power, command, send, push, consume, credit, reply, report}
-use Rattle.model.specs.Refusals.{isNil, noConn, isClosing}
+use Rattle.model.specs.Refusals.{isNil, noConn}
+use Rattle.dh.specs.Host.{isClosing}
 use Rattle.model.specs.Changes.{givenTo}
 use Rattle.model.specs.calls.Push.{pushing}
 use Rattle.model.specs.calls.Consume.{isLoop, consuming, consumedAs, segmentIn}

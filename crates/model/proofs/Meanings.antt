@@ -21,7 +21,10 @@ use Rattle.model.specs.Kinds.heard.{Nothing, Dropped, Answered, Activate
 use Rattle.state.specs.Commands.{commandOf}
 use Rattle.dh.specs.Contents.{written, noticeOf}
 use Rattle.dh.specs.Host.{heardAlone, hearOf, answerOf, okAnswer, noticed, creditsFor}
-use Rattle.model.specs.Packets.{dataHeader, controlHeader, responsePacket, noticePacket, Meaning, datum, control, junk, meant, meaning, isDataFor, dataCount, aimedAt, says, saysIn, contents, creditsSaid, creditsUp}
+use Rattle.packets.specs.Headers.{dataHeader, controlHeader}
+use Rattle.messages.specs.Packets.{responsePacket, noticePacket}
+use Rattle.wires.specs.Meaning.{Meaning, datum, control, junk, meant, meaning}
+use Rattle.wires.specs.Tally.{isDataFor, dataCount, aimedAt, says, saysIn, contents, creditsSaid, creditsUp}
 use Rattle.model.specs.Changes.{stays, opens, closes, gives, changeHeard}
 use Rattle.model.proofs.Items.{Item, carry, credit, opened, closed, loaded, itemsBy, itemsIn, itemsOf, segsIn, segsOf, storeSegs, upCredits}
 

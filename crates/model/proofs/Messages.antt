@@ -28,7 +28,9 @@ use Rattle.air.specs.Air.{airMessage, airedBy}
 use Rattle.ends.specs.RoundTrips.{TermsOk, TargetOk}
 use Rattle.state.proofs.Chains.{every-at, on}
 use Rattle.ends.proofs.RoundTrips.{round-trips}
-use Rattle.model.specs.Packets.{responsePacket, noticePacket, noticePackets, control, meaning, says}
+use Rattle.messages.specs.Packets.{responsePacket, noticePacket, noticePackets}
+use Rattle.wires.specs.Meaning.{control, meaning}
+use Rattle.wires.specs.Tally.{says}
 use Rattle.model.specs.State.{profileOk, profileIn}
 use Rattle.model.specs.Refusals.{noConn, ids}
 use Rattle.model.specs.Changes.{stays, opens, closes, changeBy, changeAired, changeHeard, changeAnswered, givenTo}

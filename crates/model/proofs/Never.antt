@@ -22,7 +22,8 @@ use Rattle.state.specs.Commands.{commandOf}
 use Rattle.dh.specs.Contents.{written}
 use Rattle.dh.specs.Host.{answerOf, heardAlone, aimOf, expected, hearOf}
 use Rattle.state.proofs.Chains.{on, or-left, or-right}
-use Rattle.model.specs.Packets.{Meaning, datum, control, junk, meaning, says}
+use Rattle.wires.specs.Meaning.{Meaning, datum, control, junk, meaning}
+use Rattle.wires.specs.Tally.{says}
 use Rattle.model.specs.State.{State, isOpen, withUp}
 use Rattle.model.specs.Effects.{Call, fresh, power, command, send, push, down, consume, credit, air, reply, up, report, Result, taken, refused}
 use Rattle.model.specs.Refusals.{Rule, rule, first, isNil, noConn, isHeld, full, ids}

@@ -16,10 +16,12 @@ use Rattle.packets.proofs.Segments.{parse-segments, left-segments}
 use Rattle.model.specs.Kinds.{Pending}
 use Rattle.model.specs.Kinds.pending as pending
 use Rattle.state.specs.Runs.{controlLimit}
-use Rattle.model.specs.Packets.{controlHeader, Meaning, datum, control, junk, meaning}
+use Rattle.packets.specs.Headers.{controlHeader}
+use Rattle.wires.specs.Meaning.{Meaning, datum, control, junk, meaning}
 use Rattle.model.specs.State.{noRun, ControlRun}
 use Rattle.model.specs.Effects.{taken}
-use Rattle.model.specs.Refusals.{Rule, first, isNil, isBusy}
+use Rattle.model.specs.Refusals.{Rule, first, isNil}
+use Rattle.dh.specs.Host.{isBusy}
 use Rattle.model.specs.Runs.{runFor, sameRun}
 use Rattle.model.proofs.Items.{segsIn, segsOf}
 use Rattle.model.proofs.Link.{clash}

@@ -22,7 +22,9 @@ use Rattle.dh.specs.Contents.{written, noticeOf}
 use Rattle.dh.specs.Host.{answerOf, okAnswer, aimOf, noticed, heardAlone, expected, hearOf, creditsFor}
 use Rattle.air.specs.Air.{airMessage}
 use Rattle.state.proofs.Chains.{on}
-use Rattle.model.specs.Packets.{Meaning, datum, control, junk, meaning, aimedAt, says, noticePacket, noticePackets}
+use Rattle.wires.specs.Meaning.{Meaning, datum, control, junk, meaning}
+use Rattle.wires.specs.Tally.{aimedAt, says}
+use Rattle.messages.specs.Packets.{noticePacket, noticePackets}
 use Rattle.model.specs.Refusals.{noConn}
 use Rattle.model.specs.Changes.{Change, stays, opens, closes, gives, changeHeard}
 use Rattle.model.specs.calls.Down.{answers}

@@ -21,7 +21,9 @@ use Rattle.messages.specs.Layout.{resetNtf, creditsNtf, genericErrorNtf, discov
 use Rattle.air.specs.Air.{airMessage}
 use Rattle.state.proofs.Chains.{on}
 use Rattle.model.specs.Connection.{Connection, withHost, withController}
-use Rattle.model.specs.Packets.{dataHeader, controlHeader, noticePacket, noticePackets, meaning}
+use Rattle.packets.specs.Headers.{dataHeader, controlHeader}
+use Rattle.messages.specs.Packets.{noticePacket, noticePackets}
+use Rattle.wires.specs.Meaning.{meaning}
 use Rattle.model.specs.State.{State, cold}
 use Rattle.model.specs.Refusals.{noConn}
 use Rattle.model.specs.Changes.{Change, stays, opens, closes, gives, atController, atHost}

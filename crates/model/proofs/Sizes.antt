@@ -25,7 +25,9 @@ use Rattle.dh.specs.Host.{hostAfter, hearOf}
 use Rattle.air.specs.Air.{eventOf, airMessage}
 use Rattle.state.proofs.Chains.{on, or-left, or-right}
 use Rattle.model.specs.Connection.{Connection, withHost, withController, sent, pushed, heardData, stored, consumed, noticed, spoken}
-use Rattle.model.specs.Packets.{dataHeader, noticePackets, Meaning, datum, control, junk, meaning}
+use Rattle.packets.specs.Headers.{dataHeader}
+use Rattle.messages.specs.Packets.{noticePackets}
+use Rattle.wires.specs.Meaning.{Meaning, datum, control, junk, meaning}
 use Rattle.model.specs.State.{State, isOpen, at, withConns, withDown, withUp, withAsking, withHearing, ControlRun, profileIn, withHostState}
 use Rattle.model.specs.Effects.{fresh, power, command, send, push, down, consume, credit, air, reply, up, report, Effect, taken}
 use Rattle.model.specs.Refusals.{first, noConn, isNil, full, isHeld}

@@ -9,7 +9,7 @@ use Rattle.octets.specs.Octets.{Octets, pick}
 use Rattle.packets.specs.Reassembly.{Prefix}
 use Rattle.packets.proofs.Reassembly.{flow-prefix}
 use Rattle.state.specs.Conn.{flows}
-use Rattle.model.specs.Packets.{dataCount, creditsUp}
+use Rattle.wires.specs.Tally.{dataCount, creditsUp}
 use Rattle.model.specs.State.{State, cold, profileIn, profileOk}
 use Rattle.model.specs.Effects.{Call, fresh, power, command, send, push, down, consume, credit, air, reply, up, report, Result, taken, refused}
 use Rattle.model.specs.Refusals.{first, noConn}

@@ -13,7 +13,7 @@ use borrow.Author.Tests.{eqb-true, ltb-true, ltb-false, leb-true, not-true}
 use Rattle.octets.specs.Octets.{Octets}
 use Rattle.model.specs.Kinds.{Profile, Controller, Pair, Pairs, Activation, Rf, Command, Verdict, Event, Listing, Aired}
 use Rattle.model.specs.Kinds.selection.{Nothing, Chosen}
-use Rattle.model.specs.Kinds.rf.{Idle, Discovery, AllDiscoveries, HostSelect, PollActive, ListenActive, ListenSleep}
+use Rattle.model.specs.Kinds.rf.{Idle, Discovery, W4AllDiscoveries, W4HostSelect, PollActive, ListenActive, ListenSleep}
 use Rattle.model.specs.Kinds.command as command
 use Rattle.model.specs.Kinds.verdict as verdict
 use Rattle.model.specs.Kinds.event.{Bad, Found, Poll, Listen, Failed, Sleeps, LinkLost, Releases, Endpoint}
@@ -120,8 +120,8 @@ module _ (p : Profile) (k : Controller) (isOpen : ℕ → Bool) (gid oid : ℕ) 
   select-fits : (aim : ℕ) (rf : Rf) (ps : Pairs) (x : Pair) (interface : ℕ) → Named gid oid command.Select → Fits gid oid aim p (selectBy rf ps x interface)
   select-fits aim Idle ps x interface n = omega arith
   select-fits aim Discovery ps x interface n = omega arith
-  select-fits aim AllDiscoveries ps x interface n = omega arith
-  select-fits aim (HostSelect s) ps x interface n = on (Fits gid oid aim p) (listed ps x && eqb interface 0x01) (λ e. n) (λ e. omega arith)
+  select-fits aim W4AllDiscoveries ps x interface n = omega arith
+  select-fits aim (W4HostSelect s) ps x interface n = on (Fits gid oid aim p) (listed ps x && eqb interface 0x01) (λ e. n) (λ e. omega arith)
   select-fits aim (PollActive a) ps x interface n = omega arith
   select-fits aim (ListenActive a) ps x interface n = omega arith
   select-fits aim ListenSleep ps x interface n = omega arith
@@ -130,8 +130,8 @@ module _ (p : Profile) (k : Controller) (isOpen : ℕ → Bool) (gid oid : ℕ) 
   unfolding deactivateBy
   deactivate-fits aim Idle type n = omega arith
   deactivate-fits aim Discovery type n = (n .0, inr (n .1))
-  deactivate-fits aim AllDiscoveries type n = (n .0, inr (n .1))
-  deactivate-fits aim (HostSelect s) type n = (n .0, inr (n .1))
+  deactivate-fits aim W4AllDiscoveries type n = (n .0, inr (n .1))
+  deactivate-fits aim (W4HostSelect s) type n = (n .0, inr (n .1))
   deactivate-fits aim (PollActive a) type n =
       on (Fits gid oid aim p) (ltb 3 type) (λ e. omega arith) (λ e. (n .0, n .1, ltb-false 3 type e))
   deactivate-fits aim (ListenActive a) type n =
@@ -175,8 +175,8 @@ Legal rf isOpen (verdict.Deactivates type next) = (isActive rf ≡ true) × (isA
 idle-inactive : (rf : Rf) → isIdle rf ≡ true → isActive rf ≡ false
 idle-inactive Idle e = refl
 idle-inactive Discovery e = refl
-idle-inactive AllDiscoveries e = refl
-idle-inactive (HostSelect s) e = refl
+idle-inactive W4AllDiscoveries e = refl
+idle-inactive (W4HostSelect s) e = refl
 idle-inactive (PollActive a) e = absurd (false≢true e)
 idle-inactive (ListenActive a) e = absurd (false≢true e)
 idle-inactive ListenSleep e = refl
@@ -215,8 +215,8 @@ module _ (isOpen : ℕ → Bool) where
   select-legal : (rf : Rf) (ps : Pairs) (x : Pair) (interface : ℕ) → Legal rf isOpen (selectBy rf ps x interface)
   select-legal Idle ps x interface = tt
   select-legal Discovery ps x interface = tt
-  select-legal AllDiscoveries ps x interface = tt
-  select-legal (HostSelect s) ps x interface = on (Legal (HostSelect s) isOpen) (listed ps x && eqb interface 0x01) (λ e. refl) (λ e. tt)
+  select-legal W4AllDiscoveries ps x interface = tt
+  select-legal (W4HostSelect s) ps x interface = on (Legal (W4HostSelect s) isOpen) (listed ps x && eqb interface 0x01) (λ e. refl) (λ e. tt)
   select-legal (PollActive a) ps x interface = tt
   select-legal (ListenActive a) ps x interface = tt
   select-legal ListenSleep ps x interface = tt
@@ -225,10 +225,10 @@ module _ (isOpen : ℕ → Bool) where
   unfolding deactivateBy
   deactivate-legal Idle type = tt
   deactivate-legal Discovery type = (refl, refl)
-  deactivate-legal AllDiscoveries type = (refl, refl)
-  deactivate-legal (HostSelect s) type = (refl, refl)
+  deactivate-legal W4AllDiscoveries type = (refl, refl)
+  deactivate-legal (W4HostSelect s) type = (refl, refl)
   deactivate-legal (PollActive a) type =
-      on (Legal (PollActive a) isOpen) (ltb 3 type) (λ e. tt) (λ e. (refl, rest-inactive type (HostSelect Nothing) refl))
+      on (Legal (PollActive a) isOpen) (ltb 3 type) (λ e. tt) (λ e. (refl, rest-inactive type (W4HostSelect Nothing) refl))
   deactivate-legal (ListenActive a) type =
       on (Legal (ListenActive a) isOpen) (ltb 3 type) (λ e. tt)
       (λ e. on (Legal (ListenActive a) isOpen) (sleepRejected a type) (λ r. tt) (λ r. (refl, rest-inactive type ListenSleep refl)))
@@ -324,9 +324,9 @@ module _ (P : Aired → Type 0) (no-event : P Refused) where
       → (isActive rf ≡ false → (next : Rf) (l : Listing) → isActive next ≡ false → P (Goes next l)) → P (foundBy rf ps a type)
   unfolding foundBy
   found-by Idle ps a type f = no-event
-  found-by Discovery ps a type f = on P (eqb type 2) (λ e. f refl AllDiscoveries (Starts (pairOf a)) refl) (λ e. no-event)
-  found-by AllDiscoveries ps a type f = on P (noRoom ps (pairOf a) type) (λ e. no-event) (λ e. f refl (foundTo type) (Adds (pairOf a)) (found-to type))
-  found-by (HostSelect s) ps a type f = no-event
+  found-by Discovery ps a type f = on P (eqb type 2) (λ e. f refl W4AllDiscoveries (Starts (pairOf a)) refl) (λ e. no-event)
+  found-by W4AllDiscoveries ps a type f = on P (noRoom ps (pairOf a) type) (λ e. no-event) (λ e. f refl (foundTo type) (Adds (pairOf a)) (found-to type))
+  found-by (W4HostSelect s) ps a type f = no-event
   found-by (PollActive b) ps a type f = no-event
   found-by (ListenActive b) ps a type f = no-event
   found-by ListenSleep ps a type f = no-event
@@ -335,9 +335,9 @@ module _ (P : Aired → Type 0) (no-event : P Refused) where
   unfolding pollBy
   poll-by Idle a f = no-event
   poll-by Discovery a f = f refl (Starts (pairOf a))
-  poll-by AllDiscoveries a f = no-event
-  poll-by (HostSelect Nothing) a f = no-event
-  poll-by (HostSelect (Chosen p)) a f = on P (samePair p (pairOf a)) (λ e. f refl Keeps) (λ e. no-event)
+  poll-by W4AllDiscoveries a f = no-event
+  poll-by (W4HostSelect Nothing) a f = no-event
+  poll-by (W4HostSelect (Chosen p)) a f = on P (samePair p (pairOf a)) (λ e. f refl Keeps) (λ e. no-event)
   poll-by (PollActive b) a f = no-event
   poll-by (ListenActive b) a f = no-event
   poll-by ListenSleep a f = no-event
@@ -346,8 +346,8 @@ module _ (P : Aired → Type 0) (no-event : P Refused) where
   unfolding listenBy
   listen-by Idle a f = no-event
   listen-by Discovery a f = f refl Keeps
-  listen-by AllDiscoveries a f = no-event
-  listen-by (HostSelect s) a f = no-event
+  listen-by W4AllDiscoveries a f = no-event
+  listen-by (W4HostSelect s) a f = no-event
   listen-by (PollActive b) a f = no-event
   listen-by (ListenActive b) a f = no-event
   listen-by ListenSleep a f = f refl Keeps
@@ -356,9 +356,9 @@ module _ (P : Aired → Type 0) (no-event : P Refused) where
   unfolding failedBy
   failed-by Idle f = no-event
   failed-by Discovery f = no-event
-  failed-by AllDiscoveries f = no-event
-  failed-by (HostSelect Nothing) f = no-event
-  failed-by (HostSelect (Chosen p)) f = f refl (HostSelect Nothing) Keeps refl
+  failed-by W4AllDiscoveries f = no-event
+  failed-by (W4HostSelect Nothing) f = no-event
+  failed-by (W4HostSelect (Chosen p)) f = f refl (W4HostSelect Nothing) Keeps refl
   failed-by (PollActive b) f = no-event
   failed-by (ListenActive b) f = no-event
   failed-by ListenSleep f = no-event

@@ -18,7 +18,8 @@ use Rattle.dh.specs.Host.{hearOf}
 use Rattle.air.specs.Air.{eventOf}
 use Rattle.state.proofs.Chains.{on, or-left, or-right}
 use Rattle.model.specs.Connection.{Connection, withHost, withController, sent, pushed, heardData, stored, consumed, spoken}
-use Rattle.model.specs.Packets.{dataHeader, controlHeader, Meaning, datum, control, junk, meaning}
+use Rattle.packets.specs.Headers.{dataHeader, controlHeader}
+use Rattle.wires.specs.Meaning.{Meaning, datum, control, junk, meaning}
 use Rattle.model.specs.State.{State, profileIn, isOpen, at, withConns, withDown, withUp, withAsking, withHearing}
 use Rattle.model.specs.Effects.{Call, fresh, power, command, send, push, down, consume, credit, air, reply, up, report, Effect, taken}
 use Rattle.model.specs.Refusals.{first, noConn, isNil, isHeld}

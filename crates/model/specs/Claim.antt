@@ -8,7 +8,7 @@ use mathlib.Core.List.{List, [], _∷_}
 use Rattle.octets.specs.Octets.{Octets, pick}
 use Rattle.packets.specs.Reassembly.{Prefix}
 use Rattle.state.specs.Conn.{flows}
-use Rattle.model.specs.Packets.{dataCount, creditsUp}
+use Rattle.wires.specs.Tally.{dataCount, creditsUp}
 use Rattle.model.specs.State.{State, cold, profileOk, profileIn}
 use Rattle.model.specs.Effects.{Call, report, taken}
 use Rattle.model.specs.calls.Consume.{isLoop}

@@ -1,6 +1,5 @@
 pub mod Kinds
 pub mod Connection
-pub mod Packets
 pub mod State
 pub mod Effects
 pub mod Refusals

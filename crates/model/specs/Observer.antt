@@ -7,7 +7,8 @@ use mathlib.Core.List.{List, [], _∷_, _++_}
 use lib.Dec.{eqb}
 use lib.ListN.{getD, drop}
 use Rattle.octets.specs.Octets.{Octets, pick}
-use Rattle.model.specs.Packets.{Meaning, datum, control, junk, meaning, saysIn, contents}
+use Rattle.wires.specs.Meaning.{Meaning, datum, control, junk, meaning}
+use Rattle.wires.specs.Tally.{saysIn, contents}
 use Rattle.model.specs.State.{State, at}
 use Rattle.model.specs.Effects.{Call, fresh, power, command, send, push, down, consume, credit, air, reply, up, report, Result, taken, refused, Outcome}
 use Rattle.model.specs.Changes.{Change, stays, opens, closes, gives, changeHeard}

@@ -15,7 +15,7 @@ use Rattle.packets.specs.Reassembly.{Run, run, lost}
 use Rattle.dh.specs.Contents.{creditsOk}
 use Rattle.dh.specs.Host.{aimOf}
 use Rattle.model.specs.Connection.{HostEnd, ControllerEnd, closed}
-use Rattle.model.specs.Packets.{Meaning, datum, control, junk, meaning}
+use Rattle.wires.specs.Meaning.{Meaning, datum, control, junk, meaning}
 use Rattle.model.specs.State.{State, cold, profileOk, profileIn}
 use Rattle.model.specs.Effects.{Call, refused}
 use Rattle.model.specs.Refusals.{noConn}

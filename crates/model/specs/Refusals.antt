@@ -36,15 +36,6 @@ noConn c = leb 5 (placeOf c)
 abbrev pub full : ℕ → List Octets → Bool
 full n w = ltb 16 (length w + n)
 
-abbrev pub isBusy : Pending → Bool
-isBusy pending.Nothing = false
-isBusy (pending.Command a) = true
-
--- RESET or CONN_CLOSE is unanswered
-abbrev pub isClosing : Pending → Bool
-isClosing pending.Nothing = false
-isClosing (pending.Command a) = eqb (a .gid) 0 && (eqb (a .oid) 0 || eqb (a .oid) 5)
-
 -- the five connections
 abbrev pub ids : List ℕ
 ids = 0 ∷ 2 ∷ 3 ∷ 4 ∷ 5 ∷ []

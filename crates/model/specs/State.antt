@@ -17,7 +17,7 @@ use Rattle.state.specs.Radio.{noPairs}
 use Rattle.dh.specs.Contents.{creditsOk}
 use Rattle.dh.specs.Host.{leastSize}
 use Rattle.model.specs.Connection.{Connection, closed}
-use Rattle.model.specs.Packets.{control}
+use Rattle.wires.specs.Meaning.{control}
 
 -- ---- the state
 

@@ -9,7 +9,7 @@ use lib.Dec.{eqb}
 use Rattle.octets.specs.Octets.{Octets}
 use Rattle.nfcc.specs.Kinds.{Profile, Pair, Selection, Controller}
 use Rattle.nfcc.specs.Kinds.phase as phase
-use Rattle.nfcc.specs.Kinds.rf.{Idle, HostSelect, Discovery}
+use Rattle.nfcc.specs.Kinds.rf.{Idle, W4HostSelect, Discovery}
 use Rattle.nfcc.specs.Kinds.verdict.{Resets, Initialises, Closes, Turns, Selects}
 use Rattle.state.specs.Radio.{listed}
 use Rattle.nfcc.specs.Controller.{nextId, opensAs, configOk, deactivateBy, judgeOf}
@@ -63,7 +63,7 @@ pub record CommandTrips : Type 0 where
       → isOpen id ≡ true → judgeOf p k isOpen 0 5 (closeCmd id) ≡ Closes id
   pub discover : (p : Profile) (k : Controller) (isOpen : ℕ → Bool) (cs : List Config) → k .phase ≡ phase.Ready → k .rf ≡ Idle
       → length cs ≤ 8 → allOk cs ≡ true → judgeOf p k isOpen 1 3 (discoverCmd cs) ≡ Turns Discovery
-  pub select : (p : Profile) (k : Controller) (isOpen : ℕ → Bool) (s : Selection) (x : Pair) → k .phase ≡ phase.Ready → k .rf ≡ HostSelect s
+  pub select : (p : Profile) (k : Controller) (isOpen : ℕ → Bool) (s : Selection) (x : Pair) → k .phase ≡ phase.Ready → k .rf ≡ W4HostSelect s
       → listed (k .pairs) x ≡ true → judgeOf p k isOpen 1 4 (selectCmd x 0x01) ≡ Selects x
   pub deactivate : (p : Profile) (k : Controller) (isOpen : ℕ → Bool) (type : ℕ) → k .phase ≡ phase.Ready
       → judgeOf p k isOpen 1 6 (deactivateCmd type) ≡ deactivateBy (k .rf) type

@@ -6,14 +6,14 @@ use mathlib.Core.List.{List}
 use lib.ListN.{length, getD}
 use lib.Dec.{eqb, ltb, leb}
 use Rattle.octets.specs.Octets.{Octets, pick}
-use Rattle.nfcc.specs.Kinds.{Profile, Pair, Pairs, Activation, Rf, Phase, Controller, Counts, Command, Verdict}
+use Rattle.nfcc.specs.Kinds.{Hand, Profile, Pair, Pairs, Activation, Rf, Phase, Controller, Counts, Command, Verdict}
 use Rattle.nfcc.specs.Kinds.selection.{Nothing, Chosen}
-use Rattle.nfcc.specs.Kinds.rf.{Idle, Discovery, AllDiscoveries, HostSelect, PollActive, ListenActive, ListenSleep}
+use Rattle.nfcc.specs.Kinds.rf.{Idle, Discovery, W4AllDiscoveries, W4HostSelect, PollActive, ListenActive, ListenSleep}
 use Rattle.nfcc.specs.Kinds.phase.{Cold, Ready}
 use Rattle.nfcc.specs.Kinds.phase as phase
 use Rattle.nfcc.specs.Kinds.command.{Reset, Init, ConnCreate, ConnClose, Discover, Select, Deactivate, Unknown}
 use Rattle.nfcc.specs.Kinds.verdict.{Refuses, Resets, Initialises, Opens, Closes, Turns, Selects, Deactivates}
-use Rattle.state.specs.Conn.{termsOf, shutAt, openedAt, allShut}
+use Rattle.state.specs.Conn.{termsOf, shutAt, openedAt, allShut, empty}
 use Rattle.state.specs.Radio.{isIdle, polls, listens, noPairs, listed}
 use Rattle.state.specs.Commands.{rejected, syntaxError, semanticError, alreadyStarted, commandOf}
 
@@ -107,10 +107,10 @@ discoverBy rf m =
 -- ---- RF_DISCOVER_SELECT (003, Table 77)
 
 abbrev pub selectBy : Rf → Pairs → Pair → ℕ → Verdict
-selectBy (HostSelect s) ps p interface = pick (listed ps p && eqb interface 0x01) (Selects p) (Refuses rejected)
+selectBy (W4HostSelect s) ps p interface = pick (listed ps p && eqb interface 0x01) (Selects p) (Refuses rejected)
 selectBy Idle ps p interface = Refuses semanticError
 selectBy Discovery ps p interface = Refuses semanticError
-selectBy AllDiscoveries ps p interface = Refuses semanticError
+selectBy W4AllDiscoveries ps p interface = Refuses semanticError
 selectBy (PollActive a) ps p interface = Refuses semanticError
 selectBy (ListenActive a) ps p interface = Refuses semanticError
 selectBy ListenSleep ps p interface = Refuses semanticError
@@ -133,11 +133,11 @@ unfoldable pub deactivateBy : Rf → ℕ → Verdict
 deactivateBy Idle type = Refuses semanticError
 -- 003, L1824: the type is ignored, as in both W4 states; document 01 would look at it
 deactivateBy Discovery type = Turns Idle
-deactivateBy AllDiscoveries type = Turns Idle
-deactivateBy (HostSelect s) type = Turns Idle
+deactivateBy W4AllDiscoveries type = Turns Idle
+deactivateBy (W4HostSelect s) type = Turns Idle
 deactivateBy ListenSleep type =
     pick (ltb 3 type) (Refuses syntaxError) (pick (eqb type 0) (Turns Idle) (Refuses semanticError))
-deactivateBy (PollActive a) type = pick (ltb 3 type) (Refuses syntaxError) (ended type (HostSelect Nothing))
+deactivateBy (PollActive a) type = pick (ltb 3 type) (Refuses syntaxError) (ended type (W4HostSelect Nothing))
 deactivateBy (ListenActive a) type =
     pick (ltb 3 type) (Refuses syntaxError)
     (pick (sleepRejected a type) (Refuses rejected) (ended type ListenSleep))
@@ -176,7 +176,7 @@ controllerAfter k Initialises = record { phase = Ready; given = k .given; rf = k
 controllerAfter k (Opens c t) = record { phase = k .phase; given = c; rf = k .rf; pairs = k .pairs }
 controllerAfter k (Closes c) = k
 controllerAfter k (Turns rf) = turned k rf
-controllerAfter k (Selects p) = turned k (HostSelect (Chosen p))
+controllerAfter k (Selects p) = turned k (W4HostSelect (Chosen p))
 controllerAfter k (Deactivates t rf) = turned k rf
 
 -- ---- the connections after a verdict
@@ -191,13 +191,13 @@ connsAfter conns (Turns rf) = conns
 connsAfter conns (Selects p) = conns
 connsAfter conns (Deactivates t rf) = shutAt conns 0
 
--- whether connection 0 closes, and with it the endpoint's message
-abbrev pub closesZero : Verdict → Bool
-closesZero (Refuses s) = false
-closesZero (Resets t) = true
-closesZero Initialises = false
-closesZero (Opens c t) = false
-closesZero (Closes c) = false
-closesZero (Turns rf) = false
-closesZero (Selects p) = false
-closesZero (Deactivates t rf) = true
+-- the endpoint's message in hand: connection 0 opens and closes with none
+unfoldable pub endpointAfter : Hand → Verdict → Hand
+endpointAfter h (Refuses s) = h
+endpointAfter h (Resets t) = empty
+endpointAfter h Initialises = h
+endpointAfter h (Opens c t) = pick (eqb c 0) empty h
+endpointAfter h (Closes c) = pick (eqb c 0) empty h
+endpointAfter h (Turns rf) = h
+endpointAfter h (Selects p) = h
+endpointAfter h (Deactivates t rf) = empty

@@ -2,6 +2,7 @@
 use state::commands;
 use state::commands::Command;
 use state::conn::all_shut;
+use state::conn::empty_hand;
 use state::conn::open_at;
 use state::conn::opened_at;
 use state::conn::shut_at;
@@ -9,6 +10,7 @@ use state::conn::terms_of;
 use state::kinds::Activation;
 use state::kinds::Controller;
 use state::kinds::Counts;
+use state::kinds::Hand;
 use state::kinds::Pair;
 use state::kinds::Pairs;
 use state::kinds::Phase;
@@ -23,8 +25,10 @@ use state::radio::polls;
 use state::verdict::Verdict;
 ghost use mathlib.Core.Path.{_≡_};
 ghost use Rattle.nfcc.specs.Kinds.rf.{ListenActive, ListenSleep};
-ghost use Rattle.state.specs.Conn.{openAt};
-ghost use Rattle.nfcc.specs.Controller.{shortest, isReset, isReady, allowed, resetBy, after, nextId, opensAs, createBy, closeBy, configOk, configsOk, discoverBy, selectBy, sleepRejected, restState, ended, deactivateBy, valuesOf, judgeOf, turned, controllerAfter, connsAfter, closesZero};
+ghost use lib.Dec.{eqb};
+ghost use Rattle.octets.specs.Octets.{pick};
+ghost use Rattle.state.specs.Conn.{openAt, empty};
+ghost use Rattle.nfcc.specs.Controller.{shortest, isReset, isReady, allowed, resetBy, after, nextId, opensAs, createBy, closeBy, configOk, configsOk, discoverBy, selectBy, sleepRejected, restState, ended, deactivateBy, valuesOf, judgeOf, turned, controllerAfter, connsAfter, endpointAfter};
 
 // The statuses of a refusal (003, Table 129).
 pub const REJECTED: u8 = 0x01;
@@ -217,7 +221,7 @@ fn select_by(rf: Rf, ps: Pairs, p: Pair, interface: u8) -> Verdict
     ensures { λ r. ⌜ r ≡ selectBy rf ps p interface ⌝ }
 {
     match rf {
-        Rf::HostSelect(_) => {
+        Rf::W4HostSelect(_) => {
             let found = is_listed(ps, p);
             if found & (interface == 0x01) {
                 Verdict::Selects(p)
@@ -227,7 +231,7 @@ fn select_by(rf: Rf, ps: Pairs, p: Pair, interface: u8) -> Verdict
         }
         Rf::Idle => Verdict::Refuses(SEMANTIC_ERROR),
         Rf::Discovery => Verdict::Refuses(SEMANTIC_ERROR),
-        Rf::AllDiscoveries => Verdict::Refuses(SEMANTIC_ERROR),
+        Rf::W4AllDiscoveries => Verdict::Refuses(SEMANTIC_ERROR),
         Rf::PollActive(_) => Verdict::Refuses(SEMANTIC_ERROR),
         Rf::ListenActive(_) => Verdict::Refuses(SEMANTIC_ERROR),
         Rf::ListenSleep => Verdict::Refuses(SEMANTIC_ERROR),
@@ -296,14 +300,14 @@ fn deactivate_by(rf: Rf, kind: u8) -> Verdict
     match rf {
         Rf::Idle => Verdict::Refuses(SEMANTIC_ERROR),
         Rf::Discovery => rested(0),
-        Rf::AllDiscoveries => rested(0),
-        Rf::HostSelect(_) => rested(0),
+        Rf::W4AllDiscoveries => rested(0),
+        Rf::W4HostSelect(_) => rested(0),
         Rf::ListenSleep => rested(kind),
         Rf::PollActive(_) => {
             if 3 < kind {
                 Verdict::Refuses(SYNTAX_ERROR)
             } else {
-                ended(kind, Rf::HostSelect(Selection::Nothing))
+                ended(kind, Rf::W4HostSelect(Selection::Nothing))
             }
         }
         Rf::ListenActive(a) => listen_ended(a, kind),
@@ -407,7 +411,7 @@ pub fn controller_after(k: Controller, v: Verdict) -> Controller
         },
         Verdict::Closes(_) => k,
         Verdict::Turns(next) => turned(k, next),
-        Verdict::Selects(p) => turned(k, Rf::HostSelect(Selection::Chosen(p))),
+        Verdict::Selects(p) => turned(k, Rf::W4HostSelect(Selection::Chosen(p))),
         Verdict::Deactivates(_, next) => turned(k, next),
     }
 }
@@ -428,18 +432,25 @@ pub fn conns_after(conns: [Counts; 5], v: Verdict) -> [Counts; 5]
     }
 }
 
-// Whether a verdict closes connection 0, and with it the endpoint's message.
-pub fn closes_zero(v: Verdict) -> bool
-    ensures { λ r. ⌜ r ≡ closesZero v ⌝ }
+// The endpoint's message after a connection is opened or closed: on 0 none is in hand.
+fn spared(h: Hand, id: u8) -> Hand
+    ensures { λ r. ⌜ r ≡ pick (eqb id 0) empty h ⌝ }
+{
+    if id == 0 { empty_hand() } else { h }
+}
+
+// The endpoint's message after a verdict: connection 0 opens and closes with none in hand.
+pub fn endpoint_after(h: Hand, v: Verdict) -> Hand
+    ensures { λ r. ⌜ r ≡ endpointAfter h v ⌝ }
 {
     match v {
-        Verdict::Refuses(_) => false,
-        Verdict::Resets(_) => true,
-        Verdict::Initialises => false,
-        Verdict::Opens(_, _) => false,
-        Verdict::Closes(_) => false,
-        Verdict::Turns(_) => false,
-        Verdict::Selects(_) => false,
-        Verdict::Deactivates(_, _) => true,
+        Verdict::Refuses(_) => h,
+        Verdict::Resets(_) => empty_hand(),
+        Verdict::Initialises => h,
+        Verdict::Opens(id, _) => spared(h, id),
+        Verdict::Closes(id) => spared(h, id),
+        Verdict::Turns(_) => h,
+        Verdict::Selects(_) => h,
+        Verdict::Deactivates(_, _) => empty_hand(),
     }
 }

@@ -14,7 +14,8 @@ use Rattle.messages.specs.Layout.{entriesFrom, entryCount, responseOf, noticeMe
 use Rattle.air.specs.Air.{foundIn, pollIn, listenIn, eventOf, foundBy, pollBy, listenBy, failedBy, airedBy, airMessage, controllerAired}
 use Rattle.dh.specs.Contents.{noticeOf, zeros, initWritten, createWritten, entriesOk, creditsWritten, discoverWritten, activatedWritten, deactivateWritten, written}
 use Rattle.dh.specs.Host.{answerOf, heardAlone, hearOf, creditsIn, namesClosed, hostAfter, dropHeard}
-use Rattle.model.specs.Packets.{meaning, dataCount, creditsUp}
+use Rattle.wires.specs.Meaning.{meaning}
+use Rattle.wires.specs.Tally.{dataCount, creditsUp}
 use Rattle.model.specs.State.{State, cold, profileIn}
 use Rattle.model.specs.Effects.{Call, Result, taken, refused, Outcome}
 use Rattle.model.specs.Refusals.{first}

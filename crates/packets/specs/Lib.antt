@@ -1,4 +1,5 @@
 pub mod Packet
+pub mod Headers
 pub mod Segments
 pub mod Reassembly
 pub mod Table

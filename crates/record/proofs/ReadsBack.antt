@@ -12,7 +12,7 @@ use Rattle.octets.specs.Octets.{Octets, cut}
 use Rattle.octets.proofs.Octets.{cut-same}
 use Rattle.record.specs.Kinds.selection as selection
 use Rattle.record.specs.Kinds.{Rf, Progress, ControlRun, Phase, Pending, Hand, Ring, Counts, Record}
-use Rattle.record.specs.Kinds.rf.{Idle, Discovery, AllDiscoveries, HostSelect, PollActive, ListenActive, ListenSleep}
+use Rattle.record.specs.Kinds.rf.{Idle, Discovery, W4AllDiscoveries, W4HostSelect, PollActive, ListenActive, ListenSleep}
 use Rattle.record.specs.Kinds.phase.{Cold, Reset, Ready}
 use Rattle.record.specs.Kinds.pending as pending
 use Rattle.state.specs.Conn.{closedCounts}
@@ -101,9 +101,9 @@ rf-four : (x : Rf) → rfOctets x ≡ four (rfOctets x)
 unfolding rfOctets
 rf-four Idle = refl
 rf-four Discovery = refl
-rf-four AllDiscoveries = refl
-rf-four (HostSelect selection.Nothing) = refl
-rf-four (HostSelect (selection.Chosen p)) = refl
+rf-four W4AllDiscoveries = refl
+rf-four (W4HostSelect selection.Nothing) = refl
+rf-four (W4HostSelect (selection.Chosen p)) = refl
 rf-four (PollActive a) = refl
 rf-four (ListenActive a) = refl
 rf-four ListenSleep = refl
@@ -115,9 +115,9 @@ rf-back : (x : Rf) → rfIn (rfOctets x) ≡ x
 unfolding rfOctets rfOf
 rf-back Idle = refl
 rf-back Discovery = refl
-rf-back AllDiscoveries = refl
-rf-back (HostSelect selection.Nothing) = refl
-rf-back (HostSelect (selection.Chosen p)) = refl
+rf-back W4AllDiscoveries = refl
+rf-back (W4HostSelect selection.Nothing) = refl
+rf-back (W4HostSelect (selection.Chosen p)) = refl
 rf-back (PollActive a) = refl
 rf-back (ListenActive a) = refl
 rf-back ListenSleep = refl
@@ -126,9 +126,9 @@ rf-known : (x : Rf) → rfKnown (getD (rfOctets x) 0 0) (getD (rfOctets x) 1 0) 
 unfolding rfOctets rfKnown
 rf-known Idle = refl
 rf-known Discovery = refl
-rf-known AllDiscoveries = refl
-rf-known (HostSelect selection.Nothing) = refl
-rf-known (HostSelect (selection.Chosen p)) = refl
+rf-known W4AllDiscoveries = refl
+rf-known (W4HostSelect selection.Nothing) = refl
+rf-known (W4HostSelect (selection.Chosen p)) = refl
 rf-known (PollActive a) = refl
 rf-known (ListenActive a) = refl
 rf-known ListenSleep = refl

@@ -8,7 +8,7 @@ use Rattle.octets.specs.Octets.{Octets, splice}
 use Rattle.octets.proofs.Octets.{splice-next}
 use Rattle.record.specs.Kinds.{Profile, Rf, Pairs, ControlRun, Controller, Pending, Host, Counts, Ends, Record}
 use Rattle.record.specs.Kinds.selection as selection
-use Rattle.record.specs.Kinds.rf.{Idle, Discovery, AllDiscoveries, HostSelect, PollActive, ListenActive, ListenSleep}
+use Rattle.record.specs.Kinds.rf.{Idle, Discovery, W4AllDiscoveries, W4HostSelect, PollActive, ListenActive, ListenSleep}
 use Rattle.record.specs.Kinds.pending as pending
 use Rattle.record.specs.Writing.{pendingOctets, phaseOctet, rfOctets, profileOctets, controlRunOctets, handOctets, ringOctets, hostOctets, pairsOctets, controllerOctets, countsOctets, countsIn, connsOctets, frontOctets, middleOctets, wiresOctets, encodeOf}
 
@@ -35,9 +35,9 @@ length-rf : (x : Rf) → length (rfOctets x) ≡ 4
 unfolding rfOctets
 length-rf Idle = refl
 length-rf Discovery = refl
-length-rf AllDiscoveries = refl
-length-rf (HostSelect selection.Nothing) = refl
-length-rf (HostSelect (selection.Chosen p)) = refl
+length-rf W4AllDiscoveries = refl
+length-rf (W4HostSelect selection.Nothing) = refl
+length-rf (W4HostSelect (selection.Chosen p)) = refl
 length-rf (PollActive a) = refl
 length-rf (ListenActive a) = refl
 length-rf ListenSleep = refl

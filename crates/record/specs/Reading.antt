@@ -7,7 +7,7 @@ use lib.Dec.{eqb}
 use Rattle.octets.specs.Octets.{Octets, pick}
 use Rattle.record.specs.Kinds.{Profile, Pair, Rf, Pairs, Progress, ControlRun, Phase, Controller, Pending, Host, Hand, Ring, HostSide, ControllerSide, Counts, Ends, Record}
 use Rattle.record.specs.Kinds.selection as selection
-use Rattle.record.specs.Kinds.rf.{Idle, Discovery, AllDiscoveries, HostSelect, PollActive, ListenActive, ListenSleep}
+use Rattle.record.specs.Kinds.rf.{Idle, Discovery, W4AllDiscoveries, W4HostSelect, PollActive, ListenActive, ListenSleep}
 use Rattle.record.specs.Kinds.phase.{Cold, Reset, Ready}
 use Rattle.record.specs.Kinds.pending as pending
 use Rattle.record.specs.Layout.{slot, profilePlace, hostPlace, hearingPlace, controllerPlace, askingPlace, endpointPlace, connsPlace, downPlace, upPlace}
@@ -28,8 +28,8 @@ phaseOf tag = pick (eqb tag 1) Reset (pick (eqb tag 2) Ready Cold)
 unfoldable pub rfOf : ℕ → ℕ → ℕ → ℕ → Rf
 rfOf tag a b c =
     pick (eqb tag 1) Discovery
-    (pick (eqb tag 2) AllDiscoveries
-    (pick (eqb tag 3) (pick (eqb a 1) (HostSelect (selection.Chosen (record { id = b; protocol = c }))) (HostSelect selection.Nothing))
+    (pick (eqb tag 2) W4AllDiscoveries
+    (pick (eqb tag 3) (pick (eqb a 1) (W4HostSelect (selection.Chosen (record { id = b; protocol = c }))) (W4HostSelect selection.Nothing))
     (pick (eqb tag 4) (PollActive (record { id = a; protocol = b; mode = c }))
     (pick (eqb tag 5) (ListenActive (record { id = a; protocol = b; mode = c }))
     (pick (eqb tag 6) ListenSleep Idle)))))

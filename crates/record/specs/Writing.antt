@@ -6,7 +6,7 @@ use lib.ListN.{getD}
 use Rattle.octets.specs.Octets.{Octets}
 use Rattle.record.specs.Kinds.{Profile, Pair, Rf, Pairs, Progress, ControlRun, Phase, Controller, Pending, Host, Hand, Ring, HostSide, ControllerSide, Counts, Ends, Record}
 use Rattle.record.specs.Kinds.selection as selection
-use Rattle.record.specs.Kinds.rf.{Idle, Discovery, AllDiscoveries, HostSelect, PollActive, ListenActive, ListenSleep}
+use Rattle.record.specs.Kinds.rf.{Idle, Discovery, W4AllDiscoveries, W4HostSelect, PollActive, ListenActive, ListenSleep}
 use Rattle.record.specs.Kinds.phase.{Cold, Reset, Ready}
 use Rattle.record.specs.Kinds.pending as pending
 use Rattle.state.specs.Conn.{closedCounts}
@@ -26,9 +26,9 @@ phaseOctet Ready = 2
 unfoldable pub rfOctets : Rf → Octets
 rfOctets Idle = 0 ∷ 0 ∷ 0 ∷ 0 ∷ []
 rfOctets Discovery = 1 ∷ 0 ∷ 0 ∷ 0 ∷ []
-rfOctets AllDiscoveries = 2 ∷ 0 ∷ 0 ∷ 0 ∷ []
-rfOctets (HostSelect selection.Nothing) = 3 ∷ 0 ∷ 0 ∷ 0 ∷ []
-rfOctets (HostSelect (selection.Chosen p)) = 3 ∷ 1 ∷ p .id ∷ p .protocol ∷ []
+rfOctets W4AllDiscoveries = 2 ∷ 0 ∷ 0 ∷ 0 ∷ []
+rfOctets (W4HostSelect selection.Nothing) = 3 ∷ 0 ∷ 0 ∷ 0 ∷ []
+rfOctets (W4HostSelect (selection.Chosen p)) = 3 ∷ 1 ∷ p .id ∷ p .protocol ∷ []
 rfOctets (PollActive a) = 4 ∷ a .id ∷ a .protocol ∷ a .mode ∷ []
 rfOctets (ListenActive a) = 5 ∷ a .id ∷ a .protocol ∷ a .mode ∷ []
 rfOctets ListenSleep = 6 ∷ 0 ∷ 0 ∷ 0 ∷ []

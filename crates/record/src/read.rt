@@ -76,12 +76,12 @@ fn rf_of(tag: u8, a: u8, b: u8, c: u8) -> Rf
 {
     match tag {
         1 => Rf::Discovery,
-        2 => Rf::AllDiscoveries,
+        2 => Rf::W4AllDiscoveries,
         3 => {
             if a == 1 {
-                Rf::HostSelect(Selection::Chosen(Pair { id: b, protocol: c }))
+                Rf::W4HostSelect(Selection::Chosen(Pair { id: b, protocol: c }))
             } else {
-                Rf::HostSelect(Selection::Nothing)
+                Rf::W4HostSelect(Selection::Nothing)
             }
         }
         4 => Rf::PollActive(Activation {

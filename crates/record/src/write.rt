@@ -70,8 +70,8 @@ fn rf_octets(rf: Rf) -> [u8; 4]
     match rf {
         Rf::Idle => [0, 0, 0, 0],
         Rf::Discovery => [1, 0, 0, 0],
-        Rf::AllDiscoveries => [2, 0, 0, 0],
-        Rf::HostSelect(s) => match s {
+        Rf::W4AllDiscoveries => [2, 0, 0, 0],
+        Rf::W4HostSelect(s) => match s {
             Selection::Nothing => [3, 0, 0, 0],
             Selection::Chosen(p) => [3, 1, p.id, p.protocol],
         },

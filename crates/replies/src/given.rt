@@ -71,12 +71,12 @@ fn rf_of(n: u8, a: Activation) -> Rf {
     match n {
         0 => Rf::Idle,
         1 => Rf::Discovery,
-        2 => Rf::AllDiscoveries,
+        2 => Rf::W4AllDiscoveries,
         3 => {
             if a.id == 0 {
-                Rf::HostSelect(Selection::Nothing)
+                Rf::W4HostSelect(Selection::Nothing)
             } else {
-                Rf::HostSelect(Selection::Chosen(Pair {
+                Rf::W4HostSelect(Selection::Chosen(Pair {
                     id: a.protocol,
                     protocol: a.mode,
                 }))
@@ -100,8 +100,8 @@ fn rf_octets(rf: Rf) -> [u8; 4] {
     match rf {
         Rf::Idle => [0, 0, 0, 0],
         Rf::Discovery => [1, 0, 0, 0],
-        Rf::AllDiscoveries => [2, 0, 0, 0],
-        Rf::HostSelect(s) => selection_octets(s),
+        Rf::W4AllDiscoveries => [2, 0, 0, 0],
+        Rf::W4HostSelect(s) => selection_octets(s),
         Rf::PollActive(a) => [4, a.id, a.protocol, a.mode],
         Rf::ListenActive(a) => [5, a.id, a.protocol, a.mode],
         Rf::ListenSleep => [6, 0, 0, 0],

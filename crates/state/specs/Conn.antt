@@ -1,7 +1,7 @@
 -- Conn IDs and their places in the record's array of five; what a connection's counts are when it opens and closes.
 -- Assumes nothing.
-use Prim.Native.Nat.{ℕ}
-use mathlib.Core.Bool.{Bool, true, false, not}
+use Prim.Native.Nat.{ℕ, _+_, _%_}
+use mathlib.Core.Bool.{Bool, true, false, not, _&&_}
 use mathlib.Core.List.{List}
 use lib.ListN.{getD, set}
 use lib.Dec.{eqb}
@@ -36,6 +36,18 @@ termsOf p c = pick (eqb c 0) (p .fixed) (p .dynamic)
 abbrev pub flows : ℕ → Bool
 flows grant = not (eqb grant 255)
 
+-- the credits that a grant counts for: without flow control none
+abbrev pub metered : ℕ → ℕ
+metered grant = pick (flows grant) grant 0
+
+-- credits are an octet, and so is a sum of them
+abbrev pub creditSum : ℕ → ℕ → ℕ
+creditSum held n = (held + n) % 256
+
+-- what is owed: "if flow-controlled and open at the controller (else nothing)", whatever the field says
+abbrev pub owing : Bool → ℕ → ℕ → ℕ
+owing opened grant owed = pick (opened && flows grant) owed 0
+
 -- ---- counts
 
 abbrev pub start : Progress
@@ -44,6 +56,10 @@ start = record { len = 0; lost = false }
 -- no message in hand
 abbrev pub empty : Hand
 empty = record { full = false; len = 0; at = 0 }
+
+-- a message of n octets was put in hand
+abbrev pub handWith : ℕ → Hand
+handWith n = record { full = true; len = n; at = 0 }
 
 abbrev pub emptyRing : Ring
 emptyRing = record { head = 0; count = 0 }

@@ -7,15 +7,15 @@ use lib.ListN.{getD, set}
 use lib.Dec.{eqb, ltb, leb}
 use Rattle.octets.specs.Octets.{pick}
 use Rattle.state.specs.Kinds.{Pair, Pairs, Activation, Rf}
-use Rattle.state.specs.Kinds.rf.{Idle, Discovery, AllDiscoveries, HostSelect, PollActive, ListenActive, ListenSleep}
+use Rattle.state.specs.Kinds.rf.{Idle, Discovery, W4AllDiscoveries, W4HostSelect, PollActive, ListenActive, ListenSleep}
 
 -- ---- states
 
 abbrev pub isIdle : Rf → Bool
 isIdle Idle = true
 isIdle Discovery = false
-isIdle AllDiscoveries = false
-isIdle (HostSelect s) = false
+isIdle W4AllDiscoveries = false
+isIdle (W4HostSelect s) = false
 isIdle (PollActive a) = false
 isIdle (ListenActive a) = false
 isIdle ListenSleep = false
@@ -23,8 +23,8 @@ isIdle ListenSleep = false
 abbrev pub isListening : Rf → Bool
 isListening Idle = false
 isListening Discovery = false
-isListening AllDiscoveries = false
-isListening (HostSelect s) = false
+isListening W4AllDiscoveries = false
+isListening (W4HostSelect s) = false
 isListening (PollActive b) = false
 isListening (ListenActive b) = true
 isListening ListenSleep = false
@@ -32,8 +32,8 @@ isListening ListenSleep = false
 abbrev pub isAsleep : Rf → Bool
 isAsleep Idle = false
 isAsleep Discovery = false
-isAsleep AllDiscoveries = false
-isAsleep (HostSelect s) = false
+isAsleep W4AllDiscoveries = false
+isAsleep (W4HostSelect s) = false
 isAsleep (PollActive b) = false
 isAsleep (ListenActive b) = false
 isAsleep ListenSleep = true
@@ -41,8 +41,8 @@ isAsleep ListenSleep = true
 abbrev pub isActive : Rf → Bool
 isActive Idle = false
 isActive Discovery = false
-isActive AllDiscoveries = false
-isActive (HostSelect s) = false
+isActive W4AllDiscoveries = false
+isActive (W4HostSelect s) = false
 isActive (PollActive b) = true
 isActive (ListenActive b) = true
 isActive ListenSleep = false

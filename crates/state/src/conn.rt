@@ -8,7 +8,10 @@ use crate::kinds::Progress;
 use crate::kinds::Ring;
 use crate::kinds::Terms;
 ghost use mathlib.Core.Path.{_≡_};
-ghost use Rattle.state.specs.Conn.{placeOf, connOf, termsOf, heldOpen, openAt, start, empty, closedController, openedController, closedHost, openedHost, withController, withHost, shutAt, openedAt, allShut, leftAt, joinedAt, allLeft};
+ghost use Rattle.state.specs.Conn.{placeOf, connOf, termsOf, metered, creditSum, owing, countsOf, heldOpen, openAt, start, empty, handWith, closedController, openedController, closedHost, openedHost, withController, withHost, shutAt, openedAt, allShut, leftAt, joinedAt, allLeft};
+
+// The credits octet for no flow control.
+pub const UNMETERED: u8 = 255;
 
 // The place of a Conn ID in the array of five; 5 for an ID that no connection has.
 pub fn place_of(conn: u8) -> usize
@@ -50,30 +53,63 @@ pub fn terms_of(p: Profile, conn: u8) -> Terms
     }
 }
 
-// Whether a Conn ID is open at the controller.
-pub fn open_at(conns: [Counts; 5], conn: u8) -> bool
-    ensures { λ r. ⌜ r ≡ openAt conns conn ⌝ }
+// The credits that a grant counts for: without flow control none.
+pub fn metered(grant: u8) -> u8
+    ensures { λ r. ⌜ r ≡ metered grant ⌝ }
+{
+    if grant == UNMETERED { 0 } else { grant }
+}
+
+// A sum of credits, which is an octet.
+pub fn credit_sum(held: u8, n: usize) -> u8
+    ensures { λ r. ⌜ r ≡ creditSum held n ⌝ }
+{
+    ((held as usize + n % 256) % 256) as u8
+}
+
+// What is owed on a connection, if it is open at the controller and flow-controlled.
+pub fn owing(k: ControllerSide) -> u8
+    ensures { λ r. ⌜ r ≡ owing (k .opened) (k .grant) (k .owed) ⌝ }
+{
+    if k.opened & (k.grant != UNMETERED) {
+        k.owed
+    } else {
+        0
+    }
+}
+
+// The counts of a Conn ID; those of a closed connection for an ID that no connection has.
+pub fn counts_of(conns: [Counts; 5], conn: u8) -> Counts
+    ensures { λ r. ⌜ r ≡ countsOf conns conn ⌝ }
 {
     let place = place_of(conn);
     if place < 5 {
         let c = conns[place];
-        c.controller.opened
+        c
     } else {
-        false
+        let host = closed_host();
+        let controller = closed_controller();
+        Counts {
+            host: host,
+            controller: controller,
+        }
     }
+}
+
+// Whether a Conn ID is open at the controller.
+pub fn open_at(conns: [Counts; 5], conn: u8) -> bool
+    ensures { λ r. ⌜ r ≡ openAt conns conn ⌝ }
+{
+    let c = counts_of(conns, conn);
+    c.controller.opened
 }
 
 // Whether a Conn ID is open at the host.
 pub fn held_open(conns: [Counts; 5], conn: u8) -> bool
     ensures { λ r. ⌜ r ≡ heldOpen conns conn ⌝ }
 {
-    let place = place_of(conn);
-    if place < 5 {
-        let c = conns[place];
-        c.host.opened
-    } else {
-        false
-    }
+    let c = counts_of(conns, conn);
+    c.host.opened
 }
 
 // No octet reassembled yet.
@@ -93,6 +129,17 @@ pub fn empty_hand() -> Hand
     Hand {
         full: false,
         len: 0,
+        at: 0,
+    }
+}
+
+// A message of n octets was put in hand.
+pub fn hand_with(n: usize) -> Hand
+    ensures { λ r. ⌜ r ≡ handWith n ⌝ }
+{
+    Hand {
+        full: true,
+        len: n,
         at: 0,
     }
 }

@@ -35,8 +35,8 @@ pub enum Selection {
 pub enum Rf {
     Idle,
     Discovery,
-    AllDiscoveries,
-    HostSelect(Selection),
+    W4AllDiscoveries,
+    W4HostSelect(Selection),
     PollActive(Activation),
     ListenActive(Activation),
     ListenSleep,

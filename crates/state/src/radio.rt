@@ -12,8 +12,8 @@ pub fn is_idle(rf: Rf) -> bool
     match rf {
         Rf::Idle => true,
         Rf::Discovery => false,
-        Rf::AllDiscoveries => false,
-        Rf::HostSelect(_) => false,
+        Rf::W4AllDiscoveries => false,
+        Rf::W4HostSelect(_) => false,
         Rf::PollActive(_) => false,
         Rf::ListenActive(_) => false,
         Rf::ListenSleep => false,
@@ -26,8 +26,8 @@ pub fn is_listening(rf: Rf) -> bool
     match rf {
         Rf::Idle => false,
         Rf::Discovery => false,
-        Rf::AllDiscoveries => false,
-        Rf::HostSelect(_) => false,
+        Rf::W4AllDiscoveries => false,
+        Rf::W4HostSelect(_) => false,
         Rf::PollActive(_) => false,
         Rf::ListenActive(_) => true,
         Rf::ListenSleep => false,
@@ -40,8 +40,8 @@ pub fn is_asleep(rf: Rf) -> bool
     match rf {
         Rf::Idle => false,
         Rf::Discovery => false,
-        Rf::AllDiscoveries => false,
-        Rf::HostSelect(_) => false,
+        Rf::W4AllDiscoveries => false,
+        Rf::W4HostSelect(_) => false,
         Rf::PollActive(_) => false,
         Rf::ListenActive(_) => false,
         Rf::ListenSleep => true,
@@ -54,8 +54,8 @@ pub fn is_active(rf: Rf) -> bool
     match rf {
         Rf::Idle => false,
         Rf::Discovery => false,
-        Rf::AllDiscoveries => false,
-        Rf::HostSelect(_) => false,
+        Rf::W4AllDiscoveries => false,
+        Rf::W4HostSelect(_) => false,
         Rf::PollActive(_) => true,
         Rf::ListenActive(_) => true,
         Rf::ListenSleep => false,

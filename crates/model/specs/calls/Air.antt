@@ -12,7 +12,7 @@ use Rattle.model.specs.Kinds.aired.{Refused, Goes, Activates, Ends, Spea
 use Rattle.state.specs.Conn.{termsOf}
 use Rattle.air.specs.Air.{eventOf, airedBy, airMessage, controllerAired}
 use Rattle.model.specs.Connection.{Connection, withController, spoken}
-use Rattle.model.specs.Packets.{noticePackets}
+use Rattle.messages.specs.Packets.{noticePackets}
 use Rattle.model.specs.State.{State, at, withConns, withControllerState}
 use Rattle.model.specs.Effects.{Effect, puttingUp}
 use Rattle.model.specs.Refusals.{Rule, rule, isNil, full}

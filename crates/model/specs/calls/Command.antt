@@ -8,11 +8,11 @@ use lib.ListN.{length}
 use Rattle.octets.specs.Octets.{Octets}
 use Rattle.packets.specs.Segments.{segments, packetsOf}
 use Rattle.model.specs.Kinds.pending as pending
-use Rattle.dh.specs.Host.{askedOf}
-use Rattle.model.specs.Packets.{controlHeader}
+use Rattle.dh.specs.Host.{askedOf, isBusy}
+use Rattle.packets.specs.Headers.{controlHeader}
 use Rattle.model.specs.State.{State, withHostState}
 use Rattle.model.specs.Effects.{Effect, puttingDown}
-use Rattle.model.specs.Refusals.{Rule, rule, full, isBusy}
+use Rattle.model.specs.Refusals.{Rule, rule, full}
 
 abbrev pub commanding : ℕ → ℕ → Octets → State → Effect
 commanding gid oid m s =

@@ -10,7 +10,7 @@ use Rattle.packets.specs.Reassembly.{Run, grown, finished, flagged}
 use Rattle.state.specs.Conn.{flows}
 use Rattle.state.specs.Runs.{dataLimit}
 use Rattle.model.specs.Connection.{withController, consumed}
-use Rattle.model.specs.Packets.{Meaning, datum, control, junk, meaning}
+use Rattle.wires.specs.Meaning.{Meaning, datum, control, junk, meaning}
 use Rattle.model.specs.State.{State, isOpen, at, withConns}
 use Rattle.model.specs.Effects.{Effect, quiet, puttingUp}
 use Rattle.model.specs.Refusals.{Rule, rule, isNil, noConn, full}

@@ -6,7 +6,7 @@ use mathlib.Core.List.{List, [], _∷_, map}
 use lib.Dec.{eqb}
 use Rattle.messages.specs.Layout.{creditsNtf}
 use Rattle.model.specs.Connection.{withController, noticed}
-use Rattle.model.specs.Packets.{noticePacket}
+use Rattle.messages.specs.Packets.{noticePacket}
 use Rattle.model.specs.State.{State, withConns}
 use Rattle.model.specs.Effects.{Effect, puttingUp}
 use Rattle.model.specs.Refusals.{Rule, rule, full, ids}

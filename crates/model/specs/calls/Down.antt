@@ -11,7 +11,8 @@ use Rattle.model.specs.Kinds.{Profile, Verdict}
 use Rattle.nfcc.specs.Controller.{judgeOf, controllerAfter}
 use Rattle.messages.specs.Layout.{responseMessage, noticeMessage}
 use Rattle.model.specs.Connection.{withController, stored}
-use Rattle.model.specs.Packets.{responsePacket, noticePackets, Meaning, datum, control, junk, meaning}
+use Rattle.messages.specs.Packets.{responsePacket, noticePackets}
+use Rattle.wires.specs.Meaning.{Meaning, datum, control, junk, meaning}
 use Rattle.model.specs.State.{State, isOpen, at, withConns, withDown, withControllerState, withAsking}
 use Rattle.model.specs.Effects.{Effect, quiet, flaggedAs, puttingUp}
 use Rattle.model.specs.Refusals.{Rule, rule, isNil, full}

@@ -7,10 +7,11 @@ use lib.Dec.{eqb}
 use Rattle.packets.specs.Segments.{Segment, segmentPacket}
 use Rattle.state.specs.Conn.{flows}
 use Rattle.model.specs.Connection.{withHost, pushed}
-use Rattle.model.specs.Packets.{dataHeader}
+use Rattle.packets.specs.Headers.{dataHeader}
 use Rattle.model.specs.State.{State, at, withConns}
 use Rattle.model.specs.Effects.{Effect, quiet, puttingDown}
-use Rattle.model.specs.Refusals.{Rule, rule, isNil, noConn, full, isClosing, isHeld}
+use Rattle.model.specs.Refusals.{Rule, rule, isNil, noConn, full, isHeld}
+use Rattle.dh.specs.Host.{isClosing}
 
 abbrev pub pushing : ℕ → List Segment → State → Effect
 pushing c [] s = quiet s

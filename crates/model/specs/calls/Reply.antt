@@ -4,7 +4,7 @@ use mathlib.Core.Bool.{false}
 use mathlib.Core.List.{List, [], _∷_}
 use Rattle.packets.specs.Segments.{Segment, segmentPacket}
 use Rattle.model.specs.Connection.{withController, spoken}
-use Rattle.model.specs.Packets.{dataHeader}
+use Rattle.packets.specs.Headers.{dataHeader}
 use Rattle.model.specs.State.{State, at, withConns}
 use Rattle.model.specs.Effects.{Effect, quiet, puttingUp}
 use Rattle.model.specs.Refusals.{Rule, rule, isNil, full}

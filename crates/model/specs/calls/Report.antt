@@ -6,7 +6,7 @@ use mathlib.Core.List.{List, [], _∷_}
 use lib.ListN.{length, drop}
 use Rattle.octets.specs.Octets.{Octets, pick}
 use Rattle.state.specs.Conn.{flows}
-use Rattle.model.specs.Packets.{dataCount, creditsUp}
+use Rattle.wires.specs.Tally.{dataCount, creditsUp}
 use Rattle.model.specs.State.{State, isOpen}
 use Rattle.model.specs.Effects.{Effect}
 use Rattle.model.specs.Refusals.{Rule, rule, noConn}

@@ -13,7 +13,7 @@ use Rattle.state.specs.Conn.{flows}
 use Rattle.state.specs.Runs.{dataLimit}
 use Rattle.dh.specs.Host.{hearOf, hostAfter, dropHeard}
 use Rattle.model.specs.Connection.{withHost, heardData}
-use Rattle.model.specs.Packets.{Meaning, datum, control, junk, meaning}
+use Rattle.wires.specs.Meaning.{Meaning, datum, control, junk, meaning}
 use Rattle.model.specs.State.{State, at, withConns, withUp, withHostState, withHearing}
 use Rattle.model.specs.Effects.{Effect, quiet, flaggedAs}
 use Rattle.model.specs.Refusals.{Rule, rule, isNil, ids, isHeld}

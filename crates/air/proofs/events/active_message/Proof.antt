@@ -17,22 +17,14 @@ window-requires : tie.Need-window-requires
 window-requires c κs = search needs
 
 activated-ntf-requires : tie.Need-activated-ntf-requires
-activated-ntf-requires c κs =
-    let start = c .before .before .before .before .before in
-    omega (arith, start .pre, ap length (c .window .ensures ∙ cut-rest 4 (start .args .m .now)))
-
-same-length : tie.Need-same-length
-same-length c = search needs
+activated-ntf-requires c κs = omega (arith, c .before .before .before .before .pre, ap length (c .window .ensures ∙ cut-rest 4 (c .before .before .before .before .args .m .now)))
 
 returns : tie.Need-returns
 returns c =
-    let n = c .before .before in
-    let t = n .before .before .before in
-    let a = t .before .before .before .args in
-    let params = n .before .window .ensures ∙ cut-rest 4 (a .m .now) in
-    put-same (λ i. activatedNtf (a .a) (t .terms-of .ensures i) (params i)) (n .activated-ntf .ensures)
+    let a = c .before .before .before .before .before .args in
+    let params = c .before .window .ensures ∙ cut-rest 4 (a .m .now) in
+    put-same (λ i. activatedNtf (a .a) (c .before .before .before .terms-of .ensures i) (params i)) (c .activated-ntf .ensures)
 
 pub active-message-spec : {M : Type 1} → statement M
 active-message-spec =
-    tie.close
-    (tie.spec terms-of-requires window-requires activated-ntf-requires same-length returns)
+    tie.close (tie.spec terms-of-requires window-requires activated-ntf-requires returns)

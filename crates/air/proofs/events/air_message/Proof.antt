@@ -5,6 +5,7 @@ use mathlib.Core.Path.{subst}
 use native.Mathlib.Omega.{arith}
 use lib.ListN.{length, length-append}
 use Rattle.air.specs.Kinds.{Event}
+use Rattle.state.specs.Runs.{controlLimit}
 use Rattle.air.specs.Air.{airMessage}
 use Rattle.messages.proofs.Messages.{put-nothing}
 use borrow.Author.Needs.{needs}
@@ -23,11 +24,10 @@ enum-known-e c = search needs
 found-message-requires : tie.Need-found-message-requires
 unfolding airMessage
 found-message-requires c κs =
-    let event = c .before .before in
-    let start = event .before .before .before .before in
+    let start = c .before .before .before .before .before in
     let a = start .args in
-    let short = subst (λ (x : Event). length (airMessage (a .p) x (a .m .now) .payload) ≤ 43) (event .e .given .1) (start .pre .1) in
-    (start .pre .0, omega (arith, simp length-append at short))
+    let short = subst (λ (x : Event). length (airMessage (a .p) x (a .m .now) .payload) ≤ controlLimit) (c .before .before .e .given .1) (start .pre) in
+    omega (arith, simp length-append at short)
 
 enum-known-e-2 : tie.Need-enum-known-e-2
 enum-known-e-2 c = search needs
@@ -35,11 +35,10 @@ enum-known-e-2 c = search needs
 active-message-requires : tie.Need-active-message-requires
 unfolding airMessage
 active-message-requires c κs =
-    let event = c .before .before in
-    let start = event .before .before .before .before in
+    let start = c .before .before .before .before .before in
     let a = start .args in
-    let short = subst (λ (x : Event). length (airMessage (a .p) x (a .m .now) .payload) ≤ 43) (event .e2 .given .1) (start .pre .1) in
-    (start .pre .0, omega (arith, simp length-append at short))
+    let short = subst (λ (x : Event). length (airMessage (a .p) x (a .m .now) .payload) ≤ controlLimit) (c .before .before .e2 .given .1) (start .pre) in
+    omega (arith, simp length-append at short)
 
 enum-known-e-3 : tie.Need-enum-known-e-3
 enum-known-e-3 c = search needs
@@ -47,11 +46,10 @@ enum-known-e-3 c = search needs
 active-message-requires-2 : tie.Need-active-message-requires-2
 unfolding airMessage
 active-message-requires-2 c κs =
-    let event = c .before .before in
-    let start = event .before .before .before .before in
+    let start = c .before .before .before .before .before in
     let a = start .args in
-    let short = subst (λ (x : Event). length (airMessage (a .p) x (a .m .now) .payload) ≤ 43) (event .e3 .given .1) (start .pre .1) in
-    (start .pre .0, omega (arith, simp length-append at short))
+    let short = subst (λ (x : Event). length (airMessage (a .p) x (a .m .now) .payload) ≤ controlLimit) (c .before .before .e3 .given .1) (start .pre) in
+    omega (arith, simp length-append at short)
 
 enum-told-2 : tie.Need-enum-told-2
 enum-told-2 c = search needs
@@ -87,54 +85,33 @@ returns : tie.Need-returns
 unfolding airMessage
 returns c = rw (c .before .enum-told .given .1) (put-nothing _ _ (c .no-message .ensures))
 
-same-length : tie.Need-same-length
-same-length c = search needs
-
 returns-2 : tie.Need-returns-2
 unfolding airMessage
-returns-2 c = rw (c .before .before .before .before .before .e .given .1) (c .before .before .found-message .ensures)
-
-same-length-2 : tie.Need-same-length-2
-same-length-2 c = search needs
+returns-2 c = rw (c .before .before .before .e .given .1) (c .found-message .ensures)
 
 returns-3 : tie.Need-returns-3
 unfolding airMessage
-returns-3 c = rw (c .before .before .before .before .before .e2 .given .1) (c .before .before .active-message .ensures)
-
-same-length-3 : tie.Need-same-length-3
-same-length-3 c = search needs
+returns-3 c = rw (c .before .before .before .e2 .given .1) (c .active-message .ensures)
 
 returns-4 : tie.Need-returns-4
 unfolding airMessage
-returns-4 c = rw (c .before .before .before .before .before .e3 .given .1) (c .before .before .active-message2 .ensures)
-
-same-length-4 : tie.Need-same-length-4
-same-length-4 c = search needs
+returns-4 c = rw (c .before .before .before .e3 .given .1) (c .active-message2 .ensures)
 
 returns-5 : tie.Need-returns-5
 unfolding airMessage
-returns-5 c = rw (c .before .before .before .before .enum-told2 .given .1) (c .before .before .generic-error-ntf .ensures)
-
-same-length-5 : tie.Need-same-length-5
-same-length-5 c = search needs
+returns-5 c = rw (c .before .before .enum-told2 .given .1) (c .generic-error-ntf .ensures)
 
 returns-6 : tie.Need-returns-6
 unfolding airMessage
-returns-6 c = rw (c .before .before .before .before .enum-told3 .given .1) (c .before .before .deactivate-ntf .ensures)
-
-same-length-6 : tie.Need-same-length-6
-same-length-6 c = search needs
+returns-6 c = rw (c .before .before .enum-told3 .given .1) (c .deactivate-ntf .ensures)
 
 returns-7 : tie.Need-returns-7
 unfolding airMessage
-returns-7 c = rw (c .before .before .before .before .enum-told4 .given .1) (c .before .before .deactivate-ntf2 .ensures)
-
-same-length-7 : tie.Need-same-length-7
-same-length-7 c = search needs
+returns-7 c = rw (c .before .before .enum-told4 .given .1) (c .deactivate-ntf2 .ensures)
 
 returns-8 : tie.Need-returns-8
 unfolding airMessage
-returns-8 c = rw (c .before .before .before .before .enum-told5 .given .1) (c .before .before .deactivate-ntf3 .ensures)
+returns-8 c = rw (c .before .before .enum-told5 .given .1) (c .deactivate-ntf3 .ensures)
 
 returns-9 : tie.Need-returns-9
 unfolding airMessage
@@ -163,18 +140,11 @@ air-message-spec =
     enum-told-6
     no-message-requires-2
     returns
-    same-length
     returns-2
-    same-length-2
     returns-3
-    same-length-3
     returns-4
-    same-length-4
     returns-5
-    same-length-5
     returns-6
-    same-length-6
     returns-7
-    same-length-7
     returns-8
     returns-9)

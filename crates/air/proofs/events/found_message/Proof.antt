@@ -14,19 +14,13 @@ window-requires : tie.Need-window-requires
 window-requires c κs = search needs
 
 discover-ntf-requires : tie.Need-discover-ntf-requires
-discover-ntf-requires c κs =
-    let start = c .before .before .before .before in
-    omega (arith, start .pre, ap length (c .window .ensures ∙ cut-rest 5 (start .args .m .now)))
-
-same-length : tie.Need-same-length
-same-length c = search needs
+discover-ntf-requires c κs = omega (arith, c .before .before .before .pre, ap length (c .window .ensures ∙ cut-rest 5 (c .before .before .before .args .m .now)))
 
 returns : tie.Need-returns
 returns c =
-    let n = c .before .before in
-    let a = n .before .before .before .before .before .args in
-    let params = n .before .window .ensures ∙ cut-rest 5 (a .m .now) in
-    put-same (λ i. discoverNtf (a .a) (a .kind) (params i)) (n .discover-ntf .ensures)
+    let a = c .before .before .before .before .args in
+    let params = c .before .window .ensures ∙ cut-rest 5 (a .m .now) in
+    put-same (λ i. discoverNtf (a .a) (a .kind) (params i)) (c .discover-ntf .ensures)
 
 pub found-message-spec : {M : Type 1} → statement M
-found-message-spec = tie.close (tie.spec window-requires discover-ntf-requires same-length returns)
+found-message-spec = tie.close (tie.spec window-requires discover-ntf-requires returns)

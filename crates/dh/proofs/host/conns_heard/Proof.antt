@@ -33,7 +33,7 @@ enum-told-4 : tie.Need-enum-told-4
 enum-told-4 c = search needs
 
 all-credited-requires : tie.Need-all-credited-requires
-all-credited-requires c κs = c .before .before .before .pre (c .enum-told4 .given .1)
+all-credited-requires c κs = search needs
 
 returns : tie.Need-returns
 unfolding connsHeard

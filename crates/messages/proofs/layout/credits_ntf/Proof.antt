@@ -3,11 +3,11 @@
 use Prim.Native.Nat.{_-_}
 use mathlib.Core.Path.{_≡_, sym, _∙_}
 use native.Mathlib.Omega.{arith}
-use lib.ListN.{length, length-set, length-map, List·getD-map}
+use lib.ListN.{length, length-map, List·getD-map}
 use Rattle.state.specs.declared.kinds.Counts.{Counts}
 use Rattle.state.specs.Conn.{closedCounts}
 use borrow.Author.Needs.{needs}
-use Rattle.messages.specs.Layout.{owedOf}
+use Rattle.messages.specs.Layout.{owedOn, owedOf}
 use Rattle.messages.proofs.Messages.{Entries, entries-none, entries-turn, entries-all}
 use Rattle.messages.proofs.layout.credits_ntf.Statement.{statement}
 use Rattle.messages.proofs.layout.credits_ntf.Tie as tie
@@ -30,10 +30,11 @@ array-copy-out-c c = search needs
 conn-of-requires : tie.Need-conn-of-requires Inv-loop μ-loop
 conn-of-requires c κs = search needs
 
+owing-requires : tie.Need-owing-requires Inv-loop μ-loop
+owing-requires c κs = search needs
+
 entry-requires : tie.Need-entry-requires Inv-loop μ-loop
-entry-requires c κs =
-    let l = c .before .before .before .before in
-    omega (arith, l .loop .inv, l .before .before .pre)
+entry-requires c κs = omega (arith, c .before .before .before .before .before .loop .inv)
 
 add-i : tie.Need-add-i Inv-loop μ-loop
 add-i c = search needs
@@ -43,27 +44,24 @@ loop-less c = search needs
 
 loop-again : tie.Need-loop-again Inv-loop μ-loop
 loop-again c =
-    let e = c .before .before in
-    let l = e .before .before .before .before .before in
-    let a = l .before .before .args in
-    let five : length (a .t2) ≡ 5 = omega (arith, l .before .before .good) in
+    let l = c .before .before .before .before .before .before in
+    let a = l .before .args in
+    let five : length (a .t2) ≡ 5 = omega (arith, l .before .good) in
     entries-turn (owedOf (a .t2)) (length-map (a .t2) _ ∙ five) _ _ _ _ _ _ _ _ (omega arith) (l .loop .inv)
-    (e .before .conn-of .ensures) (sym (List·getD-map (λ (k : Counts). k .controller .owed) (a .t2) (l .loop .i) closedCounts))
-    (e .entry .ensures .0) (e .entry .ensures .1)
+    (c .before .before .conn-of .ensures)
+    (c .before .owing .ensures ∙ sym (List·getD-map (λ (k : Counts). owedOn (k .controller)) (a .t2) (l .loop .i) closedCounts))
+    (c .entry .ensures .0) (c .entry .ensures .1)
 
 cast-out : tie.Need-cast-out Inv-loop μ-loop
 cast-out c = omega (arith, c .before .loop .inv)
 
-slice-write-out : tie.Need-slice-write-out Inv-loop μ-loop
-slice-write-out c = omega (arith, c .before .loop .inv, c .before .before .before .pre)
-
-same-length : tie.Need-same-length Inv-loop μ-loop
-same-length c = simp length-set (c .before .loop .inv .long)
+element-write-out : tie.Need-element-write-out Inv-loop μ-loop
+element-write-out c = omega (arith, c .before .loop .inv)
 
 returns : tie.Need-returns Inv-loop μ-loop
 returns c =
-    let a = c .before .before .before .args in
-    let five : length (a .t2) ≡ 5 = omega (arith, c .before .before .before .good) in
+    let a = c .before .before .args in
+    let five : length (a .t2) ≡ 5 = omega (arith, c .before .before .good) in
     entries-all (a .t2) (length-map (a .t2) _ ∙ five) _ _ _ _ (omega arith) (c .before .loop .inv)
 
 pub credits-ntf-spec : {M : Type 1} → statement M
@@ -76,11 +74,11 @@ credits-ntf-spec =
     mul-c
     array-copy-out-c
     conn-of-requires
+    owing-requires
     entry-requires
     add-i
     loop-less
     loop-again
     cast-out
-    slice-write-out
-    same-length
+    element-write-out
     returns)

@@ -58,12 +58,9 @@ returns : tie.Need-returns
 unfolding noticeMessage
 returns c = rw (c .before .enum-told .given .1) (put-nothing _ _ (c .no-message .ensures))
 
-same-length : tie.Need-same-length
-same-length c = search needs
-
 returns-2 : tie.Need-returns-2
 unfolding noticeMessage
-returns-2 c = rw (c .before .before .before .before .before .v .given .1) (c .before .before .reset-ntf .ensures)
+returns-2 c = rw (c .before .before .before .v .given .1) (c .reset-ntf .ensures)
 
 returns-3 : tie.Need-returns-3
 unfolding noticeMessage
@@ -85,12 +82,9 @@ returns-7 : tie.Need-returns-7
 unfolding noticeMessage
 returns-7 c = rw (c .before .enum-told6 .given .1) (put-nothing _ _ (c .no-message6 .ensures))
 
-same-length-2 : tie.Need-same-length-2
-same-length-2 c = search needs
-
 returns-8 : tie.Need-returns-8
 unfolding noticeMessage
-returns-8 c = rw (c .before .before .before .before .before .v2 .given .1) (c .before .before .deactivate-ntf .ensures)
+returns-8 c = rw (c .before .before .before .v2 .given .1) (c .deactivate-ntf .ensures)
 
 pub notice-spec : {M : Type 1} → statement M
 notice-spec =
@@ -113,12 +107,10 @@ notice-spec =
     enum-known-v-2
     deactivate-ntf-requires
     returns
-    same-length
     returns-2
     returns-3
     returns-4
     returns-5
     returns-6
     returns-7
-    same-length-2
     returns-8)

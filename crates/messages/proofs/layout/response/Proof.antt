@@ -53,61 +53,37 @@ enum-told-6 c = search needs
 status-requires-6 : tie.Need-status-requires-6
 status-requires-6 c κs = search needs
 
-same-length : tie.Need-same-length
-same-length c = search needs
-
 returns : tie.Need-returns
 unfolding responseOf
-returns c = rw (c .before .before .before .before .before .v .given .1) (c .before .before .status .ensures)
-
-same-length-2 : tie.Need-same-length-2
-same-length-2 c = search needs
+returns c = rw (c .before .before .before .v .given .1) (c .status .ensures)
 
 returns-2 : tie.Need-returns-2
 unfolding responseOf
-returns-2 c = rw (c .before .before .before .before .enum-told .given .1) (c .before .before .status2 .ensures)
-
-same-length-3 : tie.Need-same-length-3
-same-length-3 c = search needs
+returns-2 c = rw (c .before .before .enum-told .given .1) (c .status2 .ensures)
 
 returns-3 : tie.Need-returns-3
 unfolding responseOf
-returns-3 c = rw (c .before .before .before .before .enum-told2 .given .1) (c .before .before .init-rsp .ensures)
-
-same-length-4 : tie.Need-same-length-4
-same-length-4 c = search needs
+returns-3 c = rw (c .before .before .enum-told2 .given .1) (c .init-rsp .ensures)
 
 returns-4 : tie.Need-returns-4
 unfolding responseOf
-returns-4 c = rw (c .before .before .before .before .before .v2 .given .1) (c .before .before .create-rsp .ensures)
-
-same-length-5 : tie.Need-same-length-5
-same-length-5 c = search needs
+returns-4 c = rw (c .before .before .before .v2 .given .1) (c .create-rsp .ensures)
 
 returns-5 : tie.Need-returns-5
 unfolding responseOf
-returns-5 c = rw (c .before .before .before .before .enum-told3 .given .1) (c .before .before .status3 .ensures)
-
-same-length-6 : tie.Need-same-length-6
-same-length-6 c = search needs
+returns-5 c = rw (c .before .before .enum-told3 .given .1) (c .status3 .ensures)
 
 returns-6 : tie.Need-returns-6
 unfolding responseOf
-returns-6 c = rw (c .before .before .before .before .enum-told4 .given .1) (c .before .before .status4 .ensures)
-
-same-length-7 : tie.Need-same-length-7
-same-length-7 c = search needs
+returns-6 c = rw (c .before .before .enum-told4 .given .1) (c .status4 .ensures)
 
 returns-7 : tie.Need-returns-7
 unfolding responseOf
-returns-7 c = rw (c .before .before .before .before .enum-told5 .given .1) (c .before .before .status5 .ensures)
-
-same-length-8 : tie.Need-same-length-8
-same-length-8 c = search needs
+returns-7 c = rw (c .before .before .enum-told5 .given .1) (c .status5 .ensures)
 
 returns-8 : tie.Need-returns-8
 unfolding responseOf
-returns-8 c = rw (c .before .before .before .before .enum-told6 .given .1) (c .before .before .status6 .ensures)
+returns-8 c = rw (c .before .before .enum-told6 .given .1) (c .status6 .ensures)
 
 pub response-spec : {M : Type 1} → statement M
 response-spec =
@@ -129,19 +105,11 @@ response-spec =
     status-requires-5
     enum-told-6
     status-requires-6
-    same-length
     returns
-    same-length-2
     returns-2
-    same-length-3
     returns-3
-    same-length-4
     returns-4
-    same-length-5
     returns-5
-    same-length-6
     returns-6
-    same-length-7
     returns-7
-    same-length-8
     returns-8)

@@ -1,36 +1,18 @@
 -- `state::conn::held_open` meets its contract.
 -- Assumes nothing.
-use Prim.Native.Nat.{_≤_, ℕ}
-use mathlib.Core.Path.{sym, ap}
-use native.Mathlib.Omega.{arith}
-use lib.ListN.{length, getD, List·getD-eq-default}
+use mathlib.Core.Path.{ap}
 use Rattle.state.specs.Kinds.{Counts}
-use Rattle.state.specs.Conn.{placeOf, heldOpen, closedCounts}
+use Rattle.state.specs.Conn.{heldOpen}
 use borrow.Author.Needs.{needs}
 use Rattle.state.proofs.conn.held_open.Statement.{statement}
 use Rattle.state.proofs.conn.held_open.Tie as tie
 
-place-of-requires : tie.Need-place-of-requires
-place-of-requires c κs = search needs
-
-mul-c : tie.Need-mul-c
-mul-c c = search needs
-
-array-copy-out-c : tie.Need-array-copy-out-c
-array-copy-out-c c = search needs
+counts-of-requires : tie.Need-counts-of-requires
+counts-of-requires c κs = search needs
 
 returns : tie.Need-returns
 unfolding heldOpen
-returns c =
-    let a = c .before .before .before .args in
-    ap (λ (p : ℕ). getD (a .t1) p closedCounts .host .opened) (c .before .before .place-of .ensures)
-
-returns-2 : tie.Need-returns-2
-unfolding heldOpen
-returns-2 c =
-    let a = c .before .before .args in
-    let past : length (a .t1) ≤ placeOf (a .conn) = omega (arith, c .before .place-of .ensures, c .before .before .fits) in
-    sym (ap (λ (k : Counts). k .host .opened) (List·getD-eq-default (a .t1) closedCounts past))
+returns c = ap (λ (k : Counts). k .host .opened) (c .counts-of .ensures)
 
 pub held-open-spec : {M : Type 1} → statement M
-held-open-spec = tie.close (tie.spec place-of-requires mul-c array-copy-out-c returns returns-2)
+held-open-spec = tie.close (tie.spec counts-of-requires returns)
