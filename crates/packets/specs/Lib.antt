@@ -1,4 +1,3 @@
 pub mod Packet
 pub mod Segments
 pub mod Reassembly
-pub mod Table
