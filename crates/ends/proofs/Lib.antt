@@ -1,4 +1,3 @@
 pub mod CreditNotice
 pub mod RoundTrips
 pub mod Backwards
-pub mod Whole

@@ -1,4 +1,3 @@
 pub mod Kinds
 pub mod RoundTrips
 pub mod Backwards
-pub mod Table

@@ -22,3 +22,5 @@ pub mod Sizes
 pub mod Shaped
 pub mod WellFormed
 pub mod DataOpen
+pub mod Whole
+pub mod Limits

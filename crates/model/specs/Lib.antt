@@ -10,3 +10,5 @@ pub mod Bench
 pub mod Observer
 pub mod Claim
 pub mod Reachable
+pub mod Table
+pub mod Limits

@@ -2,4 +2,3 @@ pub mod Packet
 pub mod RoundTrip
 pub mod Segments
 pub mod Reassembly
-pub mod Table

@@ -2,4 +2,3 @@ pub mod Packet
 pub mod Headers
 pub mod Segments
 pub mod Reassembly
-pub mod Table

@@ -5,12 +5,16 @@ use dh::host;
 use dh::host::Answer;
 use dh::host::Heard;
 use packets::Reading;
+use state::conn;
 use state::kinds::Asked;
 use state::kinds::Pending;
 ghost use mathlib.Core.Path.{_≡_};
 ghost use Prim.Native.Nat.{_+_, _≤_, _<_};
 ghost use lib.ListN.{length};
+ghost use lib.Dec.{eqb};
+ghost use Rattle.octets.specs.Octets.{pick};
 ghost use Rattle.area.specs.Ring.{trim, packetsFrom};
+ghost use Rattle.state.specs.Conn.{metered};
 ghost use Rattle.dh.specs.Host.{creditsFor};
 ghost use Rattle.wires.specs.Tally.{says, creditsSaid, creditsOn, creditsUp};
 
@@ -29,6 +33,13 @@ fn said(mt: u8, gid: u8, oid: u8, m: &[u8]) -> Heard
     if ours { x } else { Heard::Nothing }
 }
 
+// The credits that an opening of connection id has for the connection: the grant, which counts as nothing without flow control.
+fn granted(id: u8, credits: u8, conn: u8) -> u8
+    ensures { λ r. ⌜ r ≡ pick (eqb id conn) (metered credits) 0 ⌝ }
+{
+    if id == conn { conn::metered(credits) } else { 0 }
+}
+
 // The credits that a response has for the connection.
 fn answer_credits(a: Answer, m: &[u8], conn: u8) -> u8
     ensures { λ r. ⌜ r ≡ creditsSaid conn (now (m .entry)) (Heard.Answered a) ⌝ }
@@ -37,7 +48,7 @@ fn answer_credits(a: Answer, m: &[u8], conn: u8) -> u8
         Answer::Done => 0,
         Answer::ClosesAll => 0,
         Answer::Sized(_) => 0,
-        Answer::Opens(id, t) => if id == conn { t.credits } else { 0 },
+        Answer::Opens(id, t) => granted(id, t.credits, conn),
         Answer::Closes(_) => 0,
     }
 }
@@ -51,7 +62,7 @@ fn said_credits(x: Heard, m: &[u8], conn: u8) -> u8
         Heard::Nothing => 0,
         Heard::Dropped => 0,
         Heard::Answered(a) => answer_credits(a, m, conn),
-        Heard::Activated(t) => if conn == 0 { t.credits } else { 0 },
+        Heard::Activated(t) => granted(0, t.credits, conn),
         Heard::Deactivated => 0,
         Heard::Credits => host::credits_for(m, conn) as u8,
     }

@@ -1,8 +1,6 @@
 -- `wires::up::said_credits` meets its contract: at each arm what was heard is told; a notice's credits fit an octet by the condition.
 -- Assumes nothing.
-use mathlib.Core.Path.{sym}
 use native.Mathlib.Omega.{arith}
-use borrow.Author.Tests.{eq-eqb, ne-eqb}
 use borrow.Author.Needs.{needs}
 use Rattle.wires.proofs.up.said_credits.Statement.{statement}
 use Rattle.wires.proofs.up.said_credits.Tie as tie
@@ -21,6 +19,9 @@ answer-credits-requires c κs = search needs
 
 enum-known-x-2 : tie.Need-enum-known-x-2
 enum-known-x-2 c = search needs
+
+granted-requires : tie.Need-granted-requires
+granted-requires c κs = search needs
 
 enum-told-3 : tie.Need-enum-told-3
 enum-told-3 c = search needs
@@ -44,16 +45,13 @@ returns-3 : tie.Need-returns-3
 returns-3 c = rw (c .before .before .x .given .1) (c .answer-credits .ensures)
 
 returns-4 : tie.Need-returns-4
-returns-4 c = rw (c .before .before .x2 .given .1, eq-eqb _ _ (sym (c .if1 .taken)))
+returns-4 c = rw (c .before .before .x2 .given .1) (c .granted .ensures)
 
 returns-5 : tie.Need-returns-5
-returns-5 c = rw (c .before .before .x2 .given .1, ne-eqb _ _ (λ e. c .if1 .left (sym e)))
+returns-5 c = search needs
 
 returns-6 : tie.Need-returns-6
-returns-6 c = search needs
-
-returns-7 : tie.Need-returns-7
-returns-7 c = rw (c .before .enum-told4 .given .1) (c .credits-for .ensures)
+returns-6 c = rw (c .before .enum-told4 .given .1) (c .credits-for .ensures)
 
 pub said-credits-spec : {M : Type 1} → statement M
 said-credits-spec =
@@ -64,6 +62,7 @@ said-credits-spec =
     enum-known-x
     answer-credits-requires
     enum-known-x-2
+    granted-requires
     enum-told-3
     enum-told-4
     credits-for-requires
@@ -73,5 +72,4 @@ said-credits-spec =
     returns-3
     returns-4
     returns-5
-    returns-6
-    returns-7)
+    returns-6)

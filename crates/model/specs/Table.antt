@@ -1,0 +1,146 @@
+-- Document 01's proved table, whole: payload 4, credits 2. Each row is played on the bench by its own calls, and shows for every call
+-- what it answers and puts on the wires. The first call is fresh, so a row holds whatever the bench was before.
+-- Assumes nothing.
+use Prim.Native.Nat.{ℕ}
+use mathlib.Core.Path.{_≡_}
+use mathlib.Core.Bool.{false}
+use mathlib.Core.List.{List, [], _∷_, _++_, map}
+use Rattle.octets.specs.Octets.{Octets}
+use Rattle.model.specs.State.{State, cold, withDown}
+use Rattle.model.specs.Effects.{Call, fresh, command, send, push, down, consume, credit, air, up, report, taken, refused}
+use Rattle.model.specs.Bench.{step}
+use Rattle.model.specs.Observer.{Event, eventOf, events, after}
+
+-- ---- calls with what is seen of them
+
+-- the call is taken: the packets put on the down wire, those put on the up wire, the messages handed out; no drop flag
+abbrev pub shows : Call → List Octets → List Octets → List Octets → Event
+shows c d u ms = record { call = c; answer = taken; dropped = false; toDown = d; toUp = u; message = ms }
+
+-- one packet goes on the down wire, or one on the up wire, or nothing is to be seen
+abbrev pub goesDown : Call → Octets → Event
+goesDown c p = shows c (p ∷ []) [] []
+
+abbrev pub goesUp : Call → Octets → Event
+goesUp c p = shows c [] (p ∷ []) []
+
+abbrev pub quietly : Call → Event
+quietly c = shows c [] [] []
+
+-- the call is not taken
+abbrev pub refusal : Call → ℕ → Event
+refusal c n = record { call = c; answer = refused n; dropped = false; toDown = []; toUp = []; message = [] }
+
+abbrev pub callsOf : List Event → List Call
+callsOf es = map (λ (e : Event). e .call) es
+
+-- on any bench, the calls one after the other show just this
+abbrev pub Plays : List Event → Type 0
+Plays es = (s : State) → events (callsOf es) s ≡ es
+
+-- on a bench after these calls, the command is the packet p on the down wire, and p gives the packet q on the up wire, nothing else
+pub record Gives (before : List Event) (gid oid : ℕ) (payload p q : Octets) : Type 0 where
+  -- by the calls
+  pub called : Plays (before ++ goesDown (command gid oid payload) p ∷ goesUp down q ∷ [])
+  -- with p first on the down wire, whatever lies behind it
+  pub taken-first : (s : State) (w : List Octets) → eventOf down (step down (withDown (p ∷ w) (after (callsOf before) s))) ≡ goesUp down q
+
+-- ---- what comes before the rows
+
+-- fresh with a profile of control payload 0x20, RESET, INIT: the controller is in IDLE
+abbrev pub readyWith : Octets → List Event
+readyWith profile =
+    quietly (fresh profile)
+    ∷ goesDown (command 0x0 0x00 (0x01 ∷ [])) (0x20 ∷ 0x00 ∷ 0x01 ∷ 0x01 ∷ [])
+    ∷ shows down [] ((0x40 ∷ 0x00 ∷ 0x01 ∷ 0x00 ∷ []) ∷ (0x60 ∷ 0x00 ∷ 0x05 ∷ 0x02 ∷ 0x01 ∷ 0x20 ∷ 0x00 ∷ 0x00 ∷ []) ∷ []) []
+    ∷ quietly up
+    ∷ quietly up
+    ∷ goesDown (command 0x0 0x01 (0x00 ∷ 0x00 ∷ [])) (0x20 ∷ 0x01 ∷ 0x02 ∷ 0x00 ∷ 0x00 ∷ [])
+    ∷ goesUp down (0x40 ∷ 0x01 ∷ 0x10 ∷ 0x00 ∷ 0x00 ∷ 0x00 ∷ 0x00 ∷ 0x00 ∷ 0x04 ∷ 0x00 ∷ 0x00 ∷ 0x20 ∷ 0x00 ∷ 0x00 ∷ 0x00 ∷ 0x00 ∷ 0x01 ∷ 0x01 ∷ 0x00 ∷ [])
+    ∷ quietly up
+    ∷ []
+
+-- the table's profile: payload 4 and 2 credits on 2-5
+abbrev pub profile : Octets
+profile = 0x20 ∷ 0x04 ∷ 0x02 ∷ 0x04 ∷ 0x01 ∷ []
+
+abbrev pub ready : List Event
+ready = readyWith profile
+
+-- CONN_CREATE: connection 2 is open at both ends
+abbrev pub onTwo : List Event
+onTwo =
+    ready
+    ++ goesDown (command 0x0 0x04 (0x01 ∷ 0x00 ∷ [])) (0x20 ∷ 0x04 ∷ 0x02 ∷ 0x01 ∷ 0x00 ∷ [])
+    ∷ goesUp down (0x40 ∷ 0x04 ∷ 0x04 ∷ 0x00 ∷ 0x04 ∷ 0x02 ∷ 0x02 ∷ [])
+    ∷ quietly up
+    ∷ []
+
+-- octets 01-09 on 2: two packets spend both credits; the controller consumes them, and as 2 is a loopback they go up again
+abbrev pub twoConsumed : List Event
+twoConsumed =
+    onTwo
+    ++ quietly (send 2 (0x01 ∷ 0x02 ∷ 0x03 ∷ 0x04 ∷ 0x05 ∷ 0x06 ∷ 0x07 ∷ 0x08 ∷ 0x09 ∷ []))
+    ∷ goesDown (push 2) (0x12 ∷ 0x00 ∷ 0x04 ∷ 0x01 ∷ 0x02 ∷ 0x03 ∷ 0x04 ∷ [])
+    ∷ goesDown (push 2) (0x12 ∷ 0x00 ∷ 0x04 ∷ 0x05 ∷ 0x06 ∷ 0x07 ∷ 0x08 ∷ [])
+    ∷ refusal (push 2) 9
+    ∷ quietly down
+    ∷ quietly down
+    ∷ goesUp (consume 2) (0x12 ∷ 0x00 ∷ 0x04 ∷ 0x01 ∷ 0x02 ∷ 0x03 ∷ 0x04 ∷ [])
+    ∷ goesUp (consume 2) (0x12 ∷ 0x00 ∷ 0x04 ∷ 0x05 ∷ 0x06 ∷ 0x07 ∷ 0x08 ∷ [])
+    ∷ []
+
+-- connection 0 is closed: it has no report
+abbrev pub zeroClosed : List Event
+zeroClosed = ready ++ refusal (report 0) 6 ∷ []
+
+-- DISCOVER and a poll activation: connection 0 is open, and its one credit is with the host
+abbrev pub zeroOpen : List Event
+zeroOpen =
+    ready
+    ++ goesDown (command 0x1 0x03 (0x01 ∷ 0x00 ∷ 0x01 ∷ [])) (0x21 ∷ 0x03 ∷ 0x03 ∷ 0x01 ∷ 0x00 ∷ 0x01 ∷ [])
+    ∷ goesUp down (0x41 ∷ 0x03 ∷ 0x01 ∷ 0x00 ∷ [])
+    ∷ quietly up
+    ∷ goesUp (air (0x02 ∷ 0x01 ∷ 0x04 ∷ 0x00 ∷ [])) (0x61 ∷ 0x05 ∷ 0x0B ∷ 0x01 ∷ 0x01 ∷ 0x04 ∷ 0x00 ∷ 0x04 ∷ 0x01 ∷ 0x00 ∷ 0x00 ∷ 0x00 ∷ 0x00 ∷ 0x00 ∷ [])
+    ∷ quietly up
+    ∷ shows (report 0) [] [] ((0x01 ∷ 0x00 ∷ 0x00 ∷ 0x00 ∷ 0x00 ∷ []) ∷ [])
+    ∷ []
+
+-- ---- the table, in the words of document 01
+
+pub record Table : Type 0 where
+  -- "payload 4, credits 2": fresh makes any bench a cold one with these
+  pub start : (s : State)
+      → after (fresh profile ∷ []) s
+      ≡ cold (record { control = 32; dynamic = record { payload = 4; credits = 2 }; fixed = record { payload = 4; credits = 1 } })
+  -- "empty message on 2: 02 00 00"; then nothing is left to move
+  pub empty : Plays (onTwo ++ quietly (send 2 []) ∷ goesDown (push 2) (0x02 ∷ 0x00 ∷ 0x00 ∷ []) ∷ refusal (push 2) 8 ∷ [])
+  -- "Octets 01-09: 12 00 04 01 02 03 04, 12 00 04 05 06 07 08, 02 00 01 09"; the third goes with a credit that came back
+  pub nine : Plays
+      (twoConsumed
+      ++ goesUp credit (0x60 ∷ 0x06 ∷ 0x03 ∷ 0x01 ∷ 0x02 ∷ 0x02 ∷ [])
+      ∷ quietly up
+      ∷ quietly up
+      ∷ quietly up
+      ∷ goesDown (push 2) (0x02 ∷ 0x00 ∷ 0x01 ∷ 0x09 ∷ [])
+      ∷ refusal (push 2) 8
+      ∷ [])
+  -- "Eight octets: two packets, the second with PBF 0"
+  pub eight : Plays
+      (onTwo
+      ++ quietly (send 2 (0x01 ∷ 0x02 ∷ 0x03 ∷ 0x04 ∷ 0x05 ∷ 0x06 ∷ 0x07 ∷ 0x08 ∷ []))
+      ∷ goesDown (push 2) (0x12 ∷ 0x00 ∷ 0x04 ∷ 0x01 ∷ 0x02 ∷ 0x03 ∷ 0x04 ∷ [])
+      ∷ goesDown (push 2) (0x02 ∷ 0x00 ∷ 0x04 ∷ 0x05 ∷ 0x06 ∷ 0x07 ∷ 0x08 ∷ [])
+      ∷ refusal (push 2) 8
+      ∷ [])
+  -- "20 04 02 01 00 gives 40 04 04 00 04 02 02"
+  pub create : Gives ready 0x0 0x04 (0x01 ∷ 0x00 ∷ []) (0x20 ∷ 0x04 ∷ 0x02 ∷ 0x01 ∷ 0x00 ∷ []) (0x40 ∷ 0x04 ∷ 0x04 ∷ 0x00 ∷ 0x04 ∷ 0x02 ∷ 0x02 ∷ [])
+  -- "Two credits to 2: 60 06 03 01 02 02"
+  pub credits : Plays (twoConsumed ++ goesUp credit (0x60 ∷ 0x06 ∷ 0x03 ∷ 0x01 ∷ 0x02 ∷ 0x02 ∷ []) ∷ [])
+  -- "20 3F 00 gives 40 3F 01 05"
+  pub unknown : Gives ready 0x0 0x3F [] (0x20 ∷ 0x3F ∷ 0x00 ∷ []) (0x40 ∷ 0x3F ∷ 0x01 ∷ 0x05 ∷ [])
+  -- "Deactivate in IDLE 41 06 01 06", whatever the type
+  pub deactivate : (type : ℕ) → Gives ready 0x1 0x06 (type ∷ []) (0x21 ∷ 0x06 ∷ 0x01 ∷ type ∷ []) (0x41 ∷ 0x06 ∷ 0x01 ∷ 0x06 ∷ [])
+  -- "Closing 0: 40 05 01 01", while 0 is closed and while it is open
+  pub close-closed : Gives zeroClosed 0x0 0x05 (0x00 ∷ []) (0x20 ∷ 0x05 ∷ 0x01 ∷ 0x00 ∷ []) (0x40 ∷ 0x05 ∷ 0x01 ∷ 0x01 ∷ [])
+  pub close-open : Gives zeroOpen 0x0 0x05 (0x00 ∷ []) (0x20 ∷ 0x05 ∷ 0x01 ∷ 0x00 ∷ []) (0x40 ∷ 0x05 ∷ 0x01 ∷ 0x01 ∷ [])
