@@ -5,6 +5,7 @@
                           packets of tests/data/nci-vectors.txt with the packets that it names for them
     answers.py --stdin    prints the program's input: commands, events of the air, credits owed, and packets to the host
     answers.py --stdout   prints what the program has to write
+    answers.py --ahead    prints the lines of forms that the program does not read yet, each with its answer
 
 The rules are those of ends_rules.py, the lines those of ends_cases.py and the vectors'."""
 import re
@@ -13,9 +14,9 @@ from dataclasses import replace
 from pathlib import Path
 
 from ends_cases import (
-    STATES, awaiting, choices, conn_ids, credit_notices, digits, discoveries, event, events, everywhere,
-    forms, lengths, line_out, notices, other_packets, owed, pairs_found, responses, selections, to_controller,
-    to_host, unknown, values,
+    STATES, awaiting, choices, conn_ids, counts_forms, counts_held, counts_owed, credit_notices, digits, discoveries,
+    event, events, everywhere, forms, lengths, line_out, notices, other_packets, owed, pairs_found, responses,
+    selections, to_controller, to_host, unknown, values,
 )
 from ends_rules import COLD, DISCOVERY, IDLE, LISTEN_SLEEP, RESET, State, W4_HOST_SELECT, opened
 from stored import run
@@ -141,6 +142,13 @@ def lines_in(vectors):
     yield to_controller("last", State(), 0, 0, b"\x00")
 
 
+def lines_ahead():
+    """Counts of credits, also of connections that are closed or without flow control. The program has no lines that
+    give or show such counts; these go into lines_in when it has."""
+    for made in (counts_owed, counts_held, counts_forms):
+        yield from made()
+
+
 def fields_of(line):
     return dict(field.split("=", 1) for field in line.split(" ") if "=" in field)
 
@@ -163,6 +171,10 @@ def check_vectors(vectors, stored):
 
 
 def main():
+    if sys.argv[1:] == ["--ahead"]:
+        for line in lines_ahead():
+            print(line, line_out(line), sep="\n")
+        return 0
     vectors = load()
     checks = {"fields of the vectors": lambda stored: check_vectors(vectors, stored)}
     return run("answers", CRATE, list(lines_in(vectors)), line_out, checks)

@@ -4,9 +4,9 @@ from dataclasses import replace
 from itertools import combinations, product
 
 from ends_rules import (
-    COLD, COMMANDS, CONNS, DISCOVERY, Host, LISTEN_ACTIVE, LISTEN_MODES, LISTEN_SLEEP, Limits, NOTIFICATION,
-    NotTaken, POLL_ACTIVE, POLL_MODES, READY, RESET, RESPONSE, State, W4_ALL_DISCOVERIES, W4_HOST_SELECT,
-    aired, answer, credits_ntf, heard, mask, opened, packet, state_of,
+    COLD, COMMANDS, CONNS, Counts, DISCOVERY, Host, LISTEN_ACTIVE, LISTEN_MODES, LISTEN_SLEEP, Limits, NOTIFICATION,
+    NO_FLOW_CONTROL, NotTaken, POLL_ACTIVE, POLL_MODES, READY, RESET, RESPONSE, State, W4_ALL_DISCOVERIES,
+    W4_HOST_SELECT, aired, answer, credits_ntf, heard, held_after, mask, opened, owed_after, owed_on, packet, state_of,
 )
 
 LONGEST_LINE = 2400
@@ -58,7 +58,35 @@ def host_out(octets, up):
     return f"heard={word} with={digits(octets)} drop={drop} {fields}"
 
 
-FORM = re.compile(r"no=([^ ]+) (?:owed=(.*)|(st|host)=([^ ]*) (cmd|air|up)=(.*))")
+def counts_of(octets):
+    """The counts that octets are: the connections open, and for each of the five its grant and its count; or None."""
+    if len(octets) != 11 or octets[0] > 31:
+        return None
+    return Counts(opened(octets[0]), tuple(octets[1::2]), tuple(octets[2::2]))
+
+
+def owed_out(octets):
+    if len(octets) == 5:
+        return f"ntf={digits(credits_ntf(octets))}"
+    c = counts_of(octets)
+    if not c:
+        return None
+    if not any(owed_on(c)):
+        return "ans=8"
+    return f"ans=0 ntf={digits(credits_ntf(owed_on(c)))} owed={digits(owed_after(c))}"
+
+
+def held_out(octets, up):
+    """A packet that is a whole CORE_CONN_CREDITS_NTF by its header, whatever its contents."""
+    c = counts_of(octets)
+    if not c or not 3 <= len(up) <= 300 or up[0] != NOTIFICATION << 5 or up[1] & 63 != 6 or len(up) < 3 + up[2]:
+        return None
+    word, given, drop, _ = heard(Host(opened=c.opened), NOTIFICATION, 0, 6, up[3 : 3 + up[2]])
+    after = held_after(c, given) if given else c.credits
+    return f"heard={word} with={digits(given)} drop={drop} held={digits(after)}"
+
+
+FORM = re.compile(r"no=([^ ]+) (?:owed=(.*)|(st|host|held)=([^ ]*) (cmd|air|up)=(.*))")
 
 
 def line_out(line):
@@ -70,9 +98,11 @@ def line_out(line):
     kind = form[3], form[5]
     out = None
     if kind == (None, None):
-        out = f"ntf={digits(credits_ntf(owed))}" if len(owed) == 5 else None
+        out = owed_out(owed)
     elif kind == ("host", "up"):
         out = host_out(first, last)
+    elif kind == ("held", "up"):
+        out = held_out(first, last)
     elif kind in (("st", "cmd"), ("st", "air")):
         s = state_of(first)
         if s:
@@ -412,6 +442,68 @@ def credit_notices():
     yield to_host("credits-swapped", full, notice([*five[:3], five[4], five[3]]))
     for hexes in ("", "00", "01", "0102", "01020100", "000201", "020201", "80" + "0201" * 127):
         yield notification(f"credits-{hexes[:8]}-{len(hexes)}", full, 0, 6, bytes.fromhex(hexes))
+
+
+# a connection's grant, and whether it is open: closed, without flow control, flow-controlled
+SIDES = ((8, False), (NO_FLOW_CONTROL, True), (8, True))
+
+
+def counts_octets(sides, credits):
+    """The octets of counts, from a side of each of the five and its count."""
+    open_ones = {conn for conn, (_, is_open) in zip(CONNS, sides) if is_open}
+    return [mask(open_ones), *(octet for (grant, _), n in zip(sides, credits) for octet in (grant, n))]
+
+
+def owing(name, sides, credits):
+    return f"no=owing-{name} owed={digits(counts_octets(sides, credits))}"
+
+
+def holding(name, sides, credits, up):
+    return f"no=holding-{name} held={digits(counts_octets(sides, credits))} up={digits(up)}"
+
+
+def only(place, side):
+    """One of the five as it is given, the others closed."""
+    return [side if i == place else (0, False) for i in range(5)]
+
+
+def counts_owed():
+    """What a notice pays, and what it leaves: each side of each connection, then counts and grants at their edges."""
+    for numbers in product(range(3), repeat=5):
+        name = "".join(map(str, numbers))
+        yield owing(name, [SIDES[i] for i in numbers], (1, 2, 3, 4, 8))
+        yield owing(f"{name}-none", [SIDES[i] for i in numbers], [1 if i < 2 else 0 for i in numbers])
+    for place, n, grant, is_open in product(range(5), (0, 1, 8, 9, 254, 255), (0, 1, 8, 254, 255), (False, True)):
+        credits = [n if i == place else 5 for i in range(5)]
+        yield owing(f"{CONNS[place]}-{n}-of{grant}-{int(is_open)}", only(place, (grant, is_open)), credits)
+
+
+def counts_held():
+    """What a notice adds: each side of each connection, each sum modulo 256, and contents that are never written."""
+    five = notice([(conn, 1 + conn) for conn in CONNS])
+    for numbers in product(range(3), repeat=5):
+        yield holding("".join(map(str, numbers)), [SIDES[i] for i in numbers], (0, 1, 2, 3, 250), five)
+    for n, held, grant in product((0, 1, 7, 8, 9), EDGES, (8, 254, 255)):
+        yield holding(f"{held}-{n}-of{grant}", only(2, (grant, True)), [held] * 5, notice([(3, n)]))
+    for ids in combinations(CONNS, 2):
+        for name, order in (("two", ids), ("swapped", ids[::-1])):
+            told = notice([(conn, 8) for conn in order])
+            yield holding(f"{name}-{digits(ids)}", [SIDES[2]] * 5, (254, 255, 0, 248, 247), told)
+    yield holding("spare", [SIDES[2]] * 5, (1, 2, 3, 4, 5), b"\x60\xc6\x03\x01\x00\x01\xff")
+
+
+def counts_forms():
+    """Lines about the form of those above, all of them bad."""
+    good, told = bytes(counts_octets([SIDES[2]] * 5, (1, 2, 3, 4, 5))), notice([(0, 1)])
+    for octets in (b"", good[:5], good[:10], good + b"\x00", b"\x20" + good[1:]):
+        yield f"no=x held={digits(octets)} up={digits(told)}"
+    for octets in (good[:10], good + b"\x00", b"\x20" + good[1:], b"\xff" + good[1:]):
+        yield f"no=x owed={digits(octets)}"
+    for first in (0x00, 0x20, 0x40, 0x61, 0x70, 0x80):
+        yield f"no=x held={digits(good)} up={digits([first, *told[1:]])}"
+    for up in (b"", told[:2], told[:-1], packet(NOTIFICATION, 0, 7, b"\xa1"), told + b"\x00" * 295):
+        yield f"no=x held={digits(good)} up={digits(up)}"
+    yield from (f"no=x held={digits(good)} cmd=000000", f"no=x held={digits(good)}", f"no=x owed={digits(good)} up=")
 
 
 def other_packets():

@@ -16,6 +16,7 @@ POLL_MODES = (0x00, 0x01, 0x02, 0x03, 0x06)
 LISTEN_MODES = (0x80, 0x81, 0x82, 0x83)
 NFC_B_LISTEN, NFC_F_LISTEN = 0x81, 0x82
 COMMAND, RESPONSE, NOTIFICATION = 1, 2, 3
+NO_FLOW_CONTROL = 255
 
 
 def packet(mt, gid, oid, payload):
@@ -188,6 +189,38 @@ def answer(s, gid, oid, m):
 def credits_ntf(owed):
     entries = [(conn, n) for conn, n in zip(CONNS, owed) if n]
     return packet(NOTIFICATION, 0, 6, [len(entries), *(octet for entry in entries for octet in entry)])
+
+
+# ---- counts of credits
+
+
+@dataclass(frozen=True)
+class Counts:
+    """The connections open at one end, and there for each of the five its grant and its count of credits: owed at the
+    controller, held at the host. Any octet may stand for a grant or a count, also of a connection that is closed."""
+
+    opened: frozenset
+    grants: tuple
+    credits: tuple
+
+    def flow_controlled(self):
+        """For each of the five whether its count says anything: it is open, and has flow control."""
+        return [conn in self.opened and grant != NO_FLOW_CONTROL for conn, grant in zip(CONNS, self.grants)]
+
+
+def owed_on(c):
+    """Owed, if flow-controlled and open at the controller (else nothing)."""
+    return [n if counts else 0 for n, counts in zip(c.credits, c.flow_controlled())]
+
+
+def owed_after(c):
+    """The counts after a notice of all that is owed: where nothing is, they stay."""
+    return [0 if counts else n for n, counts in zip(c.credits, c.flow_controlled())]
+
+
+def held_after(c, given):
+    """The counts after the host read a notice that gives so many credits on the five connections, modulo 256."""
+    return [(n + more) % 256 if counts else n for n, more, counts in zip(c.credits, given, c.flow_controlled())]
 
 
 # ---- the air

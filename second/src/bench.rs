@@ -9,8 +9,8 @@ use crate::connection::{is_dynamic, place_of};
 use crate::controller::Controller;
 use crate::host::Host;
 use crate::layout;
-use crate::packet::{self, MessageType, Reading, MOST_CONTROL_MESSAGE, MOST_DATA_MESSAGE};
-use crate::profile::{Profile, NO_FLOW_CONTROL};
+use crate::packet::{self, InHand, MessageType, Reading, MOST_CONTROL_MESSAGE, MOST_DATA_MESSAGE};
+use crate::profile::{Profile, Terms, NO_FLOW_CONTROL};
 
 /// Packets that a wire holds.
 pub const WIRE_SLOTS: usize = 16;
@@ -333,6 +333,33 @@ impl Bench {
     pub fn forge_stored(&mut self, conn: u8, octets: &[u8]) {
         self.controller.forge_stored(conn, octets.to_vec());
     }
+
+    /// Opens a connection at the controller with any grant and any count of
+    /// credits owed.
+    pub fn forge_owing(&mut self, conn: u8, grant: u8, owed: u8) {
+        self.controller.forge_owing(conn, forged_terms(grant), owed);
+    }
+
+    /// Opens a connection at the host with any grant and any count of credits held.
+    pub fn forge_holding(&mut self, conn: u8, grant: u8, held: u8) {
+        self.host.forge_holding(conn, forged_terms(grant), held);
+    }
+
+    /// Puts a message in the host's hand with so many of its octets gone.
+    pub fn forge_in_hand(&mut self, conn: u8, message: &[u8], gone: usize) {
+        self.host.forge_in_hand(conn, InHand::forged(message.to_vec(), gone));
+    }
+
+    /// Puts a message in the endpoint's hand, in any state, with so many of its
+    /// octets gone.
+    pub fn forge_endpoint_message(&mut self, message: &[u8], gone: usize) {
+        self.controller.forge_endpoint_message(InHand::forged(message.to_vec(), gone));
+    }
+}
+
+/// A small payload, and a grant that need not be inside its limits.
+fn forged_terms(grant: u8) -> Terms {
+    Terms { payload: 4, credits: grant }
 }
 
 /// Wires of 16 packets of at most 8 credits keep every number of a report inside

@@ -25,8 +25,8 @@ const MOST_DISCOVER_ENTRIES: usize = 8;
 pub struct Connection {
     terms: Terms,
     store: VecDeque<Vec<u8>>,
-    /// Packets consumed since the opening less credits put in notices since;
-    /// stays 0 without flow control.
+    /// Packets consumed since the opening less credits put in notices since, as
+    /// an octet counts: modulo 256. Without flow control it is not looked at.
     owed: u8,
     run: Run,
 }
@@ -44,8 +44,13 @@ impl Connection {
         usize::from(self.terms.payload)
     }
 
+    /// Nothing is owed without flow control, whatever the count says.
     pub fn owed(&self) -> u8 {
-        self.owed
+        if self.flow_controlled() {
+            self.owed
+        } else {
+            0
+        }
     }
 
     pub fn flow_controlled(&self) -> bool {
@@ -385,7 +390,7 @@ impl Controller {
         let open = self.connection_mut(conn)?;
         let octets = open.store.pop_front()?;
         if open.flow_controlled() {
-            open.owed += 1;
+            open.owed = open.owed.wrapping_add(1);
         }
         let joined = match packet::read(&octets) {
             Reading::Packet(packet) => open.run.join(packet.payload, packet.more),
@@ -402,15 +407,16 @@ impl Controller {
     }
 
     pub fn owes_credits(&self) -> bool {
-        self.connections.iter().flatten().any(|open| open.owed > 0)
+        self.connections.iter().flatten().any(|open| open.owed() > 0)
     }
 
-    /// One notice of all that is owed, Conn IDs ascending.
+    /// One notice of all that is owed, Conn IDs ascending. Where nothing is owed
+    /// the count stays as it is.
     pub fn give_credits(&mut self) -> Vec<u8> {
         let mut entries = Vec::new();
         for (conn, open) in CONN_IDS.iter().zip(&mut self.connections) {
-            if let Some(open) = open.as_mut().filter(|open| open.owed > 0) {
-                entries.push((*conn, open.owed));
+            if let Some(open) = open.as_mut().filter(|open| open.owed() > 0) {
+                entries.push((*conn, open.owed()));
                 open.owed = 0;
             }
         }
@@ -522,10 +528,23 @@ impl Controller {
         Some(packet::write_data(STATIC_RF, &segment))
     }
 
-    /// Lets a test store octets that no list of calls stores.
+    // For tests: what no list of calls makes.
+
+    /// Stores any octets for an open connection.
     pub fn forge_stored(&mut self, conn: u8, octets: Vec<u8>) {
         let open = self.connection_mut(conn).expect("the connection is open");
         open.store.push_back(octets);
+    }
+
+    /// Opens a connection with any grant and any count of credits owed.
+    pub fn forge_owing(&mut self, conn: u8, terms: Terms, owed: u8) {
+        let place = place_of(conn).expect("the controller opens 0 and 2-5");
+        self.connections[place] = Some(Connection { owed, ..Connection::opened(terms) });
+    }
+
+    /// Puts a message of the endpoint in hand in any state.
+    pub fn forge_endpoint_message(&mut self, message: InHand) {
+        self.endpoint_message = Some(message);
     }
 }
 

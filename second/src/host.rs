@@ -21,7 +21,8 @@ struct Unanswered {
 #[derive(Clone, Debug, PartialEq, Eq)]
 pub struct Connection {
     terms: Terms,
-    /// Since opening: the grant and credits read less packets pushed.
+    /// Since opening: the grant and credits read less packets pushed, as an octet
+    /// counts: modulo 256.
     held: u8,
     in_hand: Option<InHand>,
     run: Run,
@@ -52,7 +53,13 @@ impl Connection {
 
     fn add_credits(&mut self, credits: u8) {
         if self.terms.flow_controlled() {
-            self.held += credits;
+            self.held = self.held.wrapping_add(credits);
+        }
+    }
+
+    fn spend_credit(&mut self) {
+        if self.terms.flow_controlled() {
+            self.held = self.held.wrapping_sub(1);
         }
     }
 }
@@ -147,9 +154,7 @@ impl Host {
         if !segment.more {
             open.in_hand = None;
         }
-        if open.terms.flow_controlled() {
-            open.held -= 1;
-        }
+        open.spend_credit();
         Some(packet::write_data(conn, &segment))
     }
 
@@ -277,5 +282,19 @@ impl Host {
             }
         }
         drop
+    }
+
+    // For tests: what no list of calls makes.
+
+    /// Opens a connection with any grant and any count of credits held.
+    pub fn forge_holding(&mut self, conn: u8, terms: Terms, held: u8) {
+        let place = place_of(conn).expect("the host opens 0 and 2-5");
+        self.connections[place] = Some(Connection { held, ..Connection::opened(terms) });
+    }
+
+    /// Puts a message in hand on an open connection.
+    pub fn forge_in_hand(&mut self, conn: u8, message: InHand) {
+        let open = self.connection_mut(conn).expect("the connection is open");
+        open.in_hand = Some(message);
     }
 }

@@ -143,6 +143,13 @@ impl InHand {
         InHand { octets, gone: 0 }
     }
 
+    /// For tests: with so many octets gone. No list of calls leaves a message in
+    /// hand with all of its octets gone.
+    pub fn forged(octets: Vec<u8>, gone: usize) -> InHand {
+        assert!(gone <= octets.len(), "a place past the message isn't there");
+        InHand { octets, gone }
+    }
+
     /// The next segment: full, but for the last. A message that is an exact
     /// multiple of `size` ends with a full segment, not an empty one.
     pub fn cut(&mut self, size: usize) -> Segment {
