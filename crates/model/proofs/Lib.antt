@@ -3,6 +3,7 @@ pub mod Phases
 pub mod Link
 pub mod Acts
 pub mod Verdicts
+pub mod Granted
 pub mod Meanings
 pub mod Messages
 pub mod Order

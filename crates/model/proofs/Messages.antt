@@ -24,7 +24,7 @@ use Rattle.messages.specs.Layout.{Message, resetNtf, creditsNtf, genericErrorNt
 use Rattle.state.specs.Radio.{isActive, isListening, isAsleep, polls}
 use Rattle.dh.specs.Contents.{creditsOk, written, noticeOf, entryId, entryCredits, entryOk, entriesOk, creditsWritten}
 use Rattle.dh.specs.Host.{answerOf, heardAlone, creditsFor, creditsIn}
-use Rattle.air.specs.Air.{airMessage, airedBy}
+use Rattle.air.specs.Air.{airMessage, airedBy, isRefused}
 use Rattle.ends.specs.RoundTrips.{TermsOk, TargetOk}
 use Rattle.state.proofs.Chains.{every-at, on}
 use Rattle.ends.proofs.RoundTrips.{round-trips}
@@ -36,7 +36,6 @@ use Rattle.model.specs.Refusals.{noConn, ids}
 use Rattle.model.specs.Changes.{stays, opens, closes, changeBy, changeAired, changeHeard, changeAnswered, givenTo}
 use Rattle.model.specs.calls.Down.{answers}
 use Rattle.model.specs.calls.Credit.{allZero}
-use Rattle.model.specs.calls.Air.{isRefused}
 use Rattle.model.proofs.Items.{Item, closed, itemsBy, itemsOf}
 use Rattle.model.proofs.Meanings.{meaning-response, meaning-notice}
 use Rattle.model.proofs.Verdicts.{Fits, Within, found-by, poll-by, listen-by, failed-by}

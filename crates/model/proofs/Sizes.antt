@@ -37,7 +37,7 @@ use Rattle.model.specs.calls.Push.{pushing}
 use Rattle.model.specs.calls.Down.{answers, deciding, answering, arriving, taking, tooTight, firstFull, needsTwo, storeFull}
 use Rattle.model.specs.calls.Consume.{isLoop, echo, segmentIn, joinedRun, consuming}
 use Rattle.model.specs.calls.Credit.{owedBy}
-use Rattle.model.specs.calls.Air.{airedConns, airing, notifies}
+use Rattle.model.specs.calls.Air.{airedConns, airing}
 use Rattle.model.specs.calls.Reply.{replying}
 use Rattle.model.specs.calls.Up.{heard, hearing, coming, reading}
 use Rattle.model.specs.Bench.{rules, act}
@@ -50,7 +50,7 @@ use Rattle.model.proofs.Messages.{Limits, profile-limits, notices-few}
 use Rattle.model.proofs.Order.{each, need, way-low, way-small}
 use Rattle.model.proofs.Fine.{Fine, SoundIn, Sound, StoredIn, StoredFor}
 use Rattle.model.proofs.Deciding.{dynamic-conn}
-use Rattle.model.proofs.Airing.{Suits, aired-suits, kind-eight}
+use Rattle.model.proofs.Airing.{Suits, aired-suits, kind-eight, notifies}
 use Rattle.model.proofs.Trace.{reachable}
 use Rattle.model.proofs.Always.{Stays, always}
 use Rattle.model.proofs.Never.{heard-whole}

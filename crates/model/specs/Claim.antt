@@ -1,6 +1,6 @@
 -- Demand 3: the single claim about every list of calls from a fresh bench.
 -- Assumes nothing.
-use Prim.Native.Nat.{ℕ, _+_, _-_}
+use Prim.Native.Nat.{ℕ, _+_, _-_, _≤_}
 use mathlib.Core.Path.{_≡_}
 use mathlib.Core.Logic.{_↔_}
 use mathlib.Core.Bool.{true, false}
@@ -49,6 +49,13 @@ pub record Claim (c : ℕ) (s : State) (o : Account) : Type 0 where
   pub numbers : o .ledger c .controller .opened ≡ true → step (report c) s .effect .message ≡ numbersOf c o ∷ []
   -- under flow control they sum to the grant
   pub sum : o .ledger c .controller .opened ≡ true → flows (o .ledger c .controller .grant) ≡ true → total (numbersOf c o) ≡ o .ledger c .controller .grant
+  -- no subtraction in these numbers is cut off: no more is consumed than was stored, put in notices than consumed, pushed than granted
+  -- and read
+  pub whole-stored : o .ledger c .controller .opened ≡ true → o .ledger c .controller .consumed ≤ o .ledger c .controller .arrived
+  pub whole-owed : o .ledger c .controller .opened ≡ true → flows (o .ledger c .controller .grant) ≡ true
+      → o .ledger c .controller .noticed ≤ o .ledger c .controller .consumed
+  pub whole-held : o .ledger c .controller .opened ≡ true → flows (o .ledger c .controller .grant) ≡ true → o .ledger c .host .opened ≡ true
+      → o .ledger c .host .pushed ≤ o .ledger c .host .grant + o .ledger c .host .read
   -- the messages handed out are the first of those taken, octet for octet: at the controller those of send,
   pub at-controller : o .ledger c .controller .opened ≡ true → Prefix (o .ledger c .talk .outController) (o .ledger c .talk .sent)
   -- at the host on a loopback those of send, and on connection 0 those of the endpoint
