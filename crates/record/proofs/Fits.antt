@@ -16,7 +16,8 @@ use Rattle.state.specs.declared.kinds.Counts.{Counts}
 use Rattle.state.specs.declared.kinds.Record.{Record}
 use Rattle.state.specs.Conn.{closedCounts}
 use Rattle.state.proofs.Chains.{every-at}
-use Rattle.record.specs.Layout.{slot}
+use Rattle.area.specs.Map.{areaSize, wireSlots, storeSlots, messageSize, controlSize, places}
+use Rattle.record.specs.Layout.{slot, pairsRoom}
 use Rattle.record.specs.Reading.{decodeOf}
 use Rattle.record.specs.Judge.{ringOk, handOk, givenOk, termsOk, profileOk, hostSideOk, controllerSideOk, countsOk, countsOkIn, connsOk, endsOk, recordOk, tagsOk, judgeOf}
 use Rattle.record.specs.Fit.{FitRing, FitHand, FitTerms, FitCounts, Fit}
@@ -61,12 +62,12 @@ fits-ring slots k f = rw (le-leb (k .count) slots (f .count), lt-ltb (k .head) s
 hand-fits : (h : Hand) → handOk h ≡ true → FitHand h
 unfolding handOk
 hand-fits h e =
-    let at = every-at (leb (h .len) 1024) (leb (h .at) (h .len) ∷ []) e in
-    record { len = leb-true (h .len) 1024 (at 0); at = leb-true (h .at) (h .len) (at 1) }
+    let at = every-at (leb (h .len) messageSize) (leb (h .at) (h .len) ∷ []) e in
+    record { len = leb-true (h .len) messageSize (at 0); at = leb-true (h .at) (h .len) (at 1) }
 
 fits-hand : (h : Hand) → FitHand h → handOk h ≡ true
 unfolding handOk
-fits-hand h f = rw (le-leb (h .len) 1024 (f .len), le-leb (h .at) (h .len) (f .at))
+fits-hand h f = rw (le-leb (h .len) messageSize (f .len), le-leb (h .at) (h .len) (f .at))
 
 terms-fit : (t : Terms) → termsOk t ≡ true → FitTerms t
 unfolding termsOk
@@ -107,16 +108,16 @@ counts-fit c h =
     let s = c .host in
     let k = c .controller in
     let sides = every-at (hostSideOk s) (controllerSideOk k ∷ []) h in
-    let a = every-at (leb (s .held) (s .grant)) ((not (s .opened) || leb 1 (s .payload)) ∷ handOk (s .hand) ∷ leb (s .run .len) 1024 ∷ []) (sides 0) in
-    let b = every-at (leb (k .owed) (k .grant)) (ringOk 8 (k .store) ∷ leb (k .run .len) 1024 ∷ []) (sides 1) in
+    let a = every-at (leb (s .held) (s .grant)) ((not (s .opened) || leb 1 (s .payload)) ∷ handOk (s .hand) ∷ leb (s .run .len) messageSize ∷ []) (sides 0) in
+    let b = every-at (leb (k .owed) (k .grant)) (ringOk storeSlots (k .store) ∷ leb (k .run .len) messageSize ∷ []) (sides 1) in
     record {
       held = leb-true (s .held) (s .grant) (a 0);
       payload = λ o. leb-true 1 (s .payload) (then (s .opened) (leb 1 (s .payload)) (a 1) o);
       hand = hand-fits (s .hand) (a 2);
-      host-run = leb-true (s .run .len) 1024 (a 3);
+      host-run = leb-true (s .run .len) messageSize (a 3);
       owed = leb-true (k .owed) (k .grant) (b 0);
-      store = ring-fits 8 (k .store) (b 1);
-      controller-run = leb-true (k .run .len) 1024 (b 2);
+      store = ring-fits storeSlots (k .store) (b 1);
+      controller-run = leb-true (k .run .len) messageSize (b 2);
     }
 
 fits-counts : (c : Counts) → FitCounts c → countsOk c ≡ true
@@ -129,20 +130,20 @@ fits-counts c f =
       le-leb (s .held) (s .grant) (f .held),
       open-payload,
       fits-hand (s .hand) (f .hand),
-      le-leb (s .run .len) 1024 (f .host-run),
+      le-leb (s .run .len) messageSize (f .host-run),
       le-leb (k .owed) (k .grant) (f .owed),
-      fits-ring 8 (k .store) (f .store),
-      le-leb (k .run .len) 1024 (f .controller-run),
+      fits-ring storeSlots (k .store) (f .store),
+      le-leb (k .run .len) messageSize (f .controller-run),
     )
 
-conns-fit : (l : List Counts) → connsOk l ≡ true → (p : ℕ) → p < 5 → FitCounts (getD l p closedCounts)
+conns-fit : (l : List Counts) → connsOk l ≡ true → (p : ℕ) → p < places → FitCounts (getD l p closedCounts)
 unfolding connsOk
 conns-fit l h p i = counts-fit (getD l p closedCounts) (go p i)
   where
     at : (i : ℕ) → getD (countsOkIn l 0 ∷ countsOkIn l 1 ∷ countsOkIn l 2 ∷ countsOkIn l 3 ∷ countsOkIn l 4 ∷ []) i true ≡ true
     at = every-at (countsOkIn l 0) (countsOkIn l 1 ∷ countsOkIn l 2 ∷ countsOkIn l 3 ∷ countsOkIn l 4 ∷ []) h
 
-    go : (p : ℕ) → p < 5 → countsOkIn l p ≡ true
+    go : (p : ℕ) → p < places → countsOkIn l p ≡ true
     go zero i = at 0
     go (suc zero) i = at 1
     go (suc (suc zero)) i = at 2
@@ -150,10 +151,10 @@ conns-fit l h p i = counts-fit (getD l p closedCounts) (go p i)
     go (suc (suc (suc (suc zero)))) i = at 4
     go (suc (suc (suc (suc (suc n))))) i = absurd (omega arith)
 
-fits-conns : (l : List Counts) → ((p : ℕ) → p < 5 → FitCounts (getD l p closedCounts)) → connsOk l ≡ true
+fits-conns : (l : List Counts) → ((p : ℕ) → p < places → FitCounts (getD l p closedCounts)) → connsOk l ≡ true
 unfolding connsOk
 fits-conns l f =
-    let at : (p : ℕ) → p < 5 → countsOkIn l p ≡ true = λ p i. fits-counts (getD l p closedCounts) (f p i) in
+    let at : (p : ℕ) → p < places → countsOkIn l p ≡ true = λ p i. fits-counts (getD l p closedCounts) (f p i) in
     rw (at 0 (omega arith), at 1 (omega arith), at 2 (omega arith), at 3 (omega arith), at 4 (omega arith))
 
 -- ---- the record
@@ -164,20 +165,20 @@ ok-fits r h =
     let e = r .ends in
     let k = e .controller in
     let p = e .profile in
-    let all = every-at (ringOk 16 (r .down)) (ringOk 16 (r .up) ∷ endsOk e ∷ []) h in
+    let all = every-at (ringOk wireSlots (r .down)) (ringOk wireSlots (r .up) ∷ endsOk e ∷ []) h in
     let at =
     every-at (leb 32 (e .host .size))
-    (leb (e .hearing .run .len) 255 ∷ leb (e .asking .run .len) 255 ∷ leb (k .pairs .count) 8 ∷ givenOk (k .given) ∷ profileOk p ∷ handOk (e .endpoint) ∷ connsOk (e .conns) ∷ [])
+    (leb (e .hearing .run .len) controlSize ∷ leb (e .asking .run .len) controlSize ∷ leb (k .pairs .count) pairsRoom ∷ givenOk (k .given) ∷ profileOk p ∷ handOk (e .endpoint) ∷ connsOk (e .conns) ∷ [])
     (all 2)
     in
     let limits = every-at (leb 32 (p .control)) (termsOk (p .dynamic) ∷ termsOk (p .fixed) ∷ []) (at 5) in
     record {
-      down = ring-fits 16 (r .down) (all 0);
-      up = ring-fits 16 (r .up) (all 1);
+      down = ring-fits wireSlots (r .down) (all 0);
+      up = ring-fits wireSlots (r .up) (all 1);
       size = leb-true 32 (e .host .size) (at 0);
-      hearing = leb-true (e .hearing .run .len) 255 (at 1);
-      asking = leb-true (e .asking .run .len) 255 (at 2);
-      pairs = leb-true (k .pairs .count) 8 (at 3);
+      hearing = leb-true (e .hearing .run .len) controlSize (at 1);
+      asking = leb-true (e .asking .run .len) controlSize (at 2);
+      pairs = leb-true (k .pairs .count) pairsRoom (at 3);
       given = given-fits (k .given) (at 4);
       control = leb-true 32 (p .control) (limits 0);
       dynamic = terms-fit (p .dynamic) (limits 1);
@@ -193,12 +194,12 @@ fits-judged r f =
     let k = e .controller in
     let p = e .profile in
     rw (
-      fits-ring 16 (r .down) (f .down),
-      fits-ring 16 (r .up) (f .up),
+      fits-ring wireSlots (r .down) (f .down),
+      fits-ring wireSlots (r .up) (f .up),
       le-leb 32 (e .host .size) (f .size),
-      le-leb (e .hearing .run .len) 255 (f .hearing),
-      le-leb (e .asking .run .len) 255 (f .asking),
-      le-leb (k .pairs .count) 8 (f .pairs),
+      le-leb (e .hearing .run .len) controlSize (f .hearing),
+      le-leb (e .asking .run .len) controlSize (f .asking),
+      le-leb (k .pairs .count) pairsRoom (f .pairs),
       fits-given (k .given) (f .given),
       le-leb 32 (p .control) (f .control),
       fits-terms (p .dynamic) (f .dynamic),
@@ -207,6 +208,6 @@ fits-judged r f =
       fits-conns (e .conns) (f .conns),
     )
 
-pub judged-fits : (area : Octets) → judgeOf area ≡ true → 36864 ≤ length area → Fit (decodeOf area)
+pub judged-fits : (area : Octets) → judgeOf area ≡ true → areaSize ≤ length area → Fit (decodeOf area)
 unfolding judgeOf
 judged-fits area h long = ok-fits (decodeOf area) (every-at (tagsOk (slot area)) (recordOk (decodeOf area) ∷ []) h 1)
