@@ -2,13 +2,16 @@
 // area after it; the numbers that it is called with are somebody else's decision.
 use crate::map::AREA;
 use crate::map::MESSAGE;
+use crate::map::PAYLOAD;
 use crate::map::SLOT;
 use crate::map::WIRE;
 use crate::ring::free_at;
 use crate::ring::put_into;
 use packets::Header;
 use packets::Reading;
+use state::kinds::Progress;
 use state::kinds::Ring;
+use state::runs::fits;
 ghost use mathlib.Core.Path.{_≡_};
 ghost use Prim.Native.Nat.{_+_, _≤_, _<_};
 ghost use lib.ListN.{length};
@@ -18,6 +21,7 @@ ghost use Rattle.packets.specs.Segments.{segmentAt, segmentPacket, segments, pa
 ghost use Rattle.area.specs.Map.{payloadSize, slotSize, wireSlots, wireSize, messageSize, areaSize};
 ghost use Rattle.area.specs.Ring.{freeAt};
 ghost use Rattle.area.specs.Movers.{zeros, putsAll};
+ghost use Rattle.area.specs.Runs.{runArea};
 
 // Reads the packet that a slot starts with.
 pub fn read_slot(area: &[u8], slot: usize) -> Reading
@@ -53,7 +57,7 @@ pub fn put_segment(
     len: usize,
     at: usize,
 )
-    requires { ⌜ (size ≤ payloadSize) × (len ≤ messageSize) × (at ≤ len) × (from + len ≤ length (now area)) × (slot + slotSize ≤ length (now area)) ⌝ }
+    requires { ⌜ (size ≤ payloadSize) × (len ≤ messageSize) × (from + len ≤ length (now area)) × (slot + slotSize ≤ length (now area)) ⌝ }
     ensures { λ _. ⌜ now (area .exit) ≡ splice (now (area .entry)) slot (segmentPacket h (segmentAt size (cut from len (now (area .entry))) at)) ⌝ }
 {
     let mut message = [0u8; MESSAGE];
@@ -69,12 +73,26 @@ pub fn copy_slot(area: &mut [u8], from: usize, to: usize)
     octets::copy_part(area, from, to, SLOT);
 }
 
-// Copies the payload of the packet in a slot to its place in a run.
+// Copies the payload of the packet in a slot to its place in a run. It is that part of the packet itself, and goes through a
+// local array, since two parts of one slice cannot be lent at once.
 pub fn join_payload(area: &mut [u8], slot: usize, n: usize, to: usize)
     requires { ⌜ (n ≤ payloadSize) × (slot + slotSize ≤ length (now area)) × (to + n ≤ length (now area)) ⌝ }
     ensures { λ _. ⌜ now (area .exit) ≡ splice (now (area .entry)) to (payloadOf (cut slot slotSize (now (area .entry))) n) ⌝ }
 {
-    octets::copy_part(area, slot + 3, to, n);
+    let mut part = [0u8; PAYLOAD];
+    octets::put(&mut part, 0, packets::payload(&area[slot..slot + SLOT], n));
+    octets::put(area, to, &part[0..n]);
+}
+
+// The payload of the packet in a slot joins a run that lies from base on; past the limit none of it is kept.
+pub fn join_run(area: &mut [u8], base: usize, limit: usize, p: Progress, slot: usize, n: usize)
+    requires { ⌜ (n ≤ payloadSize) × (slot + slotSize ≤ length (now area)) × (base + limit ≤ length (now area)) ⌝ }
+    ensures { λ _. ⌜ now (area .exit) ≡ runArea limit base (now (area .entry)) p (payloadOf (cut slot slotSize (now (area .entry))) n) ⌝ }
+{
+    let len = p.len;
+    if fits(limit, p, n) {
+        join_payload(area, slot, n, base + len);
+    }
 }
 
 // Hands out a finished message of n octets; past it the buffer keeps its own.
@@ -117,7 +135,7 @@ fn put_next(area: &mut [u8], base: usize, r: Ring, h: Header, size: usize, msg: 
 // Writes all segments of a message of the caller, one after the other, into the free slots of a wire. How many they are. The
 // last comes after the loop: an empty message is one segment too.
 pub fn put_all(area: &mut [u8], base: usize, r: Ring, h: Header, size: usize, msg: &[u8]) -> usize
-    requires { ⌜ (1 ≤ size) × (size ≤ payloadSize) × (length (now msg) ≤ payloadSize) × (r .head < wireSlots) × (r .count + length (segments size (now msg)) ≤ wireSlots) × (base + wireSize ≤ length (now area)) ⌝ }
+    requires { ⌜ (1 ≤ size) × (size ≤ payloadSize) × (r .head < wireSlots) × (r .count + length (segments size (now msg)) ≤ wireSlots) × (base + wireSize ≤ length (now area)) ⌝ }
     ensures { λ x. ⌜ (x ≡ length (segments size (now (msg .entry)))) × (now (area .exit) ≡ putsAll base (now (area .entry)) r (packetsOf h size (now (msg .entry)))) ⌝ }
 {
     let mut q = r;

@@ -1,11 +1,6 @@
 -- What the moves do to the record's numbers: the plans that the calls stand on.
 -- Assumes nothing.
-use Prim.Native.Nat.{ℕ, _+_}
-use mathlib.Core.Bool.{true}
 use mathlib.Core.List.{List, [], _∷_}
-use lib.Dec.{ltb}
-use lib.ListN.{length}
-use Rattle.octets.specs.Octets.{Octets, pick, splice}
 use Rattle.state.specs.declared.kinds.Profile.{Profile}
 use Rattle.state.specs.declared.kinds.Hand.{Hand}
 use Rattle.state.specs.declared.kinds.Ring.{Ring}
@@ -17,24 +12,7 @@ use Rattle.state.specs.declared.kinds.ControlRun.{ControlRun}
 use Rattle.state.specs.declared.kinds.Ends.{Ends}
 use Rattle.state.specs.declared.kinds.Record.{Record}
 use Rattle.state.specs.Conn.{start, empty, emptyRing, closedCounts}
-use Rattle.state.specs.Runs.{within}
 use Rattle.model.specs.State.{coldHost, coldController}
-
--- ---- a message in hand
-
--- a message of n octets was put in hand
-abbrev pub handWith : ℕ → Hand
-handWith n = record { full = true; len = n; at = 0 }
-
--- a segment has gone: the next one starts after it, or the message is gone whole
-abbrev pub handAfter : ℕ → Hand → Hand
-handAfter size h = pick (ltb (h .at + size) (h .len)) (record { full = true; len = h .len; at = h .at + size }) empty
-
--- ---- a run
-
--- the area after octets join a run that lies from base on: they stand after those that came before; past the limit none is kept
-unfoldable pub runArea : ℕ → ℕ → Octets → Progress → Octets → Octets
-runArea limit base a p b = pick (within limit p (length b)) (splice a (base + p .len) b) a
 
 -- ---- one part of the record
 
