@@ -71,7 +71,7 @@ returns c =
     let start = got .before .before .before .before .before in
     let a = start .args in
     second .put2 .ensures
-    ∙ ap (splice (a .area .now) (a .to)) (cut-copied _ _ _ (a .n) (long got) (start .pre .0) (first .put .ensures ∙ ap (splice _ 0) (payload got)))
+    ∙ ap (splice (a .area .now) (a .to)) (cut-copied _ _ _ (a .n) (long got) (omega (arith, start .pre .0)) (first .put .ensures ∙ ap (splice _ 0) (payload got)))
 
 pub join-payload-spec : {M : Type 1} → statement M
 join-payload-spec =
