@@ -24,6 +24,7 @@ use Rattle.dh.specs.declared.host.Heard.{Heard}
 use Rattle.dh.specs.declared.host.Heard.the-variants.{Nothing, Dropped, Answered, Activated, Deactivated, Credits}
 use Rattle.state.specs.Conn.{placeOf, termsOf}
 use Rattle.state.specs.Commands.{commandOf}
+use Rattle.state.specs.Profile.{TermsWithin}
 use Rattle.messages.specs.Layout.{resetNtf, creditsNtf, genericErrorNtf, discoverNtf, activatedNtf, deactivateNtf, responseOf, noticeMessage}
 use Rattle.dh.specs.Contents.{written, noticeOf}
 use Rattle.dh.specs.Host.{answerOf, okAnswer, aimOf, noticed, heardAlone, expected, hearOf, creditsFor}
@@ -33,7 +34,6 @@ use Rattle.model.specs.Packets.{Meaning, datum, control, junk, meaning, 
 use Rattle.model.specs.Refusals.{noConn}
 use Rattle.model.specs.Changes.{Change, stays, opens, closes, gives, changeHeard}
 use Rattle.model.specs.calls.Down.{answers}
-use Rattle.model.specs.Reachable.{TermsWithin}
 use Rattle.model.proofs.Verdicts.{Fits}
 use Rattle.model.proofs.Meanings.{meaning-notice}
 use Rattle.model.proofs.Messages.{Limits, answeredBy, says-response, meaning-answer}

@@ -26,6 +26,7 @@ use Rattle.air.specs.declared.events.Aired.the-variants.{Refused, Goes, Activat
 use Rattle.dh.specs.declared.host.Answer.the-variants.{Opens, Closes}
 use Rattle.state.specs.Radio.{isIdle, addedTo}
 use Rattle.state.specs.Runs.{dataLimit, controlLimit}
+use Rattle.state.specs.Profile.{TermsWithin}
 use Rattle.nfcc.specs.Controller.{turned, controllerAfter}
 use Rattle.air.specs.Air.{listedAfter, controllerAired}
 use Rattle.state.proofs.Chains.{on}
@@ -35,7 +36,7 @@ use Rattle.model.specs.Effects.{down, up}
 use Rattle.model.specs.Refusals.{noConn}
 use Rattle.model.specs.Changes.{Change, stays, opens, closes, gives, atController, atHost}
 use Rattle.model.specs.calls.Up.{hearing}
-use Rattle.model.specs.Reachable.{octetsIn, RunWithin, TermsWithin}
+use Rattle.model.specs.Reachable.{octetsIn, RunWithin}
 use Rattle.model.proofs.Link.{clash}
 use Rattle.model.proofs.Verdicts.{Fits}
 use Rattle.model.proofs.Messages.{Limits}

@@ -14,13 +14,14 @@ use Rattle.state.specs.declared.verdict.Verdict.{Verdict}
 use Rattle.air.specs.declared.events.Aired.{Aired}
 use Rattle.air.specs.declared.events.Aired.the-variants.{Refused, Goes, Activates, Ends, Speaks}
 use Rattle.state.specs.Conn.{placeOf, termsOf}
+use Rattle.state.specs.Profile.{profileIn}
 use Rattle.nfcc.specs.Controller.{judgeOf}
 use Rattle.dh.specs.Host.{hearOf}
 use Rattle.air.specs.Air.{eventOf}
 use Rattle.state.proofs.Chains.{on, or-left, or-right}
 use Rattle.model.specs.Connection.{Connection, withHost, withController, sent, pushed, heardData, stored, consumed, spoken}
 use Rattle.model.specs.Packets.{dataHeader, controlHeader, Meaning, datum, control, junk, meaning}
-use Rattle.model.specs.State.{State, profileIn, isOpen, at, withConns, withDown, withUp, withAsking, withHearing}
+use Rattle.model.specs.State.{State, isOpen, at, withConns, withDown, withUp, withAsking, withHearing}
 use Rattle.model.specs.Effects.{Call, fresh, power, command, send, push, down, consume, credit, air, reply, up, report, Effect, taken}
 use Rattle.model.specs.Refusals.{first, noConn, isNil, isHeld}
 use Rattle.model.specs.Runs.{runAfter, wholeBy}

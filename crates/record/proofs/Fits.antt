@@ -1,7 +1,7 @@
 -- Row 1's tests and the bounds they stand for, both ways.
 -- Assumes nothing.
 use Prim.Native.Nat.{ℕ, zero, suc, _≤_, _<_}
-use mathlib.Core.Path.{_≡_, refl, sym, _∙_}
+use mathlib.Core.Path.{_≡_, refl, sym}
 use mathlib.Core.Bool.{Bool, true, false, not, _&&_, _||_, false≢true}
 use mathlib.Core.List.{List, [], _∷_}
 use native.Mathlib.Omega.{arith}
@@ -9,24 +9,21 @@ use lib.ListN.{length, getD}
 use lib.Dec.{eqb, ltb, leb}
 use borrow.Author.Tests.{leb-true, ltb-true, le-leb, lt-ltb, eqb-false, ne-eqb}
 use Rattle.octets.specs.Octets.{Octets}
-use Rattle.state.specs.declared.kinds.Terms.{Terms}
 use Rattle.state.specs.declared.kinds.Hand.{Hand}
 use Rattle.state.specs.declared.kinds.Ring.{Ring}
 use Rattle.state.specs.declared.kinds.Counts.{Counts}
 use Rattle.state.specs.declared.kinds.Record.{Record}
 use Rattle.state.specs.Conn.{closedCounts}
+use Rattle.state.specs.Profile.{leastSize, profileOk}
 use Rattle.state.proofs.Chains.{every-at}
+use Rattle.state.proofs.Limits.{profile-within, within-profile}
 use Rattle.area.specs.Map.{areaSize, wireSlots, storeSlots, messageSize, controlSize, places}
 use Rattle.record.specs.Layout.{slot, pairsRoom}
 use Rattle.record.specs.Reading.{decodeOf}
-use Rattle.record.specs.Judge.{ringOk, handOk, givenOk, termsOk, profileOk, hostSideOk, controllerSideOk, countsOk, countsOkIn, connsOk, endsOk, recordOk, tagsOk, judgeOf}
-use Rattle.record.specs.Fit.{FitRing, FitHand, FitTerms, FitCounts, Fit}
+use Rattle.record.specs.Judge.{ringOk, handOk, givenOk, hostSideOk, controllerSideOk, countsOk, countsOkIn, connsOk, endsOk, recordOk, tagsOk, judgeOf}
+use Rattle.record.specs.Fit.{FitRing, FitHand, FitCounts, Each, Fit}
 
 -- ---- tests of which one must hold
-
-or-left : (a b : Bool) → (a || b) ≡ true → b ≡ false → a ≡ true
-or-left true b h e = refl
-or-left false b h e = absurd (false≢true (sym e ∙ h))
 
 or-right : (a b : Bool) → (a || b) ≡ true → a ≡ false → b ≡ true
 or-right true b h e = absurd (false≢true (sym e))
@@ -40,16 +37,11 @@ then-not : (a b : Bool) → (a ≡ true → b ≡ true) → (not a || b) ≡ tru
 then-not true b f = f refl
 then-not false b f = refl
 
-or-either : (a b : Bool) → (b ≡ false → a ≡ true) → (a || b) ≡ true
-or-either true b f = refl
-or-either false true f = refl
-or-either false false f = f refl
-
 or-other : (a b : Bool) → (a ≡ false → b ≡ true) → (a || b) ≡ true
 or-other true b f = refl
 or-other false b f = f refl
 
--- ---- rings, messages in hand, terms, the ID given
+-- ---- rings, messages in hand, the ID given
 
 ring-fits : (slots : ℕ) (k : Ring) → ringOk slots k ≡ true → FitRing slots k
 ring-fits slots k h =
@@ -68,24 +60,6 @@ hand-fits h e =
 fits-hand : (h : Hand) → FitHand h → handOk h ≡ true
 unfolding handOk
 fits-hand h f = rw (le-leb (h .len) messageSize (f .len), le-leb (h .at) (h .len) (f .at))
-
-terms-fit : (t : Terms) → termsOk t ≡ true → FitTerms t
-unfolding termsOk
-terms-fit t h =
-    let c = t .credits in
-    let at = every-at (leb 1 (t .payload)) (leb 1 c ∷ (leb c 8 || eqb c 255) ∷ []) h in
-    record {
-      payload = leb-true 1 (t .payload) (at 0);
-      credits = leb-true 1 c (at 1);
-      limit = λ n. leb-true c 8 (or-left (leb c 8) (eqb c 255) (at 2) (ne-eqb c 255 n));
-    }
-
-fits-terms : (t : Terms) → FitTerms t → termsOk t ≡ true
-unfolding termsOk
-fits-terms t f =
-    let c = t .credits in
-    let limit = or-either (leb c 8) (eqb c 255) (λ e. le-leb c 8 (f .limit (eqb-false c 255 e))) in
-    rw (le-leb 1 (t .payload) (f .payload), le-leb 1 c (f .credits), limit)
 
 given-fits : (id : ℕ) → givenOk id ≡ true → (id ≡ 0 → ⊥) → (2 ≤ id) × (id ≤ 5)
 unfolding givenOk
@@ -136,7 +110,7 @@ fits-counts c f =
       le-leb (k .run .len) messageSize (f .controller-run),
     )
 
-conns-fit : (l : List Counts) → connsOk l ≡ true → (p : ℕ) → p < places → FitCounts (getD l p closedCounts)
+conns-fit : (l : List Counts) → connsOk l ≡ true → Each FitCounts l
 unfolding connsOk
 conns-fit l h p i = counts-fit (getD l p closedCounts) (go p i)
   where
@@ -151,7 +125,7 @@ conns-fit l h p i = counts-fit (getD l p closedCounts) (go p i)
     go (suc (suc (suc (suc zero)))) i = at 4
     go (suc (suc (suc (suc (suc n))))) i = absurd (omega arith)
 
-fits-conns : (l : List Counts) → ((p : ℕ) → p < places → FitCounts (getD l p closedCounts)) → connsOk l ≡ true
+fits-conns : (l : List Counts) → Each FitCounts l → connsOk l ≡ true
 unfolding connsOk
 fits-conns l f =
     let at : (p : ℕ) → p < places → countsOkIn l p ≡ true = λ p i. fits-counts (getD l p closedCounts) (f p i) in
@@ -160,51 +134,47 @@ fits-conns l f =
 -- ---- the record
 
 pub ok-fits : (r : Record) → recordOk r ≡ true → Fit r
-unfolding recordOk endsOk profileOk
+unfolding recordOk endsOk
 ok-fits r h =
     let e = r .ends in
     let k = e .controller in
     let p = e .profile in
     let all = every-at (ringOk wireSlots (r .down)) (ringOk wireSlots (r .up) ∷ endsOk e ∷ []) h in
     let at =
-    every-at (leb 32 (e .host .size))
+    every-at (leb leastSize (e .host .size))
     (leb (e .hearing .run .len) controlSize ∷ leb (e .asking .run .len) controlSize ∷ leb (k .pairs .count) pairsRoom ∷ givenOk (k .given) ∷ profileOk p ∷ handOk (e .endpoint) ∷ connsOk (e .conns) ∷ [])
     (all 2)
     in
-    let limits = every-at (leb 32 (p .control)) (termsOk (p .dynamic) ∷ termsOk (p .fixed) ∷ []) (at 5) in
     record {
       down = ring-fits wireSlots (r .down) (all 0);
       up = ring-fits wireSlots (r .up) (all 1);
-      size = leb-true 32 (e .host .size) (at 0);
-      hearing = leb-true (e .hearing .run .len) controlSize (at 1);
-      asking = leb-true (e .asking .run .len) controlSize (at 2);
-      pairs = leb-true (k .pairs .count) pairsRoom (at 3);
-      given = given-fits (k .given) (at 4);
-      control = leb-true 32 (p .control) (limits 0);
-      dynamic = terms-fit (p .dynamic) (limits 1);
-      fixed = terms-fit (p .fixed) (limits 2);
-      endpoint = hand-fits (e .endpoint) (at 6);
+      own =
+          record {
+            profile = profile-within p (at 5);
+            size = leb-true leastSize (e .host .size) (at 0);
+            hearing = leb-true (e .hearing .run .len) controlSize (at 1);
+            controller = record { pairs = leb-true (k .pairs .count) pairsRoom (at 3); given = given-fits (k .given) (at 4) };
+            asking = leb-true (e .asking .run .len) controlSize (at 2);
+            endpoint = hand-fits (e .endpoint) (at 6);
+          };
       conns = conns-fit (e .conns) (at 7);
     }
 
 pub fits-judged : (r : Record) → Fit r → recordOk r ≡ true
-unfolding recordOk endsOk profileOk
+unfolding recordOk endsOk
 fits-judged r f =
     let e = r .ends in
     let k = e .controller in
-    let p = e .profile in
     rw (
       fits-ring wireSlots (r .down) (f .down),
       fits-ring wireSlots (r .up) (f .up),
-      le-leb 32 (e .host .size) (f .size),
-      le-leb (e .hearing .run .len) controlSize (f .hearing),
-      le-leb (e .asking .run .len) controlSize (f .asking),
-      le-leb (k .pairs .count) pairsRoom (f .pairs),
-      fits-given (k .given) (f .given),
-      le-leb 32 (p .control) (f .control),
-      fits-terms (p .dynamic) (f .dynamic),
-      fits-terms (p .fixed) (f .fixed),
-      fits-hand (e .endpoint) (f .endpoint),
+      le-leb leastSize (e .host .size) (f .own .size),
+      le-leb (e .hearing .run .len) controlSize (f .own .hearing),
+      le-leb (e .asking .run .len) controlSize (f .own .asking),
+      le-leb (k .pairs .count) pairsRoom (f .own .controller .pairs),
+      fits-given (k .given) (f .own .controller .given),
+      within-profile (e .profile) (f .own .profile),
+      fits-hand (e .endpoint) (f .own .endpoint),
       fits-conns (e .conns) (f .conns),
     )
 

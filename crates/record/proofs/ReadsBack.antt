@@ -259,13 +259,13 @@ again-back r s f =
     let c : (p : ℕ) → p < places → counts (getD (r .ends .conns) p closedCounts) ≡ getD (r .ends .conns) p closedCounts = λ p h. counts-back _ (f .conns p h) in
     rw (
       pending-back (r .ends .host .pending),
-      run-back (r .ends .hearing) (f .hearing),
+      run-back (r .ends .hearing) (f .own .hearing),
       phase-back (r .ends .controller .phase),
       rf-back (r .ends .controller .rf),
       elements-are noPair (r .ends .controller .pairs .list) pairsRoom (s .pairs),
-      small (r .ends .controller .pairs .count) (omega arith),
-      run-back (r .ends .asking) (f .asking),
-      hand-back (r .ends .endpoint) (f .endpoint .len) (f .endpoint .at),
+      small (r .ends .controller .pairs .count) (omega (arith, f .own .controller .pairs)),
+      run-back (r .ends .asking) (f .own .asking),
+      hand-back (r .ends .endpoint) (f .own .endpoint .len) (f .own .endpoint .at),
       c 0 (omega arith),
       c 1 (omega arith),
       c 2 (omega arith),

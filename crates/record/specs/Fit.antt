@@ -3,13 +3,19 @@
 use Prim.Native.Nat.{ℕ, _≤_, _<_}
 use mathlib.Core.Path.{_≡_}
 use mathlib.Core.Bool.{true}
+use mathlib.Core.List.{List}
 use lib.ListN.{length, getD}
-use Rattle.state.specs.declared.kinds.Terms.{Terms}
+use Rattle.state.specs.declared.kinds.Profile.{Profile}
+use Rattle.state.specs.declared.kinds.ControlRun.{ControlRun}
+use Rattle.state.specs.declared.kinds.Controller.{Controller}
+use Rattle.state.specs.declared.kinds.Host.{Host}
 use Rattle.state.specs.declared.kinds.Hand.{Hand}
 use Rattle.state.specs.declared.kinds.Ring.{Ring}
 use Rattle.state.specs.declared.kinds.Counts.{Counts}
+use Rattle.state.specs.declared.kinds.Ends.{Ends}
 use Rattle.state.specs.declared.kinds.Record.{Record}
 use Rattle.state.specs.Conn.{closedCounts}
+use Rattle.state.specs.Profile.{leastSize, ProfileWithin}
 use Rattle.area.specs.Map.{wireSlots, storeSlots, messageSize, controlSize, places}
 use Rattle.record.specs.Layout.{pairsRoom}
 
@@ -30,12 +36,6 @@ pub record FitHand (h : Hand) : Type 0 where
   pub len : h .len ≤ messageSize
   pub at : h .at ≤ h .len
 
--- terms of the profile
-pub record FitTerms (t : Terms) : Type 0 where
-  pub payload : 1 ≤ t .payload
-  pub credits : 1 ≤ t .credits
-  pub limit : (t .credits ≡ 255 → ⊥) → t .credits ≤ 8
-
 -- a connection
 pub record FitCounts (c : Counts) : Type 0 where
   pub held : c .host .held ≤ c .host .grant
@@ -46,16 +46,29 @@ pub record FitCounts (c : Counts) : Type 0 where
   pub store : FitRing storeSlots (c .controller .store)
   pub controller-run : c .controller .run .len ≤ messageSize
 
+-- the controller's own numbers
+pub record FitController (k : Controller) : Type 0 where
+  pub pairs : k .pairs .count ≤ pairsRoom
+  pub given : (k .given ≡ 0 → ⊥) → (2 ≤ k .given) × (k .given ≤ 5)
+
+-- what both ends have besides connections. It is said of the parts, so that what changes connections alone keeps it.
+pub record FitParts (p : Profile) (h : Host) (hears : ControlRun) (k : Controller) (asks : ControlRun) (says : Hand) : Type 0 where
+  pub profile : ProfileWithin p
+  pub size : leastSize ≤ h .size
+  pub hearing : hears .run .len ≤ controlSize
+  pub controller : FitController k
+  pub asking : asks .run .len ≤ controlSize
+  pub endpoint : FitHand says
+
+abbrev pub FitEnds : Ends → Type 0
+FitEnds e = FitParts (e .profile) (e .host) (e .hearing) (e .controller) (e .asking) (e .endpoint)
+
+-- every connection, by place
+abbrev pub Each : (Counts → Type 0) → List Counts → Type 0
+Each P l = (p : ℕ) → p < places → P (getD l p closedCounts)
+
 pub record Fit (r : Record) : Type 0 where
   pub down : FitRing wireSlots (r .down)
   pub up : FitRing wireSlots (r .up)
-  pub size : 32 ≤ r .ends .host .size
-  pub hearing : r .ends .hearing .run .len ≤ controlSize
-  pub asking : r .ends .asking .run .len ≤ controlSize
-  pub pairs : r .ends .controller .pairs .count ≤ pairsRoom
-  pub given : (r .ends .controller .given ≡ 0 → ⊥) → (2 ≤ r .ends .controller .given) × (r .ends .controller .given ≤ 5)
-  pub control : 32 ≤ r .ends .profile .control
-  pub dynamic : FitTerms (r .ends .profile .dynamic)
-  pub fixed : FitTerms (r .ends .profile .fixed)
-  pub endpoint : FitHand (r .ends .endpoint)
-  pub conns : (p : ℕ) → p < places → FitCounts (getD (r .ends .conns) p closedCounts)
+  pub own : FitEnds (r .ends)
+  pub conns : Each FitCounts (r .ends .conns)

@@ -6,8 +6,6 @@ use mathlib.Core.List.{List}
 use lib.ListN.{getD}
 use lib.Dec.{eqb, ltb, leb}
 use Rattle.octets.specs.Octets.{Octets}
-use Rattle.state.specs.declared.kinds.Terms.{Terms}
-use Rattle.state.specs.declared.kinds.Profile.{Profile}
 use Rattle.state.specs.declared.kinds.Hand.{Hand}
 use Rattle.state.specs.declared.kinds.Ring.{Ring}
 use Rattle.state.specs.declared.kinds.HostSide.{HostSide}
@@ -16,6 +14,7 @@ use Rattle.state.specs.declared.kinds.Counts.{Counts}
 use Rattle.state.specs.declared.kinds.Ends.{Ends}
 use Rattle.state.specs.declared.kinds.Record.{Record}
 use Rattle.state.specs.Conn.{closedCounts}
+use Rattle.state.specs.Profile.{leastSize, profileOk}
 use Rattle.area.specs.Map.{wireSlots, storeSlots, messageSize, controlSize}
 use Rattle.record.specs.Layout.{slot, lostPart, runPart, pendingPart, pairsRoom, rfPart, selectedPart, handPart, hostRunPart, controllerRunPart, hostSideSize, countsPart, hostPlace, hearingPlace, controllerPlace, askingPlace, endpointPlace, connsPlace}
 use Rattle.record.specs.Reading.{decodeOf}
@@ -31,14 +30,6 @@ handOk h = leb (h .len) messageSize && leb (h .at) (h .len)
 -- "a place": the last Conn ID given, 0 for none
 unfoldable pub givenOk : ℕ → Bool
 givenOk id = eqb id 0 || (leb 2 id && leb id 5)
-
--- "a profile .. outside its limits": "Payloads are 1-255. Credits are 1-8, or 255 for no flow control."
-unfoldable pub termsOk : Terms → Bool
-termsOk t = leb 1 (t .payload) && leb 1 (t .credits) && (leb (t .credits) 8 || eqb (t .credits) 255)
-
--- "most control payload (32-255)"
-unfoldable pub profileOk : Profile → Bool
-profileOk p = leb 32 (p .control) && termsOk (p .dynamic) && termsOk (p .fixed)
 
 -- at the host: "the grant held"; "open connection's payload"; a message in hand, and one in reassembly
 unfoldable pub hostSideOk : HostSide → Bool
@@ -58,10 +49,10 @@ countsOkIn l p = countsOk (getD l p closedCounts)
 unfoldable pub connsOk : List Counts → Bool
 connsOk l = countsOkIn l 0 && countsOkIn l 1 && countsOkIn l 2 && countsOkIn l 3 && countsOkIn l 4
 
--- "host's control size"; control runs of 255 octets, for which the area has room; "8 pairs"
+-- "host's control size"; control runs of 255 octets, for which the area has room; "8 pairs"; "a profile .. outside its limits"
 unfoldable pub endsOk : Ends → Bool
 endsOk e =
-    leb 32 (e .host .size)
+    leb leastSize (e .host .size)
     && leb (e .hearing .run .len) controlSize
     && leb (e .asking .run .len) controlSize
     && leb (e .controller .pairs .count) pairsRoom

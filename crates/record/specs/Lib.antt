@@ -4,4 +4,6 @@ pub mod Writing
 pub mod Judge
 pub mod Load
 pub mod Fit
+pub mod Small
+pub mod Plan
 pub mod Claims

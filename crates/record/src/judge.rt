@@ -14,15 +14,15 @@ use state::kinds::Counts;
 use state::kinds::Ends;
 use state::kinds::Hand;
 use state::kinds::HostSide;
-use state::kinds::Profile;
 use state::kinds::Record;
-use state::kinds::Terms;
+use state::profile::LEAST_SIZE;
+use state::profile::profile_ok;
 ghost use mathlib.Core.Path.{_≡_};
 ghost use Prim.Native.Nat.{_+_, _≤_};
 ghost use lib.ListN.{length};
 ghost use Rattle.area.specs.Map.{areaSize};
 ghost use Rattle.record.specs.Layout.{countsSize, connsSize, recordEnd};
-ghost use Rattle.record.specs.Judge.{handOk, givenOk, termsOk, profileOk, hostSideOk, controllerSideOk, countsOk, connsOk, endsOk, recordOk, rfKnown, connKnown, connsKnown, tagsOk, judgeOf};
+ghost use Rattle.record.specs.Judge.{handOk, givenOk, hostSideOk, controllerSideOk, countsOk, connsOk, endsOk, recordOk, rfKnown, connKnown, connsKnown, tagsOk, judgeOf};
 
 // Where tags stand in the record: of the unanswered command, of the two control runs, of the RF state and its selection.
 const PENDING: usize = places::HOST + places::PENDING_PART;
@@ -52,18 +52,6 @@ fn given_ok(id: u8) -> bool
     ensures { λ r. ⌜ r ≡ givenOk id ⌝ }
 {
     (id == 0) | ((2 <= id) & (id <= 5))
-}
-
-fn terms_ok(t: Terms) -> bool
-    ensures { λ r. ⌜ r ≡ termsOk t ⌝ }
-{
-    (1 <= t.payload) & (1 <= t.credits) & ((t.credits <= 8) | (t.credits == 255))
-}
-
-fn profile_ok(p: Profile) -> bool
-    ensures { λ r. ⌜ r ≡ profileOk p ⌝ }
-{
-    (32 <= p.control) & terms_ok(p.dynamic) & terms_ok(p.fixed)
 }
 
 fn host_side_ok(h: HostSide) -> bool
@@ -99,7 +87,7 @@ fn ends_ok(e: Ends) -> bool
     ensures { λ r. ⌜ r ≡ endsOk e ⌝ }
 {
     let conns = e.conns;
-    let numbers = (32 <= e.host.size)
+    let numbers = (LEAST_SIZE <= e.host.size)
         & (e.hearing.run.len <= CONTROL)
         & (e.asking.run.len <= CONTROL)
         & (e.controller.pairs.count <= places::PAIRS_ROOM);

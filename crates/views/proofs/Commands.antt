@@ -15,9 +15,9 @@ use Rattle.state.specs.declared.kinds.Record.{Record}
 use Rattle.area.specs.Map.{payloadSize, wireSlots, areaSize, downAt}
 use Rattle.area.specs.Ring.{freeAt, putInto}
 use Rattle.area.specs.Movers.{putsAll}
+use Rattle.record.specs.Plan.{withDown}
 use Rattle.model.specs.State as bench
 use Rattle.views.specs.View.{downOf, view}
-use Rattle.views.specs.Plan.{withDown}
 use Rattle.views.specs.Moves.{Sound}
 use Rattle.views.proofs.Moved.{put-down}
 
@@ -58,15 +58,7 @@ put-sound a r s v h =
           record {
             down = record { head = f .down .head; count = omega arith };
             up = f .up;
-            size = f .size;
-            hearing = f .hearing;
-            asking = f .asking;
-            pairs = f .pairs;
-            given = f .given;
-            control = f .control;
-            dynamic = f .dynamic;
-            fixed = f .fixed;
-            endpoint = f .endpoint;
+            own = f .own;
             conns = f .conns;
           };
       shape = record { pairs = s .shape .pairs; conns = s .shape .conns };

@@ -15,9 +15,9 @@ use Rattle.state.specs.declared.kinds.Record.{Record}
 use Rattle.area.specs.Map.{payloadSize, slotSize, wireSlots, wireSize, storeSize, messageSize, controlSize, storesAt, downAt, upAt, storeAt, handAt, endpointAt, hostRunAt, controllerRunAt, askingAt, hearingAt}
 use Rattle.area.specs.Ring.{slotPacket, trim, freeAt, tookFrom, putInto}
 use Rattle.area.proofs.Rings.{slot-written, slot-copied, wire, packets-put, packets-took}
+use Rattle.record.specs.Plan.{withDown, withUp}
 use Rattle.model.specs.State as bench
 use Rattle.views.specs.View.{handOf, controlRunOf, connsOf, downOf, upOf, view}
-use Rattle.views.specs.Plan.{withDown, withUp}
 use Rattle.views.specs.Moves.{Sound}
 use Rattle.views.proofs.Parts.{Same, hand-same, run-same, packets-same}
 use Rattle.views.proofs.Frames.{Outside, outside-splice, same-outside, conns-kept}
@@ -27,14 +27,14 @@ use Rattle.views.proofs.Frames.{Outside, outside-splice, same-outside, 
 module _ (a b : Octets) (r : Record) (s : Sound a r) where
   pub hearing-kept : Same hearingAt controlSize a b → controlRunOf hearingAt b (r .ends .hearing) ≡ controlRunOf hearingAt a (r .ends .hearing)
   hearing-kept k i =
-      record { mt = r .ends .hearing .mt; gid = r .ends .hearing .gid; oid = r .ends .hearing .oid; run = run-same hearingAt controlSize a b (r .ends .hearing .run) (s .fit .hearing) k i }
+      record { mt = r .ends .hearing .mt; gid = r .ends .hearing .gid; oid = r .ends .hearing .oid; run = run-same hearingAt controlSize a b (r .ends .hearing .run) (s .fit .own .hearing) k i }
 
   pub asking-kept : Same askingAt controlSize a b → controlRunOf askingAt b (r .ends .asking) ≡ controlRunOf askingAt a (r .ends .asking)
   asking-kept k i =
-      record { mt = r .ends .asking .mt; gid = r .ends .asking .gid; oid = r .ends .asking .oid; run = run-same askingAt controlSize a b (r .ends .asking .run) (s .fit .asking) k i }
+      record { mt = r .ends .asking .mt; gid = r .ends .asking .gid; oid = r .ends .asking .oid; run = run-same askingAt controlSize a b (r .ends .asking .run) (s .fit .own .asking) k i }
 
   pub endpoint-kept : Same endpointAt messageSize a b → handOf endpointAt payloadSize b (r .ends .endpoint) ≡ handOf endpointAt payloadSize a (r .ends .endpoint)
-  endpoint-kept k = hand-same endpointAt payloadSize a b (r .ends .endpoint) (s .fit .endpoint .at) (s .fit .endpoint .len) k
+  endpoint-kept k = hand-same endpointAt payloadSize a b (r .ends .endpoint) (s .fit .own .endpoint .at) (s .fit .own .endpoint .len) k
 
   pub down-kept : Same downAt wireSize a b → downOf b r ≡ downOf a r
   down-kept k = packets-same downAt wireSlots wire a b (r .down) k

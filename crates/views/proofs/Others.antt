@@ -21,12 +21,12 @@ use Rattle.state.specs.Runs as runs
 use Rattle.area.specs.Map.{payloadSize, wireSize, storeSize, messageSize, controlSize, places, storesAt, downAt, upAt, storeAt, handAt, endpointAt, hostRunAt, controllerRunAt, askingAt, hearingAt, spareAt}
 use Rattle.area.specs.Ring.{tab, packetsFrom}
 use Rattle.area.specs.Runs.{handWith, runArea}
+use Rattle.record.specs.Plan.{withEndpoint, withHearing, withAsking, coldRecord}
 use Rattle.model.specs.Connection.{spoken}
 use Rattle.model.specs.Connection as connection
 use Rattle.model.specs.State as bench
 use Rattle.model.specs.Runs.{runFor, runAfter}
 use Rattle.views.specs.View.{handOf, runOf, controlRunOf, connectionOf, connsOf, downOf, upOf, view}
-use Rattle.views.specs.Plan.{withEndpoint, withHearing, withAsking, coldRecord}
 use Rattle.views.specs.Moves.{Sound}
 use Rattle.views.proofs.Parts.{hand-put}
 use Rattle.views.proofs.Runs.{run-joined, run-outside}
@@ -112,7 +112,7 @@ module _ (a : Octets) (r : Record) (s : Sound a r) (h : Header) (x : Segment) (e
         profile = r .ends .profile;
         host = r .ends .host;
         controller = r .ends .controller;
-        hearing = control-joined hearingAt a (r .ends .hearing) h x e (s .fit .hearing) (omega (arith, s .room)) i;
+        hearing = control-joined hearingAt a (r .ends .hearing) h x e (s .fit .own .hearing) (omega (arith, s .room)) i;
         asking = asking-kept a b r s (same-outside lo hi askingAt controlSize a b (inl (omega arith)) o) i;
         conns = conns-before a b r s lo hi o (omega arith) i;
         down = down-before a b r s lo hi o (omega arith) i;
@@ -131,7 +131,7 @@ module _ (a : Octets) (r : Record) (s : Sound a r) (h : Header) (x : Segment) (e
         host = r .ends .host;
         controller = r .ends .controller;
         hearing = hearing-kept a b r s (same-outside lo hi hearingAt controlSize a b (inr (omega arith)) o) i;
-        asking = control-joined askingAt a (r .ends .asking) h x e (s .fit .asking) (omega (arith, s .room)) i;
+        asking = control-joined askingAt a (r .ends .asking) h x e (s .fit .own .asking) (omega (arith, s .room)) i;
         conns = conns-before a b r s lo hi o (omega arith) i;
         down = down-before a b r s lo hi o (omega arith) i;
         up = up-before a b r s lo hi o (omega arith) i;

@@ -15,6 +15,7 @@ use Rattle.state.specs.declared.kinds.Record.{Record}
 use Rattle.state.specs.Conn as conn
 use Rattle.state.specs.Conn.{placeOf, countsOf}
 use Rattle.record.specs.Fit.{FitCounts}
+use Rattle.record.specs.Plan.{withConns, withHand, withHostRun, withStore, withControllerRun}
 use Rattle.area.specs.Map.{slotSize, storeSlots, wireSize, storeSize, messageSize, controlSize, places, storesAt, handsAt, hostRunsAt, controllerRunsAt, downAt, upAt, storeAt, handAt, endpointAt, hostRunAt, controllerRunAt, askingAt, hearingAt}
 use Rattle.area.specs.Ring.{trim, packetsIn, freeAt, putInto}
 use Rattle.area.specs.Runs.{handWith, runArea}
@@ -23,7 +24,6 @@ use Rattle.model.specs.Connection.{Connection, sent, heardData, stored}
 use Rattle.model.specs.Connection as connection
 use Rattle.model.specs.State as bench
 use Rattle.views.specs.View.{handOf, runOf, connectionOf, speechOf, view}
-use Rattle.views.specs.Plan.{withConns, withHand, withHostRun, withStore, withControllerRun}
 use Rattle.views.specs.Moves.{Sound, grew, joined}
 use Rattle.views.proofs.Parts.{hand-same, run-same, packets-same, hand-put}
 use Rattle.views.proofs.Runs.{run-joined, run-outside}

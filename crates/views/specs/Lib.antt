@@ -1,3 +1,2 @@
 pub mod View
-pub mod Plan
 pub mod Moves

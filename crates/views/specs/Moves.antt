@@ -19,6 +19,7 @@ use Rattle.state.specs.Conn as conn
 use Rattle.state.specs.Conn.{placeOf, countsOf}
 use Rattle.state.specs.Runs.{handedOn, joinedOf, runFor, controlJoined}
 use Rattle.record.specs.Fit.{Shape, Fit}
+use Rattle.record.specs.Plan.{withDown, withUp, withConns, withEndpoint, withHearing, withAsking, withHand, withHostRun, withStore, withControllerRun, coldRecord}
 use Rattle.area.specs.Map.{payloadSize, slotSize, wireSlots, storeSlots, messageSize, controlSize, places, downAt, upAt, storeAt, handAt, endpointAt, hostRunAt, controllerRunAt, askingAt, hearingAt, spareAt, areaSize}
 use Rattle.area.specs.Ring.{slotPacket, trim, packetsIn, freeAt, tookFrom, putInto}
 use Rattle.area.specs.Movers.{putsAll}
@@ -28,7 +29,6 @@ use Rattle.model.specs.Connection as connection
 use Rattle.model.specs.State as bench
 use Rattle.model.specs.Runs.{runAfter}
 use Rattle.views.specs.View.{handOf, runOf, connectionOf, speechOf, downOf, upOf, view}
-use Rattle.views.specs.Plan.{withDown, withUp, withConns, withEndpoint, withHearing, withAsking, withHand, withHostRun, withStore, withControllerRun, coldRecord}
 
 -- ---- one run
 

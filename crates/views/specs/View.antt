@@ -17,6 +17,7 @@ use Rattle.state.specs.declared.kinds.Record.{Record}
 use Rattle.state.specs.Conn.{placeOf, countsOf}
 use Rattle.area.specs.Map.{payloadSize, wireSlots, storeSlots, downAt, upAt, storeAt, handAt, endpointAt, hostRunAt, controllerRunAt, askingAt, hearingAt}
 use Rattle.area.specs.Ring.{packetsIn}
+use Rattle.record.specs.Reading.{decodeOf}
 use Rattle.model.specs.Connection.{HostEnd, ControllerEnd, Connection}
 use Rattle.model.specs.State.{ControlRun, State}
 
@@ -89,3 +90,7 @@ view a r =
       down = downOf a r;
       up = upOf a r;
     }
+
+-- the state that an area stands for, by its own record
+abbrev pub viewOf : Octets → State
+viewOf a = view a (decodeOf a)

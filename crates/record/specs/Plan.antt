@@ -1,6 +1,6 @@
--- What the moves do to the record's numbers: the plans that the calls stand on.
+-- Records with one part changed, and the cold one: the plans that the calls stand on.
 -- Assumes nothing.
-use mathlib.Core.List.{List, [], _∷_}
+use mathlib.Core.List.{List}
 use Rattle.state.specs.declared.kinds.Profile.{Profile}
 use Rattle.state.specs.declared.kinds.Hand.{Hand}
 use Rattle.state.specs.declared.kinds.Ring.{Ring}
@@ -11,8 +11,8 @@ use Rattle.state.specs.declared.kinds.Progress.{Progress}
 use Rattle.state.specs.declared.kinds.ControlRun.{ControlRun}
 use Rattle.state.specs.declared.kinds.Ends.{Ends}
 use Rattle.state.specs.declared.kinds.Record.{Record}
-use Rattle.state.specs.Conn.{start, empty, emptyRing, closedCounts}
-use Rattle.model.specs.State.{coldHost, coldController}
+use Rattle.state.specs.Conn.{emptyRing}
+use Rattle.state.specs.Cold.{coldEnds}
 
 -- ---- one part of the record
 
@@ -83,21 +83,7 @@ withAsking k r =
 
 -- both ends cold, both wires empty
 abbrev pub coldRecord : Profile → Record
-coldRecord p =
-    record {
-      ends =
-          record {
-            profile = p;
-            host = coldHost;
-            hearing = record { mt = 0; gid = 0; oid = 0; run = start };
-            controller = coldController;
-            asking = record { mt = 0; gid = 0; oid = 0; run = start };
-            endpoint = empty;
-            conns = closedCounts ∷ closedCounts ∷ closedCounts ∷ closedCounts ∷ closedCounts ∷ [];
-          };
-      down = emptyRing;
-      up = emptyRing;
-    }
+coldRecord p = record { ends = coldEnds p; down = emptyRing; up = emptyRing }
 
 -- ---- one part of a connection's counts
 
