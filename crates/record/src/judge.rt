@@ -63,7 +63,9 @@ fn host_side_ok(h: HostSide) -> bool
 fn controller_side_ok(k: ControllerSide) -> bool
     ensures { λ r. ⌜ r ≡ controllerSideOk k ⌝ }
 {
-    (k.owed <= k.grant) & ((k.store.count <= STORE) & (k.store.head < STORE)) & (k.run.len <= MESSAGE)
+    (k.owed <= k.grant)
+        & ((k.store.count <= STORE) & (k.store.head < STORE))
+        & (k.run.len <= MESSAGE)
 }
 
 fn counts_ok(c: Counts) -> bool

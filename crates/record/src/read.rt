@@ -180,7 +180,12 @@ fn host_at(s: &[u8], at: usize) -> Host
     ensures { λ r. ⌜ r ≡ hostAt (now (s .entry)) at ⌝ }
 {
     let size = s[at];
-    let pending = pending_of(s[at + places::PENDING_PART], s[at + 2], s[at + 3], s[at + 4]);
+    let pending = pending_of(
+        s[at + places::PENDING_PART],
+        s[at + 2],
+        s[at + 3],
+        s[at + 4],
+    );
     Host {
         size: size,
         pending: pending,
@@ -222,7 +227,12 @@ fn controller_at(s: &[u8], at: usize) -> Controller
 {
     let given = s[at + 1];
     let phase = phase_of(s[at]);
-    let rf = rf_of(s[at + places::RF_PART], s[at + places::SELECTED_PART], s[at + 4], s[at + 5]);
+    let rf = rf_of(
+        s[at + places::RF_PART],
+        s[at + places::SELECTED_PART],
+        s[at + 4],
+        s[at + 5],
+    );
     let pairs = pairs_at(s, at + places::PAIRS_PART);
     Controller {
         phase: phase,
