@@ -12,6 +12,7 @@ use Rattle.dh.specs.Kinds.notice as notice
 use Rattle.state.specs.Conn.{placeOf}
 use Rattle.state.specs.Commands.{commandOf, activationFailed}
 use Rattle.state.specs.Radio.{polls, listens, idOk}
+use Rattle.state.specs.Profile.{leastSize, creditsOk}
 
 -- ---- the notifications (003, Table 139)
 
@@ -29,10 +30,6 @@ noticeOf gid oid =
 
 -- ---- responses
 
--- credits of a create response or an activation
-abbrev pub creditsOk : ℕ → Bool
-creditsOk n = (leb 1 n && leb n 8) || eqb n 255
-
 abbrev pub statusAlone : Octets → Bool
 statusAlone m = eqb (length m) 1 && not (eqb (getD m 0 0) 0x00)
 
@@ -46,7 +43,7 @@ zeros m i (suc n) = zeros m i n && eqb (getD m (i + n) 0) 0x00
 
 unfoldable pub initWritten : Octets → Bool
 initWritten m =
-    eqb (length m) 16 && zeros m 0 5 && eqb (getD m 5 0) 0x04 && zeros m 6 2 && leb 32 (getD m 8 0) && zeros m 9 4
+    eqb (length m) 16 && zeros m 0 5 && eqb (getD m 5 0) 0x04 && zeros m 6 2 && leb leastSize (getD m 8 0) && zeros m 9 4
     && eqb (getD m 13 0) 0x01 && eqb (getD m 14 0) 0x01 && zeros m 15 1
 
 unfoldable pub createWritten : Octets → Bool

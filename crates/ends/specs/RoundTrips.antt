@@ -15,8 +15,9 @@ use Rattle.ends.specs.Kinds.heard.{Nothing, Activated, Deactivated}
 use Rattle.ends.specs.Kinds.event.{Found, Poll, Listen}
 use Rattle.state.specs.Conn.{connOf}
 use Rattle.state.specs.Radio.{polls, listens, idOk}
+use Rattle.state.specs.Profile.{creditsOk}
 use Rattle.messages.specs.Layout.{resetNtf, initRsp, createRsp, creditsNtf, genericErrorNtf, discoverNtf, activatedNtf, deactivateNtf}
-use Rattle.dh.specs.Contents.{creditsOk, createWritten, activatedWritten, written}
+use Rattle.dh.specs.Contents.{createWritten, activatedWritten, written}
 use Rattle.dh.specs.Host.{answerOf, noticed, creditsFor}
 use Rattle.air.specs.Air.{eventOf}
 

@@ -17,7 +17,8 @@ use Rattle.model.specs.Kinds.heard.{Nothing, Answered}
 use Rattle.state.specs.Radio.{idOk}
 use Rattle.state.specs.Commands.{commandOf}
 use Rattle.state.proofs.Chains.{on, every-at}
-use Rattle.dh.specs.Contents.{creditsOk, statusAlone, createWritten, okWritten, activatedWritten, noticeWritten, noticeOf, written}
+use Rattle.state.specs.Profile.{creditsOk}
+use Rattle.dh.specs.Contents.{statusAlone, createWritten, okWritten, activatedWritten, noticeWritten, noticeOf, written}
 use Rattle.dh.specs.Host.{heardAlone, answerOf, okAnswer, noticed, creditsFor}
 use Rattle.wires.specs.Tally.{aimedAt, says}
 use Rattle.model.specs.Changes.{Change, stays, opens, closes, gives, changeHeard}

@@ -4,24 +4,25 @@ use Prim.Native.Nat.{ℕ, suc, _+_, _≤_, _<_, _%_}
 use native.Mathlib.Omega.{arith}
 use mathlib.Core.Path.{_≡_, refl, sym, ap, _∙_}
 use mathlib.Core.Logic.{inr}
-use mathlib.Core.Bool.{Bool, true, false, not, _&&_, _||_}
+use mathlib.Core.Bool.{Bool, true, false, not, _&&_, _||_, false≢true}
 use mathlib.Core.List.{List, [], _∷_, _++_, append-nil, cons≢nil}
-use lib.Dec.{eqb, ltb, leb}
+use lib.Dec.{eqb, ltb}
 use lib.ListN.{length, getD}
-use borrow.Author.Tests.{leb-true, ltb-false, not-false}
+use borrow.Author.Tests.{eq-eqb, ltb-false, not-false}
 use Rattle.octets.specs.Octets.{Octets, pick}
 use Rattle.packets.specs.Segments.{Segment, more, last, segments, segmentPacket, packetsOf}
 use Rattle.packets.specs.Reassembly.{run, grown, finished}
 use Rattle.state.specs.Conn.{flows, owing}
 use Rattle.messages.specs.Layout.{creditsNtf, entriesFrom}
-use Rattle.dh.specs.Contents.{creditsOk}
 use Rattle.state.specs.Runs.{dataLimit, controlLimit}
+use Rattle.state.specs.Profile.{creditsOk, profileIn}
 use Rattle.state.proofs.Chains.{on, or-left, or-right}
 use Rattle.model.specs.Connection.{ControllerEnd, withHost, withController, sent, pushed, consumed, owedOn, spoken}
 use Rattle.messages.specs.Packets.{noticePacket}
 use Rattle.packets.specs.Headers.{dataHeader, controlHeader}
 use Rattle.wires.specs.Meaning.{Meaning, datum, control, junk, meaning}
-use Rattle.model.specs.State.{State, profileIn, withConns, withUp, at}
+use Rattle.model.specs.State.{State, withConns, withUp, at}
+use Rattle.state.proofs.Limits.{credits-few}
 use Rattle.model.specs.Effects.{taken, fresh, power, command, send, push, consume, credit, reply, report}
 use Rattle.model.specs.Refusals.{isNil, noConn}
 use Rattle.dh.specs.Host.{isClosing}
@@ -46,14 +47,7 @@ use Rattle.model.proofs.Fine.{sound-control, sound-data, put-data, acco
 module _ (s : State) (aim : ℕ) (l : ℕ → Ledger) (f : Fine s aim l) where
   -- credits within their limits are at most eight, under flow control
   few-credits : (n : ℕ) → creditsOk n ≡ true → flows n ≡ true → n ≤ 8
-  few-credits n ok flow = go (leb 1 n) (leb n 8) refl (eqb n 255) ok flow
-    where
-      go : (a b : Bool) → leb n 8 ≡ b → (c : Bool) → ((a && b) || c) ≡ true → not c ≡ true → n ≤ 8
-      go a true e c h k = leb-true n 8 e
-      go true false e true h k = clash k refl
-      go true false e false h k = clash h refl
-      go false false e true h k = clash k refl
-      go false false e false h k = clash h refl
+  few-credits n ok flow = credits-few n ok (λ e. false≢true (sym (ap not (eq-eqb n 255 e)) ∙ flow))
 
   few-owed : (d : ℕ) → s .conns d .controller .owed ≤ 8
   few-owed d = go (s .conns d .controller .opened) refl (flows (s .conns d .controller .grant)) refl

@@ -19,6 +19,7 @@ use Rattle.model.specs.Kinds.answer.{Done, ClosesAll, Sized, Opens, Clos
 use Rattle.model.specs.Kinds.heard.{Nothing, Dropped, Answered, Activated, Deactivated, Credits}
 use Rattle.state.specs.Conn.{placeOf, termsOf}
 use Rattle.state.specs.Runs.{dataLimit, controlLimit}
+use Rattle.state.specs.Profile.{profileIn, ProfileWithin}
 use Rattle.nfcc.specs.Controller.{judgeOf}
 use Rattle.messages.specs.Layout.{noticeMessage}
 use Rattle.dh.specs.Host.{hostAfter, hearOf}
@@ -28,7 +29,7 @@ use Rattle.model.specs.Connection.{Connection, withHost, withController,
 use Rattle.packets.specs.Headers.{dataHeader}
 use Rattle.messages.specs.Packets.{noticePackets}
 use Rattle.wires.specs.Meaning.{Meaning, datum, control, junk, meaning}
-use Rattle.model.specs.State.{State, isOpen, at, withConns, withDown, withUp, withAsking, withHearing, ControlRun, profileIn, withHostState}
+use Rattle.model.specs.State.{State, isOpen, at, withConns, withDown, withUp, withAsking, withHearing, ControlRun, withHostState}
 use Rattle.model.specs.Effects.{fresh, power, command, send, push, down, consume, credit, air, reply, up, report, Effect, taken}
 use Rattle.model.specs.Refusals.{first, noConn, isNil, full, isHeld}
 use Rattle.model.specs.Runs.{runFor, runAfter, wholeBy}
@@ -42,7 +43,7 @@ use Rattle.model.specs.calls.Reply.{replying}
 use Rattle.model.specs.calls.Up.{heard, hearing, coming, reading}
 use Rattle.model.specs.Bench.{rules, act}
 use Rattle.model.specs.Observer.{Ledger}
-use Rattle.model.specs.Reachable.{Always, RunWithin, ProfileWithin, Sizes}
+use Rattle.model.specs.Reachable.{Always, RunWithin, Sizes}
 use Rattle.model.proofs.Link.{clash, held-le, owed-le}
 use Rattle.model.proofs.Verdicts.{Fits, judge-fits, Within, event-within}
 use Rattle.model.proofs.Meanings.{meaning-data}

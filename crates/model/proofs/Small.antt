@@ -20,6 +20,7 @@ use Rattle.model.specs.Kinds.aired.{Refused, Goes, Activates, Ends, Spea
 use Rattle.model.specs.Kinds.answer.{Opens, Closes}
 use Rattle.state.specs.Radio.{isIdle, addedTo}
 use Rattle.state.specs.Runs.{dataLimit, controlLimit}
+use Rattle.state.specs.Profile.{TermsWithin}
 use Rattle.nfcc.specs.Controller.{turned, controllerAfter}
 use Rattle.air.specs.Air.{listedAfter, controllerAired}
 use Rattle.state.proofs.Chains.{on}
@@ -29,7 +30,7 @@ use Rattle.model.specs.Effects.{down, up}
 use Rattle.model.specs.Refusals.{noConn}
 use Rattle.model.specs.Changes.{Change, stays, opens, closes, gives, atController, atHost}
 use Rattle.model.specs.calls.Up.{hearing}
-use Rattle.model.specs.Reachable.{octetsIn, RunWithin, TermsWithin}
+use Rattle.model.specs.Reachable.{octetsIn, RunWithin}
 use Rattle.model.proofs.Link.{clash}
 use Rattle.model.proofs.Verdicts.{Fits}
 use Rattle.model.proofs.Messages.{Limits}

@@ -11,7 +11,8 @@ use Rattle.packets.proofs.Reassembly.{flow-prefix}
 use Rattle.state.specs.Conn.{flows}
 use Rattle.wires.specs.Tally.{dataCount, creditsUp}
 use Rattle.model.specs.Connection.{owedOn}
-use Rattle.model.specs.State.{State, cold, profileIn, profileOk}
+use Rattle.model.specs.State.{State, cold}
+use Rattle.state.specs.Profile.{profileIn, profileOctetsOk}
 use Rattle.model.specs.Effects.{Call, fresh, power, command, send, push, down, consume, credit, air, reply, up, report, Result, taken, refused}
 use Rattle.model.specs.Refusals.{first, noConn}
 use Rattle.model.specs.calls.Consume.{isLoop}
@@ -65,7 +66,7 @@ calls-keep [] s o k = k
 calls-keep (c ∷ cs) s o k = calls-keep cs (step c s .effect .next) (observe (eventOf c (step c s)) o) (step-keeps c s o k)
 
 -- the invariant, after every list of calls
-pub reachable : (profile : Octets) → profileOk profile ≡ true → (calls : List Call)
+pub reachable : (profile : Octets) → profileOctetsOk profile ≡ true → (calls : List Call)
     → Kept (after calls (cold (profileIn profile))) (observed (events calls (cold (profileIn profile))) opening)
 reachable profile ok calls = calls-keep calls (cold (profileIn profile)) opening (kept (cold-fine (profileIn profile) (profile-limits profile ok)))
 

@@ -9,7 +9,8 @@ use Rattle.octets.specs.Octets.{Octets, pick}
 use Rattle.packets.specs.Reassembly.{Prefix}
 use Rattle.state.specs.Conn.{flows}
 use Rattle.wires.specs.Tally.{dataCount, creditsUp}
-use Rattle.model.specs.State.{State, cold, profileOk, profileIn}
+use Rattle.model.specs.State.{State, cold}
+use Rattle.state.specs.Profile.{profileIn, profileOctetsOk}
 use Rattle.model.specs.Effects.{Call, report, taken}
 use Rattle.model.specs.calls.Consume.{isLoop}
 use Rattle.model.specs.Bench.{step}
@@ -65,5 +66,5 @@ pub record Claim (c : ℕ) (s : State) (o : Account) : Type 0 where
 -- for every profile that fresh takes, every list of calls and every number
 abbrev pub Demand : Type 0
 Demand =
-    (profile : Octets) → profileOk profile ≡ true → (calls : List Call) (c : ℕ)
+    (profile : Octets) → profileOctetsOk profile ≡ true → (calls : List Call) (c : ℕ)
     → Claim c (after calls (cold (profileIn profile))) (observed (events calls (cold (profileIn profile))) opening)

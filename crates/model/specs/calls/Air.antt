@@ -8,7 +8,6 @@ use lib.ListN.{drop}
 use Rattle.octets.specs.Octets.{Octets}
 use Rattle.packets.specs.Segments.{segments}
 use Rattle.model.specs.Kinds.{Terms, Event, Aired}
-use Rattle.model.specs.Kinds.event.{Bad, Found, Poll, Listen, Failed, Sleeps, LinkLost, Releases, Endpoint}
 use Rattle.model.specs.Kinds.aired.{Refused, Goes, Activates, Ends, Speaks}
 use Rattle.state.specs.Conn.{termsOf}
 use Rattle.air.specs.Air.{eventOf, kindOf, airedBy, isRefused, airMessage, controllerAired}
