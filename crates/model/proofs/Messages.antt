@@ -22,7 +22,7 @@ use Rattle.state.specs.Conn.{placeOf, connOf, termsOf}
 use Rattle.state.specs.Commands.{commandOf}
 use Rattle.messages.specs.Layout.{Message, resetNtf, creditsNtf, genericErrorNtf, discoverNtf, activatedNtf, deactivateNtf, responseOf, responseMessage, noticeMessage}
 use Rattle.state.specs.Radio.{isActive, isListening, isAsleep, polls}
-use Rattle.state.specs.Profile.{leastSize, profileOctetsOk, profileIn}
+use Rattle.state.specs.Profile.{leastSize, profileOk, profileIn, profileOctetsOk}
 use Rattle.dh.specs.Contents.{written, noticeOf, entryId, entryCredits, entryOk, entriesOk, creditsWritten}
 use Rattle.dh.specs.Host.{answerOf, heardAlone, creditsFor, creditsIn}
 use Rattle.air.specs.Air.{airMessage, airedBy, isRefused}
@@ -54,7 +54,7 @@ pub record Limits (p : Profile) : Type 0 where
 -- that of a profile which `fresh` takes
 pub profile-limits : (m : Octets) → profileOctetsOk m ≡ true → Limits (profileIn m)
 profile-limits m h =
-    let w = profile-within (profileIn m) (and-right (eqb (length m) 5) (profileOctetsOk (profileIn m)) h) in
+    let w = profile-within (profileIn m) (and-right (eqb (length m) 5) (profileOk (profileIn m)) h) in
     record {
       control = w .control-least;
       control-most = w .control-most;
