@@ -3,7 +3,14 @@
 ghost use mathlib.Core.Path.{_≡_};
 ghost use Prim.Native.Nat.{_+_, _≤_};
 ghost use lib.ListN.{length, getD};
-ghost use Rattle.octets.specs.Octets.{cut, splice};
+ghost use Rattle.octets.specs.Octets.{pick, cut, splice};
+
+// One of two octets, by a test: the number of a rule where it applies, else what the rules after it say.
+pub fn choose(test: bool, a: u8, b: u8) -> u8
+    ensures { λ r. ⌜ r ≡ pick test a b ⌝ }
+{
+    if test { a } else { b }
+}
 
 // At most n octets of s from index at on, as a part of s itself: as many as there are.
 pub fn window<'a>(s: &'a [u8], at: usize, n: usize) -> &'a [u8]

@@ -7,3 +7,4 @@ pub mod Others
 pub mod Commands
 pub mod Whole
 pub mod Stored
+pub mod Tests

@@ -1,0 +1,4 @@
+pub mod Rules
+pub mod Called
+pub mod Refining
+pub mod Pushing

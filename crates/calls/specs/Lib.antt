@@ -1,0 +1,6 @@
+pub mod Kinds
+pub mod Word
+pub mod Outcome
+pub mod Seen
+pub mod Refines
+pub mod calls

@@ -1,0 +1,44 @@
+-- What a call on octets comes to, and what all calls share: refusals 1 and 2, and that a refusal changes nothing.
+-- Assumes nothing.
+use Prim.Native.Nat.{ℕ}
+use mathlib.Core.Path.{_≡_}
+use mathlib.Core.Bool.{not}
+use mathlib.Core.List.{List, [], _∷_, _++_}
+use lib.ListN.{length}
+use lib.Dec.{ltb}
+use Rattle.octets.specs.Octets.{Octets, pick}
+use Rattle.area.specs.Map.{areaSize, messageSize}
+use Rattle.record.specs.Judge.{judgeOf}
+use Rattle.model.specs.Effects.{Result, taken, refused}
+use Rattle.model.specs.Refusals.{Rule, rule, first}
+
+-- the word answered, the area and the message buffer after the call
+pub record Outcome : Type 0 where
+  pub word : ℕ
+  pub area : Octets
+  pub out : Octets
+
+abbrev pub outcome : ℕ → Octets → Octets → Outcome
+outcome w a out = record { word = w; area = a; out = out }
+
+-- a refusal is its number, and changes no octet
+abbrev pub decided : Result → Outcome → Octets → Octets → Outcome
+decided taken o a out = o
+decided (refused n) o a out = outcome n a out
+
+-- an area too short has no record to be judged; a record that cannot be; a message buffer too short
+abbrev pub entryRules : Octets → ℕ → List Rule
+entryRules a room = rule 2 (ltb (length a) areaSize) ∷ rule 1 (not (judgeOf a)) ∷ rule 2 (ltb room messageSize) ∷ []
+
+-- a call with rules of its own that comes to o where it is taken; they are those of the model on the state that the area stands for
+unfoldable pub called : List Rule → Outcome → Octets → Octets → Outcome
+called rs o a out = decided (first (entryRules a (length out) ++ rs)) o a out
+
+-- the number of the first rule that applies, 0 for none: what the code's guards answer
+unfoldable pub lowest : List Rule → ℕ
+lowest [] = 0
+lowest (r ∷ rs) = pick (r .test) (r .number) (lowest rs)
+
+-- n is that number, whatever octets the area has: of rules that look at the record alone
+abbrev pub Lowest : (Octets → List Rule) → ℕ → Type 0
+Lowest rs n = (a : Octets) → n ≡ lowest (rs a)
