@@ -1,3 +1,4 @@
 pub mod Kinds
 pub mod RoundTrips
 pub mod Backwards
+pub mod Changes

@@ -24,7 +24,8 @@ use Rattle.messages.specs.Packets.{noticePackets}
 use Rattle.model.specs.State.{State, withConns, withUp, withControllerState, at}
 use Rattle.model.specs.Effects.{air}
 use Rattle.model.specs.Refusals.{isNil}
-use Rattle.model.specs.Changes.{Change, stays, opens, changeAired, atController}
+use Rattle.ends.specs.Changes.{Change, stays, opens, changeAired}
+use Rattle.model.specs.Changes.{atController}
 use Rattle.model.specs.calls.Air.{airingAs, airing, isBad, isEndpoint, isRefused, activates}
 use Rattle.model.specs.Bench.{rules}
 use Rattle.model.specs.Observer.{Ledger, spokenL, airedL, shown}

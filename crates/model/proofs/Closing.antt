@@ -21,7 +21,7 @@ use Rattle.dh.specs.Host.{okAnswer, answerOf, noticed, heardAlone, creditsFor, 
 use Rattle.state.proofs.Chains.{on}
 use Rattle.wires.specs.Meaning.{Meaning, datum, control, junk, meaning}
 use Rattle.wires.specs.Tally.{says}
-use Rattle.model.specs.Changes.{Change, stays, opens, changeHeard}
+use Rattle.ends.specs.Changes.{Change, stays, opens, changeHeard}
 use Rattle.model.proofs.Items.{Item, carry, credit, opened, closed, itemsBy, itemsIn, itemsOf}
 use Rattle.model.proofs.Phases.{walk, start, live, Ends, bad-walk}
 use Rattle.model.proofs.Link.{clash}

@@ -27,7 +27,8 @@ use Rattle.wires.specs.Tally.{aimedAt, says}
 use Rattle.messages.specs.Packets.{responsePacket, noticePacket, noticePackets}
 use Rattle.model.specs.State.{State, isOpen}
 use Rattle.model.specs.Refusals.{noConn}
-use Rattle.model.specs.Changes.{Change, stays, opens, closes, changeBy, atController}
+use Rattle.ends.specs.Changes.{Change, stays, opens, closes, changeBy}
+use Rattle.model.specs.Changes.{atController}
 use Rattle.model.specs.calls.Down.{answers, deciding}
 use Rattle.model.specs.Observer.{Ledger, shown}
 use Rattle.model.proofs.Items.{putsL, Item, opened, itemsBy, itemsOf, segsOf}

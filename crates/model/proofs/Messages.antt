@@ -33,7 +33,7 @@ use Rattle.wires.specs.Meaning.{control, meaning}
 use Rattle.wires.specs.Tally.{says}
 use Rattle.model.specs.State.{profileOk, profileIn}
 use Rattle.model.specs.Refusals.{noConn, ids}
-use Rattle.model.specs.Changes.{stays, opens, closes, changeBy, changeAired, changeHeard, changeAnswered, givenTo}
+use Rattle.ends.specs.Changes.{stays, opens, closes, changeBy, changeAired, changeHeard, changeAnswered, givenTo}
 use Rattle.model.specs.calls.Down.{answers}
 use Rattle.model.specs.calls.Credit.{allZero}
 use Rattle.model.specs.calls.Air.{isRefused}

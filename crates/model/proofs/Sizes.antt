@@ -32,7 +32,8 @@ use Rattle.model.specs.State.{State, isOpen, at, withConns, withDown, wi
 use Rattle.model.specs.Effects.{fresh, power, command, send, push, down, consume, credit, air, reply, up, report, Effect, taken}
 use Rattle.model.specs.Refusals.{first, noConn, isNil, full, isHeld}
 use Rattle.model.specs.Runs.{runFor, runAfter, wholeBy}
-use Rattle.model.specs.Changes.{stays, opens, closes, changeBy, changeHeard, atHost}
+use Rattle.ends.specs.Changes.{stays, opens, closes, changeBy, changeHeard}
+use Rattle.model.specs.Changes.{atHost}
 use Rattle.model.specs.calls.Push.{pushing}
 use Rattle.model.specs.calls.Down.{answers, deciding, answering, arriving, taking, tooTight, firstFull, needsTwo, storeFull}
 use Rattle.model.specs.calls.Consume.{isLoop, echo, segmentIn, joinedRun, consuming}

@@ -27,7 +27,8 @@ use Rattle.model.specs.Connection.{Connection, HostEnd, ControllerEnd, w
 use Rattle.model.specs.State.{State, cold, at}
 use Rattle.model.specs.Effects.{down, up}
 use Rattle.model.specs.Refusals.{noConn}
-use Rattle.model.specs.Changes.{Change, stays, opens, closes, gives, atController, atHost}
+use Rattle.ends.specs.Changes.{Change, stays, opens, closes, gives}
+use Rattle.model.specs.Changes.{atController, atHost}
 use Rattle.model.specs.calls.Up.{hearing}
 use Rattle.model.specs.Reachable.{octetsIn, RunWithin, TermsWithin}
 use Rattle.model.proofs.Link.{clash}

@@ -24,7 +24,7 @@ use Rattle.model.specs.State.{State, profileIn, isOpen, at, withConns, w
 use Rattle.model.specs.Effects.{Call, fresh, power, command, send, push, down, consume, credit, air, reply, up, report, Effect, taken}
 use Rattle.model.specs.Refusals.{first, noConn, isNil, isHeld}
 use Rattle.model.specs.Runs.{runAfter, wholeBy}
-use Rattle.model.specs.Changes.{changeBy, changeAired, changeHeard}
+use Rattle.ends.specs.Changes.{changeBy, changeAired, changeHeard}
 use Rattle.model.specs.calls.Push.{pushing}
 use Rattle.model.specs.calls.Down.{answers, deciding, answering, arriving, taking}
 use Rattle.model.specs.calls.Consume.{isLoop, echo, segmentIn, joinedRun, consuming}
