@@ -1,3 +1,4 @@
 pub mod Progress
 pub mod Chains
 pub mod Places
+pub mod Conns

@@ -2,7 +2,7 @@
 -- Assumes nothing.
 use Prim.Native.Nat.{ℕ, zero, suc, _+_, _<_}
 use native.Mathlib.Omega.{arith}
-use mathlib.Core.Path.{_≡_, refl, sym, _∙_}
+use mathlib.Core.Path.{_≡_, refl, sym, ap, subst, _∙_}
 use mathlib.Core.Bool.{Bool, true, false}
 use lib.Dec.{eqb}
 use borrow.Author.Tests.{eqb-true}
@@ -29,6 +29,10 @@ on-place c n k {rest} e f h = go (eqb c n) refl h
 pub conn-place : (c : ℕ) → placeOf c < 5 → connOf (placeOf c) ≡ c
 unfolding placeOf connOf
 conn-place c h = on-place c 0 0 refl (on-place c 2 1 refl (on-place c 3 2 refl (on-place c 4 3 refl (on-place c 5 4 refl (λ l. absurd (omega arith)))))) h
+
+-- two connections have two places
+pub places-differ : (c d : ℕ) → placeOf c < 5 → (c ≡ d → ⊥) → placeOf c ≡ placeOf d → ⊥
+places-differ c d h ne e = ne (sym (conn-place c h) ∙ ap connOf e ∙ conn-place d (subst (λ (p : ℕ). p < 5) e h))
 
 -- Conn IDs ascend with their places
 pub conn-suc : (p : ℕ) → p < 4 → connOf (suc p) ≡ 2 + p
