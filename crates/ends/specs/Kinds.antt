@@ -18,6 +18,7 @@ pub use Rattle.state.specs.declared.kinds.Rf.the-variants as rf
 pub use Rattle.state.specs.declared.kinds.Terms.{Terms}
 pub use Rattle.state.specs.declared.verdict.Verdict.{Verdict}
 pub use Rattle.state.specs.declared.verdict.Verdict.the-variants as verdict
+pub use Rattle.messages.specs.declared.layout.Note.{Note}
 pub use Rattle.air.specs.declared.events.Aired.{Aired}
 pub use Rattle.air.specs.declared.events.Aired.the-variants as aired
 pub use Rattle.air.specs.declared.events.Event.{Event}
@@ -28,3 +29,7 @@ pub use Rattle.dh.specs.declared.host.Answer.{Answer}
 pub use Rattle.dh.specs.declared.host.Answer.the-variants as answer
 pub use Rattle.dh.specs.declared.host.Heard.{Heard}
 pub use Rattle.dh.specs.declared.host.Heard.the-variants as heard
+pub use Rattle.ends.specs.declared.command.Answered.{Answered}
+pub use Rattle.ends.specs.declared.command.Decision.{Decision}
+pub use Rattle.ends.specs.declared.event.Met.{Met}
+pub use Rattle.ends.specs.declared.message.Heeded.{Heeded}

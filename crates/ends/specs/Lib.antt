@@ -2,3 +2,4 @@ pub mod Kinds
 pub mod RoundTrips
 pub mod Backwards
 pub mod Changes
+pub mod Steps
