@@ -1,12 +1,13 @@
 -- Contents that the bench's controller writes: document 01's layouts at their exact lengths, with values inside its limits. Contents
 -- never written have no effect (up under "Calls"), so the host asks one question before it listens: `written`.
 -- Assumes nothing.
-use Prim.Native.Nat.{ℕ, zero, suc, _+_, _*_, _-_}
+use Prim.Native.Nat.{ℕ, zero, suc, _+_, _*_, _-_, _≤_}
+use mathlib.Core.Path.{_≡_}
 use mathlib.Core.Bool.{Bool, true, false, _&&_, _||_, not}
 use lib.ListN.{length, getD}
 use lib.Dec.{eqb, ltb, leb}
 use Rattle.octets.specs.Octets.{Octets, pick}
-use Rattle.dh.specs.Kinds.{Command, Notice}
+use Rattle.dh.specs.Kinds.{Terms, Command, Notice}
 use Rattle.dh.specs.Kinds.command as command
 use Rattle.dh.specs.Kinds.notice as notice
 use Rattle.state.specs.Conn.{placeOf}
@@ -32,6 +33,11 @@ noticeOf gid oid =
 -- credits of a create response or an activation
 abbrev pub creditsOk : ℕ → Bool
 creditsOk n = (leb 1 n && leb n 8) || eqb n 255
+
+-- and its terms
+pub record TermsOk (t : Terms) : Type 0 where
+  pub payload : 1 ≤ t .payload
+  pub credits : creditsOk (t .credits) ≡ true
 
 abbrev pub statusAlone : Octets → Bool
 statusAlone m = eqb (length m) 1 && not (eqb (getD m 0 0) 0x00)

@@ -7,7 +7,7 @@ use mathlib.Core.Path.{_≡_, refl, sym, _∙_}
 use mathlib.Core.Bool.{Bool, true, false, _&&_, _||_}
 use mathlib.Core.List.{List}
 use lib.ListN.{length}
-use lib.Dec.{eqb, ltb}
+use lib.Dec.{eqb}
 use borrow.Author.Tests.{eqb-true, le-ltb}
 use Rattle.octets.specs.Octets.{Octets, pick}
 use Rattle.ends.specs.Kinds.{Terms, Profile, Hand, HostSide, ControllerSide, Counts, Verdict, Aired, Heard}

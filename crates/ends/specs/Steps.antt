@@ -2,10 +2,9 @@
 -- Assumes nothing.
 use Prim.Native.Nat.{ℕ, _-_}
 use mathlib.Core.Path.{_≡_}
-use mathlib.Core.Bool.{Bool}
 use lib.ListN.{length}
 use Rattle.octets.specs.Octets.{Octets}
-use Rattle.ends.specs.Kinds.{Ends, Verdict, Event, Aired, Heard, Note, Decision, Answered, Heeded, Met}
+use Rattle.ends.specs.Kinds.{Ends, Verdict, Event, Aired, Heard, Decision, Answered, Heeded, Met}
 use Rattle.state.specs.Conn.{openAt, heldOpen}
 use Rattle.nfcc.specs.Controller.{judgeOf, controllerAfter, connsAfter, endpointAfter}
 use Rattle.messages.specs.Layout.{Put, responseMessage, noticeMessage}

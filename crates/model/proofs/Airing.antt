@@ -32,7 +32,7 @@ use Rattle.model.specs.Observer.{Ledger, spokenL, airedL, shown}
 use Rattle.model.proofs.Items.{itemsBy, itemsOf, segsOf, putsL}
 use Rattle.model.proofs.Link.{clash}
 use Rattle.model.proofs.Acts.{MayPut, puts-good, air-good}
-use Rattle.model.proofs.Verdicts.{Within, event-within, found-by, poll-by, listen-by, failed-by, AirLegal, aired-legal}
+use Rattle.air.proofs.Taken.{Within, event-within, found-by, poll-by, listen-by, failed-by, AirLegal, aired-legal}
 use Rattle.model.proofs.Meanings.{itemsOf-append}
 use Rattle.model.proofs.Messages.{items-aired, Notices, notices-air}
 use Rattle.model.proofs.Order.{each, need, nil-of, replies, replies-append}

@@ -25,7 +25,7 @@ use Rattle.ends.specs.Changes.{Change, stays, opens, changeHeard}
 use Rattle.model.proofs.Items.{Item, carry, credit, opened, closed, itemsBy, itemsIn, itemsOf}
 use Rattle.model.proofs.Phases.{walk, start, live, Ends, bad-walk}
 use Rattle.model.proofs.Link.{clash}
-use Rattle.model.proofs.Verdicts.{Named, command-named}
+use Rattle.nfcc.proofs.Verdicts.{Named, command-named}
 use Rattle.model.proofs.Order.{Name, named, pendingName, repliesIn, replies, left-nil, right-nil}
 
 -- ---- items that do not close

@@ -22,10 +22,10 @@ use Rattle.state.specs.Conn.{placeOf, connOf, termsOf}
 use Rattle.state.specs.Commands.{commandOf}
 use Rattle.messages.specs.Layout.{Message, resetNtf, creditsNtf, genericErrorNtf, discoverNtf, activatedNtf, deactivateNtf, responseOf, responseMessage, noticeMessage}
 use Rattle.state.specs.Radio.{isActive, isListening, isAsleep, polls}
-use Rattle.dh.specs.Contents.{creditsOk, written, noticeOf, entryId, entryCredits, entryOk, entriesOk, creditsWritten}
+use Rattle.dh.specs.Contents.{creditsOk, TermsOk, written, noticeOf, entryId, entryCredits, entryOk, entriesOk, creditsWritten}
 use Rattle.dh.specs.Host.{answerOf, heardAlone, creditsFor, creditsIn}
 use Rattle.air.specs.Air.{airMessage, airedBy}
-use Rattle.ends.specs.RoundTrips.{TermsOk, TargetOk}
+use Rattle.ends.specs.RoundTrips.{TargetOk}
 use Rattle.state.proofs.Chains.{every-at, on}
 use Rattle.ends.proofs.RoundTrips.{round-trips}
 use Rattle.messages.specs.Packets.{responsePacket, noticePacket, noticePackets}
@@ -39,7 +39,8 @@ use Rattle.model.specs.calls.Credit.{allZero}
 use Rattle.model.specs.calls.Air.{isRefused}
 use Rattle.model.proofs.Items.{Item, closed, itemsBy, itemsOf}
 use Rattle.model.proofs.Meanings.{meaning-response, meaning-notice}
-use Rattle.model.proofs.Verdicts.{Fits, Within, found-by, poll-by, listen-by, failed-by}
+use Rattle.nfcc.proofs.Verdicts.{Fits}
+use Rattle.air.proofs.Taken.{Within, found-by, poll-by, listen-by, failed-by}
 
 -- ---- a profile within its limits: control payload 32-255, payloads 1-255, credits 1-8 or 255
 

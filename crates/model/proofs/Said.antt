@@ -29,7 +29,7 @@ use Rattle.model.specs.Refusals.{noConn}
 use Rattle.ends.specs.Changes.{Change, stays, opens, closes, gives, changeHeard}
 use Rattle.model.specs.calls.Down.{answers}
 use Rattle.model.specs.Reachable.{TermsWithin}
-use Rattle.model.proofs.Verdicts.{Fits}
+use Rattle.nfcc.proofs.Verdicts.{Fits}
 use Rattle.model.proofs.Meanings.{meaning-notice}
 use Rattle.model.proofs.Messages.{Limits, answeredBy, says-response, meaning-answer}
 use Rattle.model.proofs.Order.{each}

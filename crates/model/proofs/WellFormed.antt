@@ -35,7 +35,7 @@ use Rattle.model.specs.Bench.{rules, act}
 use Rattle.model.specs.Observer.{Ledger}
 use Rattle.model.specs.Reachable.{Always, WellFormed, GoesDown, GoesUp, Each, Wires}
 use Rattle.model.proofs.Link.{clash}
-use Rattle.model.proofs.Verdicts.{event-within}
+use Rattle.air.proofs.Taken.{event-within}
 use Rattle.model.proofs.Order.{each, need, way-low, way-small}
 use Rattle.model.proofs.Fine.{Fine, StoredIn, StoredFor}
 use Rattle.model.proofs.Always.{always}

@@ -6,6 +6,7 @@ pub use Rattle.state.specs.declared.commands.Command.{Command}
 pub use Rattle.state.specs.declared.commands.Command.the-variants as command
 pub use Rattle.state.specs.declared.kinds.Activation.{Activation}
 pub use Rattle.state.specs.declared.kinds.ControlRun.{ControlRun}
+pub use Rattle.state.specs.declared.kinds.Controller.{Controller}
 pub use Rattle.state.specs.declared.kinds.ControllerSide.{ControllerSide}
 pub use Rattle.state.specs.declared.kinds.Counts.{Counts}
 pub use Rattle.state.specs.declared.kinds.Hand.{Hand}
