@@ -3,9 +3,8 @@
 
     answers.py            compares crates/answers/stdin and stdout with what is made here, and the answers to the
                           packets of tests/data/nci-vectors.txt with the packets that it names for them
-    answers.py --stdin    prints the program's input: commands, events of the air, credits owed, and packets to the host
+    answers.py --stdin    prints the program's input: commands, events of the air, counts of credits, packets to the host
     answers.py --stdout   prints what the program has to write
-    answers.py --ahead    prints the lines of forms that the program does not read yet, each with its answer
 
 The rules are those of ends_rules.py, the lines those of ends_cases.py and the vectors'."""
 import re
@@ -137,16 +136,13 @@ def lines_in(vectors):
         yield from made()
     for made in (events, pairs_found, choices, owed, responses, notices, credit_notices, other_packets):
         yield from made()
-    yield from (line for line, _ in vector_lines(vectors))
-    yield from forms()
-    yield to_controller("last", State(), 0, 0, b"\x00")
-
-
-def lines_ahead():
-    """Counts of credits, also of connections that are closed or without flow control. The program has no lines that
-    give or show such counts; these go into lines_in when it has."""
-    for made in (counts_owed, counts_held, counts_forms):
+    # counts of credits, also of connections that are closed or without flow control
+    for made in (counts_owed, counts_held):
         yield from made()
+    yield from (line for line, _ in vector_lines(vectors))
+    for made in (forms, counts_forms):
+        yield from made()
+    yield to_controller("last", State(), 0, 0, b"\x00")
 
 
 def fields_of(line):
@@ -171,10 +167,6 @@ def check_vectors(vectors, stored):
 
 
 def main():
-    if sys.argv[1:] == ["--ahead"]:
-        for line in lines_ahead():
-            print(line, line_out(line), sep="\n")
-        return 0
     vectors = load()
     checks = {"fields of the vectors": lambda stored: check_vectors(vectors, stored)}
     return run("answers", CRATE, list(lines_in(vectors)), line_out, checks)

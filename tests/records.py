@@ -110,6 +110,9 @@ class Record:
 
 # ---- its octets
 
+# the profile has room for eleven octets, of which it uses five
+FREE = tuple(f"profile.{i}" for i in range(5, 11))
+
 
 def layout():
     """The parts of the record in the order of their octets, each with how many octets it has: lengths and positions of
@@ -131,6 +134,7 @@ def layout():
         return one(f"{name}.head", f"{name}.count")
 
     yield from one("control", "dynamic.payload", "dynamic.credits", "fixed.payload", "fixed.credits")
+    yield from one(*FREE)
     yield from one("size", "asked", "asked.gid", "asked.oid", "asked.aim")
     yield from control_run("hearing")
     yield from one("phase", "given", "rf", "rf.1", "rf.2", "rf.3")
@@ -150,12 +154,12 @@ def layout():
 LAYOUT = dict(layout())
 PLACES = {name: sum(list(LAYOUT.values())[:i]) for i, name in enumerate(LAYOUT)}
 SIZE = sum(LAYOUT.values())
-assert SIZE == 154, "the record has 154 octets"
+assert SIZE == 160, "the record has 160 octets"
 
 
 def numbers(r):
-    """The number of each part. The profile's are the first five."""
-    n = dict(zip(LAYOUT, r.profile))
+    """The number of each part. The profile's are the first five, and those that are free follow."""
+    n = dict(zip(LAYOUT, r.profile + (0,) * len(FREE)))
 
     def run(name, x):
         n.update({f"{name}.length": x.length, f"{name}.lost": x.lost})
@@ -339,7 +343,7 @@ def row_one(o):
 
 # ---- a line and its answer
 
-FORM = re.compile("no=([^ ]+) len=([0-9A-F]{4}) rec=((?:[0-9A-F]{2}){0,154})")
+FORM = re.compile("no=([^ ]+) len=([0-9A-F]{4}) rec=((?:[0-9A-F]{2}){0,%d})" % SIZE)
 
 
 def digits(o):
@@ -565,7 +569,7 @@ def lengths():
 
 def chance():
     """Records by chance: good ones, with octets that no case uses set to anything; the same with an octet changed."""
-    seeded = random.Random(154)
+    seeded = random.Random(SIZE)
 
     # of a seeded generator only random() is the same for all versions of Python
     def below(n):
@@ -619,7 +623,7 @@ def chance():
     def littered(r):
         """The octets of a record with those that it does not use set to anything."""
         o = bytearray(octets(r))
-        spare = [] if r.asked else ["asked.gid", "asked.oid", "asked.aim"]
+        spare = [*FREE] + ([] if r.asked else ["asked.gid", "asked.oid", "asked.aim"])
         if r.rf == W4_HOST_SELECT and not r.carries:
             spare += ["rf.2", "rf.3"]
         elif r.rf not in (W4_HOST_SELECT, *ACTIVE):

@@ -5,6 +5,7 @@ use air::events::Event;
 use replies::command::put_packet;
 use replies::given;
 use replies::given::State;
+use state::runs::CONTROL_LIMIT;
 
 // The fields of an event that the controller's state takes.
 fn put_taken(out: &mut [u8], at: usize, s: State, m: &[u8], a: Aired) -> usize {
@@ -12,7 +13,7 @@ fn put_taken(out: &mut [u8], at: usize, s: State, m: &[u8], a: Aired) -> usize {
     let k = s.controller;
     let conns = s.conns;
     let e = events::event_of(m);
-    let mut ntf = [0u8; 43];
+    let mut ntf = [0u8; CONTROL_LIMIT];
     let notice = events::air_message(&mut ntf, p, e, m);
     let mut n = text::put(out, at, b" ans=0");
     n = put_packet(out, n, b" ntf=", packets::NOTIFICATION, notice, &ntf);

@@ -3,11 +3,14 @@
 //     no=NAME st=STATE cmd=COMMAND    a command to a controller in a state (given.rt of replies): GID, OID, payload
 //     no=NAME st=STATE air=EVENT      an event of the air, kind first, to such a controller
 //     no=NAME owed=CREDITS            the credit notice of a controller that owes so much on connections 0, 2, 3, 4, 5
+//     no=NAME owed=COUNTS             the same of one with counts (counts.rt of replies), and the counts after it
+//     no=NAME held=COUNTS up=PACKET   a credit notice to a host with counts
 //     no=NAME host=HOST up=PACKET     a whole control packet to a host (heard.rt of replies)
 //
 // All but NAME are pairs of capital hexadecimal digits. A line of another form is answered by `bad`.
 use crate::aired;
 use replies::command;
+use replies::counts;
 use replies::given;
 use replies::heard;
 use text::fields;
@@ -64,16 +67,33 @@ fn of_host(out: &mut [u8], at: usize, first: &[u8], last: &[u8]) -> usize {
     heard::put_answer(out, at, octets::window(&a, 0, k), octets::window(&b, 0, n))
 }
 
-// What is owed.
+// A credit notice to the host.
+fn of_held(out: &mut [u8], at: usize, first: &[u8], last: &[u8]) -> usize {
+    let mut a = [0u8; 12];
+    let Held::Octets(k) = fields::octets_of(first, b" held=", &mut a) else {
+        return at;
+    };
+    let mut b = [0u8; 300];
+    let Held::Octets(n) = fields::octets_of(last, b" up=", &mut b) else {
+        return at;
+    };
+    counts::put_held(out, at, octets::window(&a, 0, k), octets::window(&b, 0, n))
+}
+
+// What is owed: five amounts, or counts.
 fn of_credits(out: &mut [u8], at: usize, first: &[u8], last: &[u8]) -> usize {
-    let mut b = [0u8; 8];
+    let mut b = [0u8; 12];
     let Held::Octets(n) = fields::octets_of(first, b" owed=", &mut b) else {
         return at;
     };
-    if n != 5 || last.len() != 0 {
+    if last.len() != 0 {
         return at;
     }
-    command::put_credits(out, at, octets::window(&b, 0, n))
+    if n == 5 {
+        counts::put_credits(out, at, octets::window(&b, 0, n))
+    } else {
+        counts::put_owed(out, at, octets::window(&b, 0, n))
+    }
 }
 
 // The fields that answer those of a line after its name; the same index for a line of another form.
@@ -85,6 +105,8 @@ fn put_fields(out: &mut [u8], at: usize, rest: &[u8]) -> usize {
         of_controller(out, at, first, last)
     } else if fields::starts(first, b" host=") {
         of_host(out, at, first, last)
+    } else if fields::starts(first, b" held=") {
+        of_held(out, at, first, last)
     } else {
         of_credits(out, at, first, last)
     }

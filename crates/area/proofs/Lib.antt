@@ -1,3 +1,3 @@
-pub mod Map
+pub mod Sum
 pub mod Moves
 pub mod Rings

@@ -9,35 +9,38 @@ use lib.ListN.{length, take, drop, set, length-take}
 use lib.Dec.{ltb}
 use borrow.Author.Tests.{lt-ltb, le-ltb}
 use Rattle.octets.specs.Octets.{Octets, pick, cut, over, splice}
-use Rattle.octets.proofs.Octets.{cut-part, cut-cut, length-cut, splice-nil, splice-lent, drop-splice}
+use Rattle.octets.proofs.Octets.{cut-part, length-cut, splice-nil, splice-lent, drop-splice}
 use Rattle.packets.specs.declared.Header.{Header}
 use Rattle.packets.specs.Packet.{packetOf, payloadOf, slotAfter}
 use Rattle.packets.specs.Segments.{Segment, body, segments, segmentAt, segmentPacket, packetsOf}
 use Rattle.packets.proofs.Packet.{length-packet, slot-fits}
 use Rattle.packets.proofs.Segments.{body-segment, segments-step}
 use Rattle.state.specs.declared.kinds.Ring.{Ring}
+use Rattle.area.specs.Map.{payloadSize, slotSize, wireSlots, areaSize}
 use Rattle.area.specs.Ring.{freeAt, putInto}
 use Rattle.area.specs.Movers.{zeros, putsAll}
 
 -- ---- a packet in a slot
 
 -- `packets::write(&mut a[s..s + 258], h, p)`: the area with the packet over it at s
-pub packet-lent : (a w : Octets) (s : ℕ) (h : Header) (p : Octets) → length p ≤ 255 → s + 258 ≤ length a
-    → w ≡ slotAfter (take (s + 258 - s) (drop s a)) h p
-    → take s a ++ (w ++ drop (s + 258 - s) (drop s a)) ≡ splice a s (packetOf h p)
+pub packet-lent : (a w : Octets) (s : ℕ) (h : Header) (p : Octets) → length p ≤ payloadSize → s + slotSize ≤ length a
+    → w ≡ slotAfter (take (s + slotSize - s) (drop s a)) h p
+    → take s a ++ (w ++ drop (s + slotSize - s) (drop s a)) ≡ splice a s (packetOf h p)
 packet-lent a w s h p short room e =
-    let long : length (cut s 258 a) ≡ 258 = length-cut s 258 a room in
-    splice-lent a w s 258 (packetOf h p) (omega (arith, length-packet h p))
-    (e ∙ ap (λ (x : Octets). slotAfter x h p) (cut-part s 258 a) ∙ slot-fits (cut s 258 a) h p short (omega arith))
+    let long : length (cut s slotSize a) ≡ slotSize = length-cut s slotSize a room in
+    splice-lent a w s slotSize (packetOf h p) (omega (arith, length-packet h p))
+    (e ∙ ap (λ (x : Octets). slotAfter x h p) (cut-part s slotSize a) ∙ slot-fits (cut s slotSize a) h p short (omega arith))
 
 -- a segment is no longer than its size
 pub segment-short : (size : ℕ) (m : Octets) (at : ℕ) → length (body (segmentAt size m at)) ≤ size
 unfolding cut
 segment-short size m at = rw (body-segment (ltb (at + size) (length m)) (cut at size m)) (simp length-take (omega arith))
 
--- the payload of the packet in a slot, as a part of the area
-pub payload-part : (a : Octets) (slot n : ℕ) → n ≤ 255 → payloadOf (cut slot 258 a) n ≡ cut (slot + 3) n a
-payload-part a slot n h = cut-cut 3 n slot 258 a (omega arith)
+-- the payload of the packet in a slot has as many octets as are asked for
+pub length-payload : (a : Octets) (slot n : ℕ) → n ≤ payloadSize → slot + slotSize ≤ length a → length (payloadOf (cut slot slotSize a) n) ≡ n
+length-payload a slot n h room =
+    let long : length (cut slot slotSize a) ≡ slotSize = length-cut slot slotSize a room in
+    length-cut 3 n (cut slot slotSize a) (omega arith)
 
 -- ---- zeros
 
@@ -58,8 +61,8 @@ pub zeros-rest : (l : Octets) (n : ℕ) → drop n (splice l 0 (zeros n)) ≡ dr
 zeros-rest l n = drop-splice l 0 (zeros n) n (omega (arith, length-zeros n))
 
 -- so a cleared area keeps what the caller has past its 36,864 octets
-pub cleared-rest : (a : Octets) → drop 36864 (splice a 0 (zeros 36864)) ≡ drop 36864 a
-cleared-rest a = zeros-rest a 36864
+pub cleared-rest : (a : Octets) → drop areaSize (splice a 0 (zeros areaSize)) ≡ drop areaSize a
+cleared-rest a = zeros-rest a areaSize
 
 -- ---- putsAll
 
@@ -79,12 +82,12 @@ module _ (size : ℕ) (pos : 1 ≤ size) (m : Octets) (at : ℕ) where
 
   module _ (base : ℕ) (a : Octets) (q : Ring) (h : Header) where
     pub puts-more : size < length m - at
-        → putsAll base (splice a (freeAt base 16 q) (segmentPacket h (segmentAt size m at))) (putInto q) (packetsOf h size (drop (at + size) m))
+        → putsAll base (splice a (freeAt base wireSlots q) (segmentPacket h (segmentAt size m at))) (putInto q) (packetsOf h size (drop (at + size) m))
         ≡ putsAll base a q (packetsOf h size (drop at m))
     unfolding putsAll
     puts-more t = ap (λ (l : List Segment). putsAll base a q (map (segmentPacket h) l)) (sym (left-more t))
 
     pub puts-one : length m - at ≤ size
-        → splice a (freeAt base 16 q) (segmentPacket h (segmentAt size m at)) ≡ putsAll base a q (packetsOf h size (drop at m))
+        → splice a (freeAt base wireSlots q) (segmentPacket h (segmentAt size m at)) ≡ putsAll base a q (packetsOf h size (drop at m))
     unfolding putsAll
     puts-one t = ap (λ (l : List Segment). putsAll base a q (map (segmentPacket h) l)) (sym (left-one t))

@@ -18,6 +18,7 @@ use Rattle.packets.specs.declared.Header.{Header}
 use Rattle.packets.specs.Packet.{octet0, octet1, packetOf}
 use Rattle.packets.proofs.Packet.{length-packet}
 use Rattle.state.specs.declared.kinds.Ring.{Ring}
+use Rattle.area.specs.Map.{payloadSize, slotSize, wireSlots, storeSlots}
 use Rattle.area.specs.Ring.{slotAt, trim, slotPacket, tab, packetsFrom, packetsIn, freeAt, tookFrom, putInto}
 
 -- ---- tables
@@ -55,9 +56,9 @@ lt-cases i j ne = go (ltb i j) refl
     go false e = inr (omega (arith, ltb-false i j e))
 
 -- a slot keeps its packet where another slot is written
-pub slot-other : (base : ℕ) (a : Octets) (i j : ℕ) (vs : Octets) → length vs ≤ 258 → (i ≡ j → ⊥) → slotPacket base (splice a (slotAt base j) vs) i ≡ slotPacket base a i
+pub slot-other : (base : ℕ) (a : Octets) (i j : ℕ) (vs : Octets) → length vs ≤ slotSize → (i ≡ j → ⊥) → slotPacket base (splice a (slotAt base j) vs) i ≡ slotPacket base a i
 unfolding slotPacket
-slot-other base a i j vs h ne = ap trim (apart a (slotAt base j) vs (slotAt base i) 258 (⊎-elim (λ l. inl (omega arith)) (λ l. inr (omega arith)) (lt-cases i j ne)))
+slot-other base a i j vs h ne = ap trim (apart a (slotAt base j) vs (slotAt base i) slotSize (⊎-elim (λ l. inl (omega arith)) (λ l. inr (omega arith)) (lt-cases i j ne)))
 
 -- ---- what a slot holds after a write
 
@@ -91,13 +92,13 @@ cut-at [] (suc a) n vs h = take-of-over [] n vs h
 cut-at (x ∷ l) (suc a) n vs h = cut-at l a n vs h
 
 -- the packet that was written into a slot
-pub slot-written : (base : ℕ) (a : Octets) (i : ℕ) (h : Header) (m : Octets) → length m ≤ 255 → slotAt base i + 258 ≤ length a
+pub slot-written : (base : ℕ) (a : Octets) (i : ℕ) (h : Header) (m : Octets) → length m ≤ payloadSize → slotAt base i + slotSize ≤ length a
     → slotPacket base (splice a (slotAt base i) (packetOf h m)) i ≡ packetOf h m
 unfolding slotPacket
 slot-written base a i h m k l =
-    let e : length (cut (slotAt base i) 258 a) ≡ 258 = length-cut (slotAt base i) 258 a l in
-    ap trim (cut-at a (slotAt base i) 258 (packetOf h m) (omega (arith, length-packet h m)))
-    ∙ trim-over (cut (slotAt base i) 258 a) h m (omega arith)
+    let e : length (cut (slotAt base i) slotSize a) ≡ slotSize = length-cut (slotAt base i) slotSize a l in
+    ap trim (cut-at a (slotAt base i) slotSize (packetOf h m) (omega (arith, length-packet h m)))
+    ∙ trim-over (cut (slotAt base i) slotSize a) h m (omega arith)
 
 over-all : (l vs : Octets) → length l ≡ length vs → over l vs ≡ vs
 unfolding over
@@ -107,12 +108,12 @@ over-all (x ∷ l) [] h = absurd (not-suc-le-zero {n = length l} (omega arith))
 over-all (x ∷ l) (v ∷ vs) h = ap (λ (t : Octets). v ∷ t) (over-all l vs (omega arith))
 
 -- the packet of a slot that was copied whole
-pub slot-copied : (base : ℕ) (a : Octets) (i : ℕ) (s : Octets) → length s ≡ 258 → slotAt base i + 258 ≤ length a
+pub slot-copied : (base : ℕ) (a : Octets) (i : ℕ) (s : Octets) → length s ≡ slotSize → slotAt base i + slotSize ≤ length a
     → slotPacket base (splice a (slotAt base i) s) i ≡ trim s
 unfolding slotPacket
 slot-copied base a i s k l =
-    let e : length (cut (slotAt base i) 258 a) ≡ 258 = length-cut (slotAt base i) 258 a l in
-    ap trim (cut-at a (slotAt base i) 258 s (omega arith) ∙ over-all (cut (slotAt base i) 258 a) s (omega arith))
+    let e : length (cut (slotAt base i) slotSize a) ≡ slotSize = length-cut (slotAt base i) slotSize a l in
+    ap trim (cut-at a (slotAt base i) slotSize s (omega arith) ∙ over-all (cut (slotAt base i) slotSize a) s (omega arith))
 
 -- ---- rings
 
@@ -123,10 +124,10 @@ pub record Size (cap : ℕ) : Type 0 where
   pub step : (p i : ℕ) → (suc p + i) % cap ≡ ((p + 1) % cap + i) % cap
   pub differ : (p i n : ℕ) → i < n → n < cap → (p + i) % cap ≡ (p + n) % cap → ⊥
 
-pub wire : Size 16
+pub wire : Size wireSlots
 wire = record { within = λ p. omega arith; small = λ p h. omega arith; step = λ p i. omega arith; differ = λ p i n h k e. omega arith }
 
-pub store : Size 8
+pub store : Size storeSlots
 store = record { within = λ p. omega arith; small = λ p h. omega arith; step = λ p i. omega arith; differ = λ p i n h k e. omega arith }
 
 pub length-packets : (base cap : ℕ) (a : Octets) (r : Ring) → length (packetsIn base cap a r) ≡ r .count
@@ -155,7 +156,7 @@ module _ (base cap : ℕ) (z : Size cap) where
       ∷ tab-ext f f (suc (r .head)) ((r .head + 1) % cap) (r .count - 1) (λ i l. ap (slotPacket base a) (z .step (r .head) i)) j)
 
   -- one packet more, in the first free slot
-  pub packets-put : (a : Octets) (r : Ring) (v x : Octets) → r .count < cap → length v ≤ 258
+  pub packets-put : (a : Octets) (r : Ring) (v x : Octets) → r .count < cap → length v ≤ slotSize
       → slotPacket base (splice a (freeAt base cap r) v) ((r .head + r .count) % cap) ≡ x
       → packetsIn base cap (splice a (freeAt base cap r) v) (putInto r) ≡ packetsIn base cap a r ++ (x ∷ [])
   unfolding packetsFrom

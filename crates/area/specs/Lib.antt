@@ -1,3 +1,4 @@
 pub mod Map
 pub mod Ring
 pub mod Movers
+pub mod Runs

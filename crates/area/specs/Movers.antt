@@ -4,6 +4,7 @@ use Prim.Native.Nat.{ℕ, zero, suc}
 use mathlib.Core.List.{List, [], _∷_}
 use Rattle.octets.specs.Octets.{Octets, splice}
 use Rattle.state.specs.declared.kinds.Ring.{Ring}
+use Rattle.area.specs.Map.{wireSlots}
 use Rattle.area.specs.Ring.{freeAt, putInto}
 
 -- n octets, each 0
@@ -14,4 +15,4 @@ zeros (suc n) = 0 ∷ zeros n
 -- the area after packets are put, one after the other, into the first free slots of a wire
 unfoldable pub putsAll : ℕ → Octets → Ring → List Octets → Octets
 putsAll base a r [] = a
-putsAll base a r (p ∷ ps) = putsAll base (splice a (freeAt base 16 r) p) (putInto r) ps
+putsAll base a r (p ∷ ps) = putsAll base (splice a (freeAt base wireSlots r) p) (putInto r) ps

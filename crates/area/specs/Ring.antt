@@ -5,16 +5,17 @@ use mathlib.Core.List.{List, [], _∷_}
 use lib.ListN.{take, getD}
 use Rattle.octets.specs.Octets.{Octets, cut}
 use Rattle.state.specs.declared.kinds.Ring.{Ring}
+use Rattle.area.specs.Map.{slotSize}
 
 -- ---- slots
 
 -- where slot i starts, of the slots from base on
 abbrev pub slotAt : ℕ → ℕ → ℕ
-slotAt base i = i * 258 + base
+slotAt base i = i * slotSize + base
 
 -- the octets of a slot
 abbrev pub slotIn : ℕ → Octets → ℕ → Octets
-slotIn base a i = cut (slotAt base i) 258 a
+slotIn base a i = cut (slotAt base i) slotSize a
 
 -- the packet that a slot starts with: the header, and as many octets as it states
 unfoldable pub trim : Octets → Octets

@@ -1,4 +1,4 @@
--- What the host hears is within limits, since only written contents are heard, and it is made of octets where the message is.
+-- What the host hears is within limits, since only written contents are heard: terms, the size of commands, the entries of a notice.
 -- Assumes nothing.
 use Prim.Native.Nat.{ℕ, zero, suc, _+_, _*_, _-_, _≤_, _<_}
 use native.Mathlib.Omega.{arith}
@@ -10,6 +10,8 @@ use lib.ListN.{length, getD}
 use lib.Dec.{eqb, ltb, leb}
 use borrow.Author.Tests.{leb-true, ltb-true, eqb-true}
 use Rattle.octets.specs.Octets.{Octets, pick}
+use Rattle.octets.specs.Octal.{Octal}
+use Rattle.octets.proofs.Octal.{octal-at}
 use Rattle.dh.specs.Kinds.{Terms, Pending, Host, Command, Notice, Answer, Heard}
 use Rattle.dh.specs.Kinds.command as command
 use Rattle.dh.specs.Kinds.notice as notice
@@ -18,16 +20,26 @@ use Rattle.dh.specs.Kinds.heard.{Nothing, Dropped, Answered, Activated, 
 use Rattle.state.specs.Conn.{placeOf}
 use Rattle.state.specs.Radio.{polls, listens, idOk}
 use Rattle.state.specs.Commands.{commandOf}
+use Rattle.state.specs.Profile.{leastSize, creditsOk, TermsWithin}
 use Rattle.state.proofs.Chains.{on, every-at}
-use Rattle.dh.specs.Contents.{noticeOf, creditsOk, TermsOk, statusAlone, zeros, initWritten, createWritten, okWritten, entryId, entryCredits, entryOk, entriesOk, creditsWritten, activatedWritten, noticeWritten, written}
+use Rattle.dh.specs.Contents.{noticeOf, statusAlone, zeros, initWritten, createWritten, okWritten, entryId, entryCredits, entryOk, entriesOk, creditsWritten, activatedWritten, noticeWritten, written}
 use Rattle.dh.specs.Host.{okAnswer, answerOf, aimOf, noticed, heardAlone, expected, hearOf, hostAfter}
 
 -- ---- the limits
 
+-- the payload at which commands are cut
+pub record SizeFits (n : ℕ) : Type 0 where
+  pub least : leastSize ≤ n
+  pub most : n ≤ 255
+
+abbrev pub TermsFit : Terms → Type 0
+TermsFit t = TermsWithin (t .payload) (t .credits)
+
+-- a dynamic connection
 pub record OpensFit (id : ℕ) (t : Terms) : Type 0 where
   pub least : 2 ≤ id
   pub most : id ≤ 5
-  pub terms : TermsOk t
+  pub terms : TermsFit t
 
 -- entry i of a credit notice
 pub record EntryFits (m : Octets) (i : ℕ) : Type 0 where
@@ -44,7 +56,7 @@ pub record NoticeFits (m : Octets) : Type 0 where
 abbrev pub AnswerFits : Answer → Type 0
 AnswerFits Done = Unit {0}
 AnswerFits ClosesAll = Unit {0}
-AnswerFits (Sized n) = 32 ≤ n
+AnswerFits (Sized n) = SizeFits n
 AnswerFits (Opens id t) = OpensFit id t
 AnswerFits (Closes id) = Unit {0}
 
@@ -53,7 +65,7 @@ abbrev pub HeardFits : Octets → Heard → Type 0
 HeardFits m Nothing = Unit {0}
 HeardFits m Dropped = Unit {0}
 HeardFits m (Answered a) = AnswerFits a
-HeardFits m (Activated t) = TermsOk t
+HeardFits m (Activated t) = TermsFit t
 HeardFits m Deactivated = Unit {0}
 HeardFits m Credits = NoticeFits m
 
@@ -64,8 +76,8 @@ or-other : (a b : Bool) → (a || b) ≡ true → a ≡ false → b ≡ true
 or-other true b h e = absurd (false≢true (sym e))
 or-other false b h e = h
 
-module _ (m : Octets) where
-  init-fits : initWritten m ≡ true → 32 ≤ getD m 8 0
+module _ (m : Octets) (octal : Octal m) where
+  init-fits : initWritten m ≡ true → SizeFits (getD m 8 0)
   unfolding initWritten
   init-fits w =
       let at =
@@ -73,13 +85,13 @@ module _ (m : Octets) where
       (zeros m 0 5
       ∷ eqb (getD m 5 0) 0x04
       ∷ zeros m 6 2
-      ∷ leb 32 (getD m 8 0)
+      ∷ leb leastSize (getD m 8 0)
       ∷ zeros m 9 4
       ∷ eqb (getD m 13 0) 0x01
       ∷ eqb (getD m 14 0) 0x01
       ∷ zeros m 15 1
       ∷ []) w in
-      leb-true 32 (getD m 8 0) (at 4)
+      record { least = leb-true leastSize (getD m 8 0) (at 4); most = octal-at octal 8 }
 
   create-fits : createWritten m ≡ true → OpensFit (getD m 3 0) (record { payload = getD m 1 0; credits = getD m 2 0 })
   unfolding createWritten
@@ -90,10 +102,10 @@ module _ (m : Octets) where
       record {
         least = leb-true 2 (getD m 3 0) (at 4);
         most = leb-true (getD m 3 0) 5 (at 5);
-        terms = record { payload = leb-true 1 (getD m 1 0) (at 2); credits = at 3 };
+        terms = record { least = leb-true 1 (getD m 1 0) (at 2); most = octal-at octal 1; credits-ok = at 3 };
       }
 
-  activated-fits : activatedWritten m ≡ true → TermsOk (record { payload = getD m 4 0; credits = getD m 5 0 })
+  activated-fits : activatedWritten m ≡ true → TermsFit (record { payload = getD m 4 0; credits = getD m 5 0 })
   unfolding activatedWritten
   activated-fits w =
       let at =
@@ -107,7 +119,7 @@ module _ (m : Octets) where
       ∷ eqb (getD m (7 + getD m 6 0) 0) (getD m 3 0)
       ∷ zeros m (8 + getD m 6 0) 3
       ∷ []) w in
-      record { payload = leb-true 1 (getD m 4 0) (at 3); credits = at 4 }
+      record { least = leb-true 1 (getD m 4 0) (at 3); most = octal-at octal 4; credits-ok = at 4 }
 
   entry-fits : (i : ℕ) → entryOk m i ≡ true → EntryFits m i
   entry-fits i w =
@@ -181,83 +193,23 @@ module _ (m : Octets) where
       go true v = answer-fits (commandOf gid oid) (aimOf p) v
       go false v = noticed-fits (noticeOf gid oid) v
 
-  -- what is heard is within limits, whatever the octets were
+  -- what is heard is within limits
   pub hear-fits : (p : Pending) (mt gid oid : ℕ) → HeardFits m (hearOf p mt gid oid m)
   unfolding hearOf
   hear-fits p mt gid oid =
       on (HeardFits m) (expected p mt gid oid) (λ e. on (HeardFits m) (written mt gid oid m) (λ w. alone-fits p mt gid oid w) (λ e. tt)) (λ e. tt)
 
--- ---- octets stay octets
-
-pub record TermsSmall (t : Terms) : Type 0 where
-  pub payload : t .payload ≤ 255
-  pub credits : t .credits ≤ 255
-
-abbrev pub AnswerSmall : Answer → Type 0
-AnswerSmall Done = Unit {0}
-AnswerSmall ClosesAll = Unit {0}
-AnswerSmall (Sized n) = n ≤ 255
-AnswerSmall (Opens id t) = TermsSmall t
-AnswerSmall (Closes id) = Unit {0}
-
-abbrev pub HeardSmall : Heard → Type 0
-HeardSmall Nothing = Unit {0}
-HeardSmall Dropped = Unit {0}
-HeardSmall (Answered a) = AnswerSmall a
-HeardSmall (Activated t) = TermsSmall t
-HeardSmall Deactivated = Unit {0}
-HeardSmall Credits = Unit {0}
-
-module _ (m : Octets) (small : (i : ℕ) → getD m i 0 ≤ 255) where
-  ok-small : (c : Command) (aim : ℕ) → AnswerSmall (okAnswer c aim m)
-  ok-small command.Reset aim = tt
-  ok-small command.Init aim = small 8
-  ok-small command.ConnCreate aim = record { payload = small 1; credits = small 2 }
-  ok-small command.ConnClose aim = tt
-  ok-small command.Discover aim = tt
-  ok-small command.Select aim = tt
-  ok-small command.Deactivate aim = tt
-  ok-small command.Unknown aim = tt
-
-  answer-small : (c : Command) (aim : ℕ) → AnswerSmall (answerOf c aim m)
-  unfolding answerOf
-  answer-small c aim = on AnswerSmall (eqb (getD m 0 0) 0x00) (λ e. ok-small c aim) (λ e. tt)
-
-  noticed-small : (n : Notice) → HeardSmall (noticed n m)
-  noticed-small notice.Reset = tt
-  noticed-small notice.Credits = tt
-  noticed-small notice.GenericError = tt
-  noticed-small notice.Discover = tt
-  noticed-small notice.Activated = record { payload = small 4; credits = small 5 }
-  noticed-small notice.Deactivate = tt
-  noticed-small notice.Unknown = tt
-
-  alone-small : (p : Pending) (mt gid oid : ℕ) → HeardSmall (heardAlone p mt gid oid m)
-  unfolding heardAlone
-  alone-small p mt gid oid =
-      on HeardSmall (eqb mt 2) (λ e. answer-small (commandOf gid oid) (aimOf p)) (λ e. noticed-small (noticeOf gid oid))
-
-  pub hear-small : (p : Pending) (mt gid oid : ℕ) → HeardSmall (hearOf p mt gid oid m)
-  unfolding hearOf
-  hear-small p mt gid oid =
-      on HeardSmall (expected p mt gid oid) (λ e. on HeardSmall (written mt gid oid m) (λ w. alone-small p mt gid oid) (λ e. tt)) (λ e. tt)
-
 -- ---- the host's own number
 
--- the payload at which commands are cut
-pub record SizeFits (h : Host) : Type 0 where
-  pub least : 32 ≤ h .size
-  pub most : h .size ≤ 255
-
-pub size-after : (m : Octets) (x : Heard) (h : Host) → HeardFits m x → HeardSmall x → SizeFits h → SizeFits (hostAfter h x)
+pub size-after : (m : Octets) (x : Heard) (h : Host) → HeardFits m x → SizeFits (h .size) → SizeFits (hostAfter h x .size)
 unfolding hostAfter
-size-after m Nothing h f s k = k
-size-after m Dropped h f s k = k
-size-after m (Answered Done) h f s k = record { least = k .least; most = k .most }
-size-after m (Answered ClosesAll) h f s k = record { least = omega arith; most = omega arith }
-size-after m (Answered (Sized n)) h f s k = record { least = f; most = s }
-size-after m (Answered (Opens id t)) h f s k = record { least = k .least; most = k .most }
-size-after m (Answered (Closes id)) h f s k = record { least = k .least; most = k .most }
-size-after m (Activated t) h f s k = k
-size-after m Deactivated h f s k = k
-size-after m Credits h f s k = k
+size-after m Nothing h f s = s
+size-after m Dropped h f s = s
+size-after m (Answered Done) h f s = s
+size-after m (Answered ClosesAll) h f s = record { least = omega arith; most = omega arith }
+size-after m (Answered (Sized n)) h f s = f
+size-after m (Answered (Opens id t)) h f s = s
+size-after m (Answered (Closes id)) h f s = s
+size-after m (Activated t) h f s = s
+size-after m Deactivated h f s = s
+size-after m Credits h f s = s

@@ -1,18 +1,18 @@
 -- Contents that the bench's controller writes: document 01's layouts at their exact lengths, with values inside its limits. Contents
 -- never written have no effect (up under "Calls"), so the host asks one question before it listens: `written`.
 -- Assumes nothing.
-use Prim.Native.Nat.{ℕ, zero, suc, _+_, _*_, _-_, _≤_}
-use mathlib.Core.Path.{_≡_}
+use Prim.Native.Nat.{ℕ, zero, suc, _+_, _*_, _-_}
 use mathlib.Core.Bool.{Bool, true, false, _&&_, _||_, not}
 use lib.ListN.{length, getD}
 use lib.Dec.{eqb, ltb, leb}
 use Rattle.octets.specs.Octets.{Octets, pick}
-use Rattle.dh.specs.Kinds.{Terms, Command, Notice}
+use Rattle.dh.specs.Kinds.{Command, Notice}
 use Rattle.dh.specs.Kinds.command as command
 use Rattle.dh.specs.Kinds.notice as notice
 use Rattle.state.specs.Conn.{placeOf}
 use Rattle.state.specs.Commands.{commandOf, activationFailed}
 use Rattle.state.specs.Radio.{polls, listens, idOk}
+use Rattle.state.specs.Profile.{leastSize, creditsOk}
 
 -- ---- the notifications (003, Table 139)
 
@@ -30,15 +30,6 @@ noticeOf gid oid =
 
 -- ---- responses
 
--- credits of a create response or an activation
-abbrev pub creditsOk : ℕ → Bool
-creditsOk n = (leb 1 n && leb n 8) || eqb n 255
-
--- and its terms
-pub record TermsOk (t : Terms) : Type 0 where
-  pub payload : 1 ≤ t .payload
-  pub credits : creditsOk (t .credits) ≡ true
-
 abbrev pub statusAlone : Octets → Bool
 statusAlone m = eqb (length m) 1 && not (eqb (getD m 0 0) 0x00)
 
@@ -52,7 +43,7 @@ zeros m i (suc n) = zeros m i n && eqb (getD m (i + n) 0) 0x00
 
 unfoldable pub initWritten : Octets → Bool
 initWritten m =
-    eqb (length m) 16 && zeros m 0 5 && eqb (getD m 5 0) 0x04 && zeros m 6 2 && leb 32 (getD m 8 0) && zeros m 9 4
+    eqb (length m) 16 && zeros m 0 5 && eqb (getD m 5 0) 0x04 && zeros m 6 2 && leb leastSize (getD m 8 0) && zeros m 9 4
     && eqb (getD m 13 0) 0x01 && eqb (getD m 14 0) 0x01 && zeros m 15 1
 
 unfoldable pub createWritten : Octets → Bool

@@ -15,6 +15,7 @@ use Rattle.dh.specs.Kinds.answer.{Done, ClosesAll, Sized, Opens, Closes}
 use Rattle.dh.specs.Kinds.heard.{Nothing, Dropped, Answered, Activated, Deactivated, Credits}
 use Rattle.state.specs.Conn.{flows, creditSum, countsOf, withHost, leftAt, joinedAt, allLeft}
 use Rattle.state.specs.Commands.{commandOf}
+use Rattle.state.specs.Profile.{leastSize}
 use Rattle.dh.specs.Contents.{noticeOf, entryId, entryCredits, written}
 
 -- ---- the unanswered command
@@ -94,10 +95,6 @@ namesClosed isOpen m zero = false
 namesClosed isOpen m (suc n) = namesClosed isOpen m n || not (isOpen (entryId m n))
 
 -- ---- the host after it
-
--- the payload size of commands before an INIT response
-abbrev pub leastSize : ℕ
-leastSize = 32
 
 abbrev pub settled : Host → ℕ → Host
 settled h size = record { size = size; pending = pending.Nothing }

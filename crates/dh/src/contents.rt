@@ -3,10 +3,12 @@
 use state::commands;
 use state::commands::Command;
 use state::conn;
+use state::profile::LEAST_SIZE;
+use state::profile::credits_ok;
 use state::radio;
 ghost use mathlib.Core.Path.{_≡_};
 ghost use Prim.Native.Nat.{_≤_};
-ghost use Rattle.dh.specs.Contents.{noticeOf, creditsOk, statusAlone, okAlone, zeros, initWritten, createWritten, okWritten, resetWritten, entryOk, entriesOk, creditsWritten, discoverWritten, activatedWritten, deactivateWritten, noticeWritten, written};
+ghost use Rattle.dh.specs.Contents.{noticeOf, statusAlone, okAlone, zeros, initWritten, createWritten, okWritten, resetWritten, entryOk, entriesOk, creditsWritten, discoverWritten, activatedWritten, deactivateWritten, noticeWritten, written};
 ghost use Rattle.dh.specs.Hearing.{initFront, activatedFront, ascends};
 
 // The notifications that the bench knows.
@@ -39,13 +41,6 @@ pub fn notice_of(gid: u8, oid: u8) -> Notice
         },
         _ => Notice::Unknown,
     }
-}
-
-// Credits that a profile can have: 1-8, or 255 for no flow control.
-fn credits_ok(n: u8) -> bool
-    ensures { λ r. ⌜ r ≡ creditsOk n ⌝ }
-{
-    ((1 <= n) & (n <= 8)) | (n == 255)
 }
 
 // A response of one octet, a status other than STATUS_OK.
@@ -99,7 +94,7 @@ fn init_written(m: &[u8]) -> bool
     let count = octets::octet_at(m, 13);
     let frame = octets::octet_at(m, 14);
     let extension = zeros(m, 15, 1);
-    front & (32 <= size) & hci & (count == 0x01) & (frame == 0x01) & extension
+    front & (LEAST_SIZE <= size) & hci & (count == 0x01) & (frame == 0x01) & extension
 }
 
 // A CORE_CONN_CREATE_RSP that opens one of the connections 2-5.

@@ -10,6 +10,7 @@ use state::kinds::Host;
 use state::kinds::HostSide;
 use state::kinds::Pending;
 use state::kinds::Terms;
+use state::profile::LEAST_SIZE;
 ghost use mathlib.Core.Path.{_≡_};
 ghost use Prim.Native.Nat.{_+_, _≤_};
 ghost use lib.Dec.{ltb};
@@ -253,7 +254,7 @@ fn host_answered(h: Host, a: Answer) -> Host
 {
     match a {
         Answer::Done => settled(h, h.size),
-        Answer::ClosesAll => settled(h, 32),
+        Answer::ClosesAll => settled(h, LEAST_SIZE),
         Answer::Sized(n) => settled(h, n),
         Answer::Opens(_, _) => settled(h, h.size),
         Answer::Closes(_) => settled(h, h.size),

@@ -19,14 +19,15 @@ use Rattle.ends.specs.Kinds.heard.{Nothing, Activated, Deactivated}
 use Rattle.ends.specs.Kinds.event.{Found, Poll, Listen}
 use Rattle.state.specs.Commands.{commandOf}
 use Rattle.state.specs.Radio.{polls, listens, idOk}
+use Rattle.state.specs.Profile.{creditsOk}
 use Rattle.messages.specs.Layout.{resetNtf, initRsp, createRsp, genericErrorNtf, discoverNtf, activatedNtf, deactivateNtf}
-use Rattle.dh.specs.Contents.{noticeOf, creditsOk, TermsOk, zeros, initWritten, createWritten, discoverWritten, activatedWritten, deactivateWritten, written}
+use Rattle.dh.specs.Contents.{noticeOf, zeros, initWritten, createWritten, discoverWritten, activatedWritten, deactivateWritten, written}
 use Rattle.dh.specs.Host.{answerOf, noticed}
 use Rattle.air.specs.Air.{foundIn, pollIn, listenIn, eventOf}
 use Rattle.messages.proofs.Messages.{length-discover, length-activated}
 use Rattle.state.proofs.Chains.{every-at, elements, elements-are}
 use Rattle.ends.proofs.CreditNotice.{credits-written, credits-read}
-use Rattle.ends.specs.RoundTrips.{TargetOk, createTerms, activatedTarget, activatedTerms, activatedParams, foundOctets, activeOctets, RoundTrips}
+use Rattle.ends.specs.RoundTrips.{TermsOk, TargetOk, createTerms, activatedTarget, activatedTerms, activatedParams, foundOctets, activeOctets, RoundTrips}
 
 -- ---- responses of one octet
 

@@ -15,12 +15,17 @@ use Rattle.ends.specs.Kinds.heard.{Nothing, Activated, Deactivated}
 use Rattle.ends.specs.Kinds.event.{Found, Poll, Listen}
 use Rattle.state.specs.Conn.{connOf}
 use Rattle.state.specs.Radio.{polls, listens, idOk}
+use Rattle.state.specs.Profile.{creditsOk}
 use Rattle.messages.specs.Layout.{resetNtf, initRsp, createRsp, creditsNtf, genericErrorNtf, discoverNtf, activatedNtf, deactivateNtf}
-use Rattle.dh.specs.Contents.{TermsOk, createWritten, activatedWritten, written}
+use Rattle.dh.specs.Contents.{createWritten, activatedWritten, written}
 use Rattle.dh.specs.Host.{answerOf, noticed, creditsFor}
 use Rattle.air.specs.Air.{eventOf}
 
 -- ---- fields inside document 01's limits
+
+pub record TermsOk (t : Terms) : Type 0 where
+  pub payload : 1 ≤ t .payload
+  pub credits : creditsOk (t .credits) ≡ true
 
 pub record TargetOk (a : Activation) : Type 0 where
   pub id : idOk (a .id) ≡ true

@@ -3,7 +3,7 @@
 -- Assumes nothing.
 use Prim.Native.Nat.{ℕ, zero, suc, _+_, _-_, _≤_, _<_}
 use native.Mathlib.Omega.{arith}
-use mathlib.Core.Bool.{Bool, true, false}
+use mathlib.Core.Bool.{Bool, true, false, _&&_}
 use mathlib.Core.List.{List, [], _∷_, _++_, append-assoc, append-nil}
 use mathlib.Core.Path.{_≡_, refl, sym, ap, _∙_, subst}
 use lib.ListN.{length, length-append}
@@ -13,16 +13,17 @@ use Rattle.packets.specs.Segments.{Segment, segments}
 use Rattle.packets.specs.Reassembly.{Run, run, grown, finished, Flow}
 use Rattle.packets.proofs.Reassembly.{flow-start, flow-same, flow-send, flow-read}
 use Rattle.model.specs.Kinds.{Terms}
-use Rattle.state.specs.Conn.{flows}
+use Rattle.state.specs.Conn.{flows, creditSum}
 use Rattle.state.specs.Runs.{dataLimit}
-use Rattle.model.specs.Connection.{Connection, withHost, withController, sent, pushed, stored, consumed, noticed, spoken}
+use Rattle.state.proofs.Chains.{and-left}
+use Rattle.model.specs.Connection.{Connection, withHost, withController, sent, pushed, stored, consumed, owedOn, noticed, spoken}
 use Rattle.wires.specs.Meaning.{meaning}
 use Rattle.ends.specs.Changes.{givenTo}
 use Rattle.model.specs.calls.Consume.{segmentIn}
 use Rattle.model.specs.Observer.{Ledger, pushedL, arrivedL, consumedL, sentL, spokenL}
 use Rattle.model.proofs.Items.{Load, Item, carry, credit, opened, closed, loaded, itemsBy, storeSegs, putK, putsK, readK, readsK, readMessages, putL, putsL, readL, readsL, upSegs, upReturned}
 use Rattle.model.proofs.Phases.{walk, start, walk-append, bad-walk, over-shut}
-use Rattle.model.proofs.Link.{Agreed, AllOpened, Good, Debts, below, clash, upSegs-append, upCredits-append, upReturned-append, opened-append, over-returned, phase-put, closed-ends, store-first, store-last, owed-room}
+use Rattle.model.proofs.Link.{Agreed, AllOpened, Good, Debts, below, clash, upSegs-append, upCredits-append, upReturned-append, opened-append, over-returned, phase-put, closed-ends, store-first, store-last, owed-room, small-sum}
 
 -- ---- parts of the invariant, with an item more
 
@@ -30,7 +31,7 @@ use Rattle.model.proofs.Link.{Agreed, AllOpened, Good, Debts, below, cl
 debts-put : {x y : Bool} {h n g w : ℕ} {u : List Item} (i : Item) → upReturned (i ∷ []) ≡ 0 → Debts x h n y g w u → (z : Bool) (g′ : ℕ)
     → Debts x h n z g′ 0 (u ++ (i ∷ []))
 debts-put {u = u} i e q z g′ =
-    record { bound = rw upReturned-append (omega (arith, q .bound, e)); granted = q .granted; spare = (λ a. refl); asleep = (λ a. refl) }
+    record { bound = rw upReturned-append (omega (arith, q .bound, e)); granted = q .granted; octet = q .octet; spare = (λ a. refl); asleep = (λ a. refl) }
 
 terms-put : {h : Bool} {n g : ℕ} {u : List Item} (i : Item) → AllOpened g (i ∷ []) → Agreed h n g u → Agreed h n g (u ++ (i ∷ []))
 terms-put {g = g} {u = u} i a t = record { same = t .same; under-way = opened-append g u (i ∷ []) (t .under-way) a }
@@ -52,9 +53,9 @@ pick-less : (b : Bool) (n : ℕ) → pick b (n - 1) n ≤ n
 pick-less true n = omega arith
 pick-less false n = omega arith
 
-pick-more : (b : Bool) (m n : ℕ) → pick b (m + n) m ≤ m + n
-pick-more true m n = omega arith
-pick-more false m n = omega arith
+pick-sum : (b : Bool) (m n : ℕ) → m + n ≤ 255 → pick b (creditSum m n) m ≤ m + n
+pick-sum true m n h = omega (arith, small-sum m n h)
+pick-sum false m n h = omega arith
 
 -- one of two ledgers
 one : (P : Ledger → Type 0) (x y : Ledger) {b : Bool} → b ≡ true → P x → P (pick b x y)
@@ -106,6 +107,7 @@ module _ {loop : Bool} {k : Connection} {d : List Segment} {u : List Item} {l : 
         debts = record {
           bound = omega (arith, pick-less (flows (k .host .grant)) (k .host .held), g .debts .bound);
           granted = g .debts .granted;
+          octet = g .debts .octet;
           spare = g .debts .spare;
           asleep = g .debts .asleep;
         };
@@ -187,7 +189,7 @@ module _ {loop : Bool} {k : Connection} {d : List Segment} {u : List Item} {l : 
         debts = debts-put (opened t) refl (g .debts) true (t .credits);
         live = (λ a.
             record {
-              sum = (λ y. rw (e, f) (omega (arith, i .held)));
+              sum = (λ y. rw (e, f, y) (omega (arith, i .held)));
               terms = record { same = (λ b. clash b h); under-way = rw f (refl, tt) };
               granted = refl;
               stored = refl;
@@ -210,6 +212,7 @@ module _ {loop : Bool} {k : Connection} {d : List Segment} {u : List Item} {l : 
         debts = record {
           bound = rw upReturned-append (omega (arith, owed-room g c));
           granted = g .debts .granted;
+          octet = g .debts .octet;
           spare = (λ y. omega arith);
           asleep = (λ a. omega arith);
         };
@@ -253,7 +256,7 @@ module _ {loop : Bool} {k : Connection} {d : List Segment} {u : List Item} {l : 
             phase = rw e at (g .phase);
             idle = (λ a. clash refl a);
             rest = g .rest;
-            debts = record { bound = g .debts .bound; granted = (λ a. clash refl a); spare = g .debts .spare; asleep = g .debts .asleep };
+            debts = record { bound = g .debts .bound; granted = (λ a. clash refl a); octet = g .debts .octet; spare = g .debts .spare; asleep = g .debts .asleep };
             live = (λ a.
                 let v = g .live a in
                 record {
@@ -271,25 +274,29 @@ module _ {loop : Bool} {k : Connection} {d : List Segment} {u : List Item} {l : 
   read-credit : (n : ℕ) → Good loop k d (credit n ∷ u) l → Good loop (readK (credit n) k) d u (readL (credit n) [] l)
   read-credit n g = go (k .host .opened) refl
     where
+      more : creditSum (k .host .held) n ≡ k .host .held + n
+      more = small-sum (k .host .held) n (omega (arith, g .debts .bound, g .debts .octet))
+
       go : (b : Bool) → k .host .opened ≡ b → Good loop (readK (credit n) k) d u (readL (credit n) [] l)
       go true e =
           rw e record {
             here = g .here;
             there = g .there ∙ e;
-            counts = record { granted = (λ a. g .counts .granted e); flow = (λ a y. rw y (omega (arith, g .counts .flow e y))) };
+            counts = record { granted = (λ a. g .counts .granted e); flow = (λ a y. rw y (omega (arith, more, g .counts .flow e y))) };
             phase = rw e at (g .phase);
             idle = (λ a. clash refl a);
             rest = g .rest;
             debts = record {
-              bound = omega (arith, pick-more (flows (k .host .grant)) (k .host .held) n, g .debts .bound);
+              bound = omega (arith, pick-sum (flows (k .host .grant)) (k .host .held) n (omega (arith, g .debts .bound, g .debts .octet)), g .debts .bound);
               granted = (λ a. clash refl a);
+              octet = g .debts .octet;
               spare = g .debts .spare;
               asleep = g .debts .asleep;
             };
             live = (λ a.
                 let v = g .live a in
                 record {
-                  sum = (λ y. let z : flows (k .host .grant) ≡ true = rw (v .terms .same e) y in rw z (omega (arith, v .sum y)));
+                  sum = (λ y. let z : flows (k .host .grant) ≡ true = rw (v .terms .same e) y in rw z (omega (arith, more, v .sum y)));
                   terms = record { same = (λ b. v .terms .same e); under-way = v .terms .under-way };
                   granted = v .granted;
                   stored = v .stored;
@@ -300,8 +307,8 @@ module _ {loop : Bool} {k : Connection} {d : List Segment} {u : List Item} {l : 
           }
       go false e = bad-walk (k .controller .opened) u (rw e at (g .phase))
 
-  read-opened : (t : Terms) → Good loop k d (opened t ∷ u) l → Good loop (readK (opened t) k) d u (readL (opened t) [] l)
-  read-opened t g = go (k .host .opened) refl
+  read-opened : (t : Terms) → t .credits ≤ 255 → Good loop k d (opened t ∷ u) l → Good loop (readK (opened t) k) d u (readL (opened t) [] l)
+  read-opened t small g = go (k .host .opened) refl
     where
       go : (b : Bool) → k .host .opened ≡ b → Good loop (readK (opened t) k) d u (readL (opened t) [] l)
       go true e = bad-walk (k .controller .opened) u (rw e at (g .phase))
@@ -317,13 +324,14 @@ module _ {loop : Bool} {k : Connection} {d : List Segment} {u : List Item} {l : 
             debts = record {
               bound = omega (arith, g .debts .bound, g .debts .granted e);
               granted = (λ a. clash refl a);
+              octet = small;
               spare = g .debts .spare;
               asleep = g .debts .asleep;
             };
             live = (λ a.
                 let v = g .live a in
                 record {
-                  sum = (λ y. omega (arith, v .sum y, i .held));
+                  sum = (λ y. let z : flows (t .credits) ≡ true = rw (v .terms .under-way .0) y in omega (arith, rw z at (v .sum y), i .held));
                   terms = record { same = (λ b. v .terms .under-way .0); under-way = v .terms .under-way .1 };
                   granted = v .granted;
                   stored = v .stored;
@@ -349,6 +357,7 @@ module _ {loop : Bool} {k : Connection} {d : List Segment} {u : List Item} {l : 
             debts = record {
               bound = omega (arith, over-returned (k .controller .opened) u (rw e at (g .phase)));
               granted = (λ a. refl);
+              octet = omega arith;
               spare = g .debts .spare;
               asleep = g .debts .asleep;
             };
@@ -366,6 +375,7 @@ module _ {loop : Bool} {k : Connection} {d : List Segment} {u : List Item} {l : 
             debts = record {
               bound = omega (arith, g .debts .bound, g .debts .granted e);
               granted = (λ a. refl);
+              octet = omega arith;
               spare = g .debts .spare;
               asleep = g .debts .asleep;
             };
@@ -386,10 +396,10 @@ module _ {k : Connection} {d : List Segment} {u : List Item} {l : Ledger} where
   -- ---- the controller consumes a stored packet; on a loopback it is put up again
 
   pub consume-loop : (p : Octets) (rest : List Octets) (x : Segment) → segmentIn (meaning p) ≡ x ∷ [] → k .controller .opened ≡ true
-      → k .controller .store ≡ p ∷ rest → Good true k d u l
+      → k .controller .store ≡ p ∷ rest → (flows (k .controller .grant) ≡ true → k .controller .owed < 255) → Good true k d u l
       → Good true (withController (consumed rest (grown dataLimit (k .controller .run) x) (k .controller)) k) d (u ++ (loaded x ∷ []))
       (consumedL (finished dataLimit (k .controller .run) x) l)
-  consume-loop p rest x m c e g =
+  consume-loop p rest x m c e small g =
       record {
         here = g .here;
         there = g .there;
@@ -400,17 +410,18 @@ module _ {k : Connection} {d : List Segment} {u : List Item} {l : Ledger} where
         debts = record {
           bound = rw upReturned-append (omega (arith, g .debts .bound));
           granted = g .debts .granted;
+          octet = g .debts .octet;
           spare = (λ y. rw y (g .debts .spare y));
           asleep = (λ a. clash c a);
         };
         live = (λ a.
             let v = g .live a in
             record {
-              sum = (λ y. rw (y, upCredits-append) (omega (arith, rw e at (v .sum y))));
+              sum = (λ y. rw (y, upCredits-append) (omega (arith, small y, rw e at (v .sum y))));
               terms = terms-put (loaded x) tt (v .terms);
               granted = v .granted;
               stored = omega (arith, rw e at (v .stored));
-              owed = (λ y. rw y (omega (arith, v .owed y)));
+              owed = (λ y. rw y (omega (arith, small y, v .owed y)));
               toController = flow-read x (rw (e, store-first p rest x m) at (v .toController));
               toHost = flow-same same-list (v .toHost);
             });
@@ -420,10 +431,10 @@ module _ {k : Connection} {d : List Segment} {u : List Item} {l : Ledger} where
       same-list = rw (e, store-first p rest x m, upSegs-append) (simp append-assoc)
 
   pub consume-plain : (p : Octets) (rest : List Octets) (x : Segment) → segmentIn (meaning p) ≡ x ∷ [] → k .controller .opened ≡ true
-      → k .controller .store ≡ p ∷ rest → Good false k d u l
+      → k .controller .store ≡ p ∷ rest → (flows (k .controller .grant) ≡ true → k .controller .owed < 255) → Good false k d u l
       → Good false (withController (consumed rest (grown dataLimit (k .controller .run) x) (k .controller)) k) d u
       (consumedL (finished dataLimit (k .controller .run) x) l)
-  consume-plain p rest x m c e g =
+  consume-plain p rest x m c e small g =
       record {
         here = g .here;
         there = g .there;
@@ -431,26 +442,26 @@ module _ {k : Connection} {d : List Segment} {u : List Item} {l : Ledger} where
         phase = g .phase;
         idle = g .idle;
         rest = g .rest;
-        debts = record { bound = g .debts .bound; granted = g .debts .granted; spare = (λ y. rw y (g .debts .spare y)); asleep = (λ a. clash c a) };
+        debts = record { bound = g .debts .bound; granted = g .debts .granted; octet = g .debts .octet; spare = (λ y. rw y (g .debts .spare y)); asleep = (λ a. clash c a) };
         live = (λ a.
             let v = g .live a in
             record {
-              sum = (λ y. rw y (omega (arith, rw e at (v .sum y))));
+              sum = (λ y. rw y (omega (arith, small y, rw e at (v .sum y))));
               terms = v .terms;
               granted = v .granted;
               stored = omega (arith, rw e at (v .stored));
-              owed = (λ y. rw y (omega (arith, v .owed y)));
+              owed = (λ y. rw y (omega (arith, small y, v .owed y)));
               toController = flow-read x (rw (e, store-first p rest x m) at (v .toController));
               toHost = v .toHost;
             });
       }
 
   pub consume-good : (loop : Bool) (p : Octets) (rest : List Octets) (x : Segment) → segmentIn (meaning p) ≡ x ∷ [] → k .controller .opened ≡ true
-      → k .controller .store ≡ p ∷ rest → Good loop k d u l
+      → k .controller .store ≡ p ∷ rest → (flows (k .controller .grant) ≡ true → k .controller .owed < 255) → Good loop k d u l
       → Good loop (putsK (pick loop (loaded x ∷ []) []) (withController (consumed rest (grown dataLimit (k .controller .run) x) (k .controller)) k)) d
       (u ++ pick loop (loaded x ∷ []) []) (putsL (pick loop (loaded x ∷ []) []) (consumedL (finished dataLimit (k .controller .run) x) l))
-  consume-good true p rest x m c e g = consume-loop p rest x m c e g
-  consume-good false p rest x m c e g = rw append-nil (consume-plain p rest x m c e g)
+  consume-good true p rest x m c e small g = consume-loop p rest x m c e small g
+  consume-good false p rest x m c e small g = rw append-nil (consume-plain p rest x m c e small g)
 
   -- ---- the endpoint speaks, where there is no loopback
 
@@ -467,6 +478,7 @@ module _ {k : Connection} {d : List Segment} {u : List Item} {l : Ledger} where
         debts = record {
           bound = rw upReturned-append (omega (arith, g .debts .bound));
           granted = g .debts .granted;
+          octet = g .debts .octet;
           spare = g .debts .spare;
           asleep = g .debts .asleep;
         };
@@ -539,32 +551,38 @@ puts-good (i ∷ []) a g = put-good i a g
 puts-good (i ∷ (j ∷ is)) a g = absurd a
 
 -- a notice: all that is owed is put, where anything is
-abbrev owing : ℕ → Connection → Connection
-owing n k = let c = k .controller in withController (record { opened = c .opened; grant = c .grant; owed = n; store = c .store; run = c .run; speech = c .speech }) k
+abbrev owingOnly : ℕ → Connection → Connection
+owingOnly n k = let c = k .controller in withController (record { opened = c .opened; grant = c .grant; owed = n; store = c .store; run = c .run; speech = c .speech }) k
 
 pub notice-good : {loop : Bool} {k : Connection} {d : List Segment} {u : List Item} {l : Ledger} → Good loop k d u l
-    → Good loop (withController (noticed (k .controller)) k) d (u ++ itemsBy (givenTo (k .controller .owed))) (putsL (itemsBy (givenTo (k .controller .owed))) l)
-notice-good {loop} {k} {d} {u} {l} g = go (k .controller .owed) refl
+    → Good loop (withController (noticed (k .controller)) k) d (u ++ itemsBy (givenTo (owedOn (k .controller)))) (putsL (itemsBy (givenTo (owedOn (k .controller)))) l)
+notice-good {loop} {k} {d} {u} {l} g = go (k .controller .opened && flows (k .controller .grant)) refl
   where
-    awake : (n : ℕ) → k .controller .owed ≡ suc n → (b : Bool) → k .controller .opened ≡ b → b ≡ true
-    awake n e true c = refl
-    awake n e false c = absurd (omega (arith, g .debts .asleep c))
-
-    go : (n : ℕ) → k .controller .owed ≡ n → Good loop (owing 0 k) d (u ++ itemsBy (givenTo n)) (putsL (itemsBy (givenTo n)) l)
-    go zero e = rw append-nil (subst (λ (n : ℕ). Good loop (owing n k) d u l) e g)
-    go (suc n) e =
+    paid : (n : ℕ) → k .controller .owed ≡ n → k .controller .opened ≡ true
+        → Good loop (owingOnly 0 k) d (u ++ itemsBy (givenTo n)) (putsL (itemsBy (givenTo n)) l)
+    paid zero e o = rw append-nil (subst (λ (n : ℕ). Good loop (owingOnly n k) d u l) e g)
+    paid (suc n) e o =
         let none : k .controller .owed - suc n ≡ 0 = omega arith in
         rw (ne-eqb (suc n) 0 (λ q. omega arith))
-        (subst (λ (w : ℕ). Good loop (owing w k) d (u ++ (credit (suc n) ∷ [])) (putL (credit (suc n)) l)) none
-        (put-good (credit (suc n)) (awake n e (k .controller .opened) refl, sym e) g))
+        (subst (λ (w : ℕ). Good loop (owingOnly w k) d (u ++ (credit (suc n) ∷ [])) (putL (credit (suc n)) l)) none
+        (put-good (credit (suc n)) (o, sym e) g))
+
+    Paid : Bool → Type 0
+    Paid b =
+        Good loop (owingOnly (pick b 0 (k .controller .owed)) k) d (u ++ itemsBy (givenTo (pick b (k .controller .owed) 0)))
+        (putsL (itemsBy (givenTo (pick b (k .controller .owed) 0))) l)
+
+    go : (b : Bool) → (k .controller .opened && flows (k .controller .grant)) ≡ b → Paid b
+    go true e = paid (k .controller .owed) refl (and-left (k .controller .opened) (flows (k .controller .grant)) e)
+    go false e = rw append-nil g
 
 -- ---- items that the host reads
 
--- the messages handed out with an item: those that the segment it carries finishes
+-- the messages handed out with an item: those that the segment it carries finishes; an opening grants an octet of credits
 abbrev pub Handed : Connection → Item → List Octets → Type 0
 Handed k (carry x) ms = ms ≡ readMessages (carry x) k
 Handed k (credit n) ms = Unit {0}
-Handed k (opened t) ms = Unit {0}
+Handed k (opened t) ms = t .credits ≤ 255
 Handed k closed ms = Unit {0}
 
 -- items read one after the other
@@ -576,7 +594,7 @@ pub read-good : {loop : Bool} {k : Connection} {d : List Segment} {u : List Item
     → Good loop (readK i k) d u (readL i ms l)
 read-good (carry x) ms h g = rw h (read-carry x g)
 read-good (credit n) ms h g = read-credit n g
-read-good (opened t) ms h g = read-opened t g
+read-good (opened t) ms h g = read-opened t h g
 read-good closed ms h g = read-closed g
 
 pub reads-good : {loop : Bool} {k : Connection} {d : List Segment} {u : List Item} {l : Ledger} (is : List Item) (ms : List Octets) → Reads k is ms → Good loop k d (is ++ u) l

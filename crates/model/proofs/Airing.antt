@@ -3,9 +3,9 @@
 use Prim.Native.Nat.{ℕ, _≤_}
 use native.Mathlib.Omega.{arith}
 use mathlib.Core.Path.{_≡_, refl, sym, ap, _∙_, subst}
-use mathlib.Core.Bool.{true, false, not, _&&_, _||_}
+use mathlib.Core.Bool.{Bool, true, false, not, _&&_, _||_}
 use mathlib.Core.List.{List, [], _++_, append-nil}
-use lib.Dec.{eqb}
+use lib.Dec.{eqb, leb}
 use lib.ListN.{length, getD, drop, length-append}
 use borrow.Author.Tests.{not-false}
 use Rattle.octets.specs.Octets.{Octets, pick}
@@ -17,7 +17,7 @@ use Rattle.state.specs.Conn.{placeOf, termsOf}
 use Rattle.state.specs.Radio.{isActive, isListening, isAsleep}
 use Rattle.state.specs.Runs.{dataLimit}
 use Rattle.messages.specs.Layout.{nothing, genericErrorNtf, discoverNtf, activatedNtf, deactivateNtf}
-use Rattle.air.specs.Air.{eventOf, airedBy, airMessage, controllerAired}
+use Rattle.air.specs.Air.{eventOf, kindOf, airedBy, isRefused, airMessage, controllerAired}
 use Rattle.state.proofs.Chains.{on, or-left, or-right}
 use Rattle.model.specs.Connection.{Connection, withController, spoken}
 use Rattle.messages.specs.Packets.{noticePackets}
@@ -26,7 +26,7 @@ use Rattle.model.specs.Effects.{air}
 use Rattle.model.specs.Refusals.{isNil}
 use Rattle.ends.specs.Changes.{Change, stays, opens, changeAired}
 use Rattle.model.specs.Changes.{atController}
-use Rattle.model.specs.calls.Air.{airingAs, airing, isBad, isEndpoint, isRefused, activates}
+use Rattle.model.specs.calls.Air.{airingAs, airing}
 use Rattle.model.specs.Bench.{rules}
 use Rattle.model.specs.Observer.{Ledger, spokenL, airedL, shown}
 use Rattle.model.proofs.Items.{itemsBy, itemsOf, segsOf, putsL}
@@ -39,6 +39,20 @@ use Rattle.model.proofs.Order.{each, need, nil-of, replies, replies-app
 use Rattle.model.proofs.Closing.{shut-now}
 use Rattle.model.proofs.Fine.{Fine, Kept, kept, Keeps, GoodAt, Plain, puts-change, put-all, Sound, sound-append, ChangeOk, standing-change, standing-at, order-open, at-keeps, accountOf}
 use Rattle.model.proofs.Deciding.{notices-replies, notice-sound}
+
+-- ---- the kinds that the rules name
+
+abbrev pub isBad : Event → Bool
+isBad e = eqb (kindOf e) 0
+
+abbrev pub notifies : Event → Bool
+notifies e = leb 1 (kindOf e) && leb (kindOf e) 7
+
+abbrev pub activates : Event → Bool
+activates e = eqb (kindOf e) 2 || eqb (kindOf e) 3
+
+abbrev pub isEndpoint : Event → Bool
+isEndpoint e = eqb (kindOf e) 8
 
 -- ---- an event and what it does
 

@@ -4,7 +4,8 @@ use Prim.Native.Nat.{ℕ}
 use mathlib.Core.Path.{_≡_, refl}
 use mathlib.Core.List.{List, [], _∷_}
 use Rattle.model.specs.Kinds.{Profile}
-use Rattle.model.specs.State.{State, cold, profileIn}
+use Rattle.model.specs.State.{State, cold}
+use Rattle.state.specs.Profile.{profileIn}
 use Rattle.model.specs.Effects.{Call, Result, taken, refused}
 use Rattle.model.specs.Refusals.{first}
 use Rattle.model.specs.Bench.{rules, act, judged, step}

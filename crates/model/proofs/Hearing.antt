@@ -38,6 +38,7 @@ use Rattle.model.proofs.Phases.{Ends, walk, start, bad-walk}
 use Rattle.model.proofs.Link.{clash}
 use Rattle.model.proofs.Acts.{Reads, reads-good, read-good}
 use Rattle.model.proofs.Meanings.{hear-response, hear-notice}
+use Rattle.model.proofs.Granted.{GrantsOctet, says-octet}
 use Rattle.model.proofs.Order.{each, need, Name, named, pendingName, replies, heads, one-only}
 use Rattle.model.proofs.Fine.{Order, Fine, Kept, Keeps, GoodAt, Aimed, Sound, SoundIn, reads-change, readsL-change, standing-same, order-open, at-keeps, accountOf}
 
@@ -128,19 +129,19 @@ module _ (s : State) (aim : ℕ) (l : ℕ → Ledger) (p : Octets) (w : List Oct
   abbrev taken-off : ℕ → ℕ → ℕ → State
   taken-off mt gid oid = withHearing (record { mt = mt; gid = gid; oid = oid; run = run [] }) (withUp w s)
 
-  reads-by : (c : Change) (k : Connection) (ms : List Octets) → Reads k (itemsBy c) ms
-  reads-by stays k ms = tt
-  reads-by (opens t) k ms = (tt, tt)
-  reads-by closes k ms = (tt, tt)
-  reads-by (gives n) k ms = (tt, tt)
+  reads-by : (c : Change) (k : Connection) (ms : List Octets) → GrantsOctet c → Reads k (itemsBy c) ms
+  reads-by stays k ms o = tt
+  reads-by (opens t) k ms o = (o, tt)
+  reads-by closes k ms o = (tt, tt)
+  reads-by (gives n) k ms o = (tt, tt)
 
   -- what the host understood: h, of the contents m, where the packet says so to the observer too
   understood-keeps : (mt gid oid : ℕ) (m : Octets) (h : Heard) → ((d : ℕ) → changeIn aim d (control mt gid oid (last m)) ≡ changeHeard h m d)
-      → meaning p ≡ control mt gid oid (last m)
+      → ((d : ℕ) → GrantsOctet (changeHeard h m d)) → meaning p ≡ control mt gid oid (last m)
       → Order (s .conns) (s .down) (replies w) (hostAfter (s .host) h .pending) → Aimed (hostAfter (s .host) h .pending) aim
       → Kept (understanding h m (taken-off mt gid oid) .next) (counted w s aim l (control mt gid oid (last m)) [])
   unfolding itemsOf
-  understood-keeps mt gid oid m h same means order aimed =
+  understood-keeps mt gid oid m h same octets means order aimed =
       record {
         same-down = refl;
         same-up = refl;
@@ -154,7 +155,7 @@ module _ (s : State) (aim : ℕ) (l : ℕ → Ledger) (p : Octets) (w : List Oct
                   rw (same d)
                   (subst (λ (k : Connection). GoodAt d k (segsOf d (s .down)) (itemsOf aim d w) (readBy c (l d))) (reads-change c (s .conns d))
                   (subst (λ (x : Ledger). GoodAt d (readsK (itemsBy c) (s .conns d)) (segsOf d (s .down)) (itemsOf aim d w) x) (readsL-change c [] (l d))
-                  (reads-good (itemsBy c) [] (reads-by c (s .conns d) []) old)));
+                  (reads-good (itemsBy c) [] (reads-by c (s .conns d) [] (octets d)) old)));
               order = order-open (λ d z. refl) order;
               way = f .way;
               aimed = aimed;
@@ -198,7 +199,8 @@ module _ (s : State) (aim : ℕ) (l : ℕ → Ledger) (p : Octets) (w : List Oct
     response-keeps =
         let q = one-only (heads (s .down)) (replies w) (named gid oid) (s .host .pending) (rw reply-first at (f .order .single)) in
         rw (hears (s .host .pending) (f .aimed) (q .names))
-        (understood-keeps 2 gid oid m (Answered answer) (λ d. ap (λ (h : Heard). changeHeard h m d) says-answer) means
+        (understood-keeps 2 gid oid m (Answered answer) (λ d. ap (λ (h : Heard). changeHeard h m d) says-answer)
+        (λ d. subst (λ (h : Heard). GrantsOctet (changeHeard h m d)) says-answer (says-octet aim 2 gid oid m d)) means
         (rw (settles (s .host) answer)
         record { clear = f .order .clear; single = rw (q .before, q .behind); tidy = λ b. clash b refl; empty = λ b. clash b refl })
         (rw (settles (s .host) answer) tt))
@@ -226,7 +228,7 @@ module _ (s : State) (aim : ℕ) (l : ℕ → Ledger) (p : Octets) (w : List Oct
     notice-keeps : Kept (understanding (hearOf (s .host .pending) 3 gid oid m) m (taken-off 3 gid oid) .next) (counted w s aim l (control 3 gid oid (last m)) [])
     notice-keeps =
         rw (hear-notice (s .host .pending) aim gid oid m)
-        (understood-keeps 3 gid oid m (says aim 3 gid oid m) (λ d. refl) means (rw said-host notice-order) (rw said-host (f .aimed)))
+        (understood-keeps 3 gid oid m (says aim 3 gid oid m) (λ d. refl) (says-octet aim 3 gid oid m) means (rw said-host notice-order) (rw said-host (f .aimed)))
 
   -- ---- any packet
 

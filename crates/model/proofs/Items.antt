@@ -8,6 +8,7 @@ use Rattle.octets.specs.Octets.{Octets, pick}
 use Rattle.packets.specs.Segments.{Segment}
 use Rattle.packets.specs.Reassembly.{finished}
 use Rattle.model.specs.Kinds.{Terms}
+use Rattle.state.specs.Conn.{metered}
 use Rattle.state.specs.Runs.{dataLimit}
 use Rattle.model.specs.Connection.{Connection, ControllerEnd, withHost, withController, closedHost, openedHost, closedController, openedController, heardData, credited}
 use Rattle.wires.specs.Meaning.{Meaning, datum, control, junk, meaning}
@@ -126,7 +127,7 @@ abbrev pub upCredits : List Item → ℕ
 upCredits [] = 0
 upCredits (carry l ∷ is) = upCredits is
 upCredits (credit n ∷ is) = n + upCredits is
-upCredits (opened t ∷ is) = t .credits + upCredits is
+upCredits (opened t ∷ is) = metered (t .credits) + upCredits is
 upCredits (closed ∷ is) = upCredits is
 
 -- credits given back

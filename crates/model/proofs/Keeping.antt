@@ -4,24 +4,25 @@ use Prim.Native.Nat.{ℕ, suc, _+_, _≤_, _<_, _%_}
 use native.Mathlib.Omega.{arith}
 use mathlib.Core.Path.{_≡_, refl, sym, ap, _∙_}
 use mathlib.Core.Logic.{inr}
-use mathlib.Core.Bool.{Bool, true, false, not, _&&_, _||_}
+use mathlib.Core.Bool.{Bool, true, false, not, _&&_, _||_, false≢true}
 use mathlib.Core.List.{List, [], _∷_, _++_, append-nil, cons≢nil}
-use lib.Dec.{eqb, ltb, leb}
+use lib.Dec.{eqb, ltb}
 use lib.ListN.{length, getD}
-use borrow.Author.Tests.{leb-true, ltb-false, not-false}
+use borrow.Author.Tests.{eq-eqb, ltb-false, not-false}
 use Rattle.octets.specs.Octets.{Octets, pick}
 use Rattle.packets.specs.Segments.{Segment, more, last, segments, segmentPacket, packetsOf}
 use Rattle.packets.specs.Reassembly.{run, grown, finished}
-use Rattle.state.specs.Conn.{flows}
+use Rattle.state.specs.Conn.{flows, owing}
 use Rattle.messages.specs.Layout.{creditsNtf, entriesFrom}
-use Rattle.dh.specs.Contents.{creditsOk}
 use Rattle.state.specs.Runs.{dataLimit, controlLimit}
+use Rattle.state.specs.Profile.{creditsOk, profileIn}
 use Rattle.state.proofs.Chains.{on, or-left, or-right}
-use Rattle.model.specs.Connection.{ControllerEnd, withHost, withController, sent, pushed, consumed, spoken}
+use Rattle.model.specs.Connection.{ControllerEnd, withHost, withController, sent, pushed, consumed, owedOn, spoken}
 use Rattle.messages.specs.Packets.{noticePacket}
 use Rattle.packets.specs.Headers.{dataHeader, controlHeader}
 use Rattle.wires.specs.Meaning.{Meaning, datum, control, junk, meaning}
-use Rattle.model.specs.State.{State, profileIn, withConns, withUp, at}
+use Rattle.model.specs.State.{State, withConns, withUp, at}
+use Rattle.state.proofs.Limits.{credits-few}
 use Rattle.model.specs.Effects.{taken, fresh, power, command, send, push, consume, credit, reply, report}
 use Rattle.model.specs.Refusals.{isNil, noConn}
 use Rattle.dh.specs.Host.{isClosing}
@@ -40,6 +41,24 @@ use Rattle.model.proofs.Messages.{profile-limits, terms-within, items-c
 use Rattle.model.proofs.Order.{replies-notice, replies-data, each, need, nil-of, left-nil, right-nil, heads, replies, heads-append, idle-pending, no-data-tidy, tidy-append, ordered-heads, ordered-no-data, command-way, data-way, heads-data}
 use Rattle.model.proofs.Closing.{no-close, free-right, free-pending, live-stays, items-aim}
 use Rattle.model.proofs.Fine.{sound-control, sound-data, put-data, accountOf, Fine, Kept, kept, Keeps, GoodAt, cold-fine, put-all, sound-append, StoredFor, StoredIn, conn-small, order-open, at-keeps, standing-same, standing-at}
+
+-- ---- what is owed is at most eight
+
+module _ (s : State) (aim : ℕ) (l : ℕ → Ledger) (f : Fine s aim l) where
+  -- credits within their limits are at most eight, under flow control
+  few-credits : (n : ℕ) → creditsOk n ≡ true → flows n ≡ true → n ≤ 8
+  few-credits n ok flow = credits-few n ok (λ e. false≢true (sym (ap not (eq-eqb n 255 e)) ∙ flow))
+
+  few-owed : (d : ℕ) → s .conns d .controller .owed ≤ 8
+  few-owed d = go (s .conns d .controller .opened) refl (flows (s .conns d .controller .grant)) refl
+    where
+      go : (o : Bool) → s .conns d .controller .opened ≡ o → (b : Bool) → flows (s .conns d .controller .grant) ≡ b → s .conns d .controller .owed ≤ 8
+      go false e b h = let z = f .good d .debts .asleep e in omega arith
+      go true e false h = let z = f .good d .debts .spare h in omega arith
+      go true e true h =
+          let same = f .standing .granted d e in
+          let most = few-credits (s .conns d .controller .grant) (rw same (terms-within (s .profile) d (f .limits) .credits)) h in
+          omega (arith, owed-le (f .good d))
 
 -- ---- consume
 
@@ -60,6 +79,9 @@ module _ (s : State) (aim : ℕ) (l : ℕ → Ledger) (c : ℕ) (p : Octets) (st
   one-segment : segmentIn (meaning p) ≡ x ∷ []
   one-segment = rw means
 
+  octet : flows (s .conns c .controller .grant) ≡ true → s .conns c .controller .owed < 255
+  octet y = omega (arith, few-owed s aim l f c)
+
   next : List Octets → State
   next ps = withUp (s .up ++ ps) (withConns (at c (λ k. withController (eaten (k .controller)) k) (s .conns)) s)
 
@@ -76,7 +98,7 @@ module _ (s : State) (aim : ℕ) (l : ℕ → Ledger) (c : ℕ) (p : Octets) (st
             rw (put-data aim d p c x (at c (consumedL whole) l d) means, itemsOf-append aim d (s .up) (p ∷ []), itemsOf-data p c x means aim d)
             (each c
             (λ d b. GoodAt d (pick b (withController (eaten (s .conns d .controller)) (s .conns d)) (s .conns d)) (segsOf d (s .down)) (itemsOf aim d (s .up) ++ pick b (loaded x ∷ []) []) (pick b (consumedL whole (l d)) (l d)))
-            (rw loop (consume-loop p st x one-segment open-here first-stored (rw loop at (f .good c))))
+            (rw loop (consume-loop p st x one-segment open-here first-stored octet (rw loop at (f .good c))))
             (λ d. rw append-nil (f .good d)) d);
         order = rw (replies-data p c x means (s .up)) (order-open (λ d z. at-keeps c (λ k. withController (eaten (k .controller)) k) (s .conns) (λ k. k .controller .opened) (λ k. refl) d) (f .order));
         way = f .way;
@@ -100,7 +122,7 @@ module _ (s : State) (aim : ℕ) (l : ℕ → Ledger) (c : ℕ) (p : Octets) (st
                   rw (append-nil (s .up))
                   (each c
                   (λ d b. GoodAt d (pick b (withController (eaten (s .conns d .controller)) (s .conns d)) (s .conns d)) (segsOf d (s .down)) (itemsOf aim d (s .up)) (pick b (consumedL whole (l d)) (l d)))
-                  (rw loop (consume-plain p st x one-segment open-here first-stored (rw loop at (f .good c))))
+                  (rw loop (consume-plain p st x one-segment open-here first-stored octet (rw loop at (f .good c))))
                   (f .good) d);
               order = rw (append-nil (s .up)) (order-open (λ d z. at-keeps c (λ k. withController (eaten (k .controller)) k) (s .conns) (λ k. k .controller .opened) (λ k. refl) d) (f .order));
               way = f .way;
@@ -131,44 +153,30 @@ entries-few p (n ∷ ns) =
 
 module _ (s : State) (aim : ℕ) (l : ℕ → Ledger) (f : Fine s aim l) where
   owed : ℕ → ℕ
-  owed d = s .conns d .controller .owed
+  owed d = owedOn (s .conns d .controller)
 
-  -- credits within their limits are at most eight, under flow control
-  few-credits : (n : ℕ) → creditsOk n ≡ true → flows n ≡ true → n ≤ 8
-  few-credits n ok flow = go (leb 1 n) (leb n 8) refl (eqb n 255) ok flow
-    where
-      go : (a b : Bool) → leb n 8 ≡ b → (c : Bool) → ((a && b) || c) ≡ true → not c ≡ true → n ≤ 8
-      go a true e c h k = leb-true n 8 e
-      go true false e true h k = clash k refl
-      go true false e false h k = clash h refl
-      go false false e true h k = clash k refl
-      go false false e false h k = clash h refl
-
-  -- no more is owed than eight
   few : (d : ℕ) → owed d ≤ 8
   unfolding owed
-  few d = go (s .conns d .controller .opened) refl (flows (s .conns d .controller .grant)) refl
-    where
-      go : (o : Bool) → s .conns d .controller .opened ≡ o → (b : Bool) → flows (s .conns d .controller .grant) ≡ b → s .conns d .controller .owed ≤ 8
-      go false e b h = let z = f .good d .debts .asleep e in omega arith
-      go true e false h = let z = f .good d .debts .spare h in omega arith
-      go true e true h =
-          let same = f .standing .granted d e in
-          let most = few-credits (s .conns d .controller .grant) (rw same (terms-within (s .profile) d (f .limits) .credits)) h in
-          omega (arith, owed-le (f .good d))
+  few d =
+      on (λ (n : ℕ). n ≤ 8) (s .conns d .controller .opened && flows (s .conns d .controller .grant))
+      (λ e. few-owed s aim l f d) (λ e. omega arith)
 
   -- a notice has for each connection what it is owed
   notice-items : allZero (owedBy s) ≡ false → (d : ℕ)
-      → itemsOf aim d (noticePacket (record { gid = 0; oid = 6; payload = creditsNtf (owedBy s) }) ∷ []) ≡ itemsBy (givenTo (s .conns d .controller .owed))
+      → itemsOf aim d (noticePacket (record { gid = 0; oid = 6; payload = creditsNtf (owedBy s) }) ∷ []) ≡ itemsBy (givenTo (owedOn (s .conns d .controller)))
   unfolding owed
   notice-items some d = go (noConn d) refl
     where
+      none : (o : Bool) → o ≡ false → 0 ≡ owing o (s .conns d .controller .grant) (s .conns d .controller .owed)
+      none true h = clash refl h
+      none false h = refl
+
       go : (b : Bool) → noConn d ≡ b
-          → itemsOf aim d (noticePacket (record { gid = 0; oid = 6; payload = creditsNtf (owedBy s) }) ∷ []) ≡ itemsBy (givenTo (s .conns d .controller .owed))
+          → itemsOf aim d (noticePacket (record { gid = 0; oid = 6; payload = creditsNtf (owedBy s) }) ∷ []) ≡ itemsBy (givenTo (owedOn (s .conns d .controller)))
       go false e = items-credit owed (λ d h. few d) some aim d e
       go true e =
           items-credit-other owed (λ d h. few d) some aim d e
-          ∙ ap (λ (n : ℕ). itemsBy (givenTo n)) (sym (f .good d .debts .asleep (f .standing .known d e)))
+          ∙ ap (λ (n : ℕ). itemsBy (givenTo n)) (none (s .conns d .controller .opened) (f .standing .known d e))
 
 module _ (s : State) (aim : ℕ) (l : ℕ → Ledger) where
   pub fresh-keeps : (m : Octets) → Keeps (fresh m) s aim l

@@ -2,6 +2,7 @@ pub mod Items
 pub mod Phases
 pub mod Link
 pub mod Acts
+pub mod Granted
 pub mod Meanings
 pub mod Messages
 pub mod Order

@@ -11,12 +11,13 @@ use lib.ListN.{length}
 use Rattle.octets.specs.Octets.{Octets, pick}
 use Rattle.packets.specs.Segments.{Segment}
 use Rattle.packets.specs.Reassembly.{Run, run, Flow}
-use Rattle.state.specs.Conn.{flows}
+use Rattle.state.specs.Conn.{flows, creditSum}
 use Rattle.state.specs.Runs.{dataLimit}
 use Rattle.model.specs.Connection.{Connection, closed as coldConnection}
 use Rattle.wires.specs.Meaning.{meaning}
 use Rattle.ends.specs.Changes.{Change, stays, opens, closes, gives, creditsOf}
 use Rattle.model.specs.calls.Consume.{segmentIn}
+use Rattle.model.specs.calls.Report.{heldBy}
 use Rattle.model.specs.Observer.{HostCount, Ledger, blank}
 use Rattle.model.specs.Claim.{heldIn, storedIn, owedIn}
 use Rattle.model.proofs.Items.{Item, carry, credit, opened, closed, itemsBy, storeSegs, upSegs, upCredits, upReturned}
@@ -67,6 +68,8 @@ pub record Idle (n : ℕ) (h : List Segment) (r : Run) : Type 0 where
 pub record Debts (host : Bool) (h n : ℕ) (controller : Bool) (g w : ℕ) (u : List Item) : Type 0 where
   pub bound : n + upReturned u ≤ h
   pub granted : host ≡ false → h ≡ 0
+  -- a grant is an octet
+  pub octet : h ≤ 255
   pub spare : flows g ≡ false → w ≡ 0
   pub asleep : controller ≡ false → w ≡ 0
 
@@ -128,12 +131,14 @@ pub clash : {A : Type 0} {b : Bool} → b ≡ true → b ≡ false → A
 clash p q = let z : _≡_ {A = ℕ} 0 1 = cc in absurd (omega arith)
 
 -- while the host has yet to read of the opening, the whole grant is under way
-has-grant : (g : ℕ) (u : List Item) → Ends (walk shut u) true → AllOpened g u → g + upReturned u ≤ upCredits u
-has-grant g [] e a = clash refl e
-has-grant g (carry x ∷ u) e a = bad-walk true u e
-has-grant g (credit n ∷ u) e a = bad-walk true u e
-has-grant g (opened t ∷ u) e a = omega (arith, returned-le u, a .0)
-has-grant g (closed ∷ u) e a = has-grant g u e a
+has-grant : (g : ℕ) (u : List Item) → flows g ≡ true → Ends (walk shut u) true → AllOpened g u → g + upReturned u ≤ upCredits u
+has-grant g [] y e a = clash refl e
+has-grant g (carry x ∷ u) y e a = bad-walk true u e
+has-grant g (credit n ∷ u) y e a = bad-walk true u e
+has-grant g (opened t ∷ u) y e a =
+    let flow : flows (t .credits) ≡ true = rw (a .0) y in
+    rw flow (omega (arith, returned-le u, a .0))
+has-grant g (closed ∷ u) y e a = has-grant g u y e a
 
 -- past a closing no credits follow
 pub over-returned : (b : Bool) (u : List Item) → Ends (walk over u) b → upReturned u ≡ 0
@@ -183,7 +188,7 @@ cold-good loop =
       phase = refl;
       idle = (λ a. record { held = refl; hand = refl; empty-run = refl });
       rest = (λ a. refl);
-      debts = record { bound = omega arith; granted = (λ a. refl); spare = (λ a. refl); asleep = (λ a. refl) };
+      debts = record { bound = omega arith; granted = (λ a. refl); octet = omega arith; spare = (λ a. refl); asleep = (λ a. refl) };
       live = (λ a. clash a refl);
     }
 
@@ -197,7 +202,7 @@ module _ {loop : Bool} {k : Connection} {d : List Segment} {u : List Item} {l : 
       go : (b : Bool) → k .host .opened ≡ b
           → k .host .held + upReturned u + (length d + length (k .controller .store) + k .controller .owed) ≤ k .host .grant
       go true e = omega (arith, g .live c .sum y, g .live c .terms .same e, returned-le u)
-      go false e = omega (arith, g .live c .sum y, has-grant (k .controller .grant) u (rw (e, c) at (g .phase)) (g .live c .terms .under-way))
+      go false e = omega (arith, g .live c .sum y, has-grant (k .controller .grant) u y (rw (e, c) at (g .phase)) (g .live c .terms .under-way))
 
   pub owed-room : Good loop k d u l → k .controller .opened ≡ true → k .host .held + upReturned u + k .controller .owed ≤ k .host .grant
   owed-room g c = go (flows (k .controller .grant)) refl
@@ -240,11 +245,23 @@ module _ {loop : Bool} {k : Connection} {d : List Segment} {u : List Item} {l : 
           rw (g .there, e) (omega (arith, g .counts .granted e, g .counts .flow e z))
       go false e = rw (g .there, e) (sym (g .idle e .held))
 
+  -- what report shows as held is what is held
+  pub held-shown : Good loop k d u l → heldBy (k .host) ≡ k .host .held
+  held-shown g = go (k .host .opened) refl
+    where
+      go : (b : Bool) → k .host .opened ≡ b → pick b (k .host .held) 0 ≡ k .host .held
+      go true e = refl
+      go false e = sym (g .idle e .held)
+
   pub stored-counted : k .controller .opened ≡ true → Good loop k d u l → storedIn l ≡ length (k .controller .store)
   stored-counted c g = omega (arith, g .live c .stored)
 
   pub owed-counted : k .controller .opened ≡ true → flows (k .controller .grant) ≡ true → Good loop k d u l → owedIn l ≡ k .controller .owed
   owed-counted c y g = omega (arith, g .live c .owed y)
+
+-- credits within an octet are their sum
+pub small-sum : (held n : ℕ) → held + n ≤ 255 → creditSum held n ≡ held + n
+small-sum held n h = omega arith
 
 -- a change that the host reads keeps it within its grant
 pub room-by : {loop : Bool} {k : Connection} {d : List Segment} {l : Ledger} (c : Change) (u : List Item) → Good loop k d (itemsBy c ++ u) l

@@ -18,6 +18,7 @@ use Rattle.model.specs.Kinds.pending as pending
 use Rattle.model.specs.Kinds.command.{Reset, Init, ConnCreate, ConnClose, Discover, Select, Deactivate, Unknown}
 use Rattle.model.specs.Kinds.answer.{Done, ClosesAll, Sized, Opens, Closes}
 use Rattle.model.specs.Kinds.heard.{Nothing, Dropped, Answered, Activated, Deactivated, Credits}
+use Rattle.state.specs.Conn.{metered}
 use Rattle.state.specs.Commands.{commandOf}
 use Rattle.dh.specs.Contents.{written, noticeOf}
 use Rattle.dh.specs.Host.{heardAlone, hearOf, answerOf, okAnswer, noticed, creditsFor}
@@ -124,10 +125,10 @@ credits-change (Answered Done) m d = refl
 credits-change (Answered ClosesAll) m d = refl
 credits-change (Answered (Sized n)) m d = refl
 credits-change (Answered (Opens c t)) m d =
-    elim (eqb c d) as (λ b. upCredits (itemsBy (pick b (opens t) stays)) ≡ pick b (t .credits) 0) [ true ↦ omega arith | false ↦ refl ]
+    elim (eqb c d) as (λ b. upCredits (itemsBy (pick b (opens t) stays)) ≡ pick b (metered (t .credits)) 0) [ true ↦ omega arith | false ↦ refl ]
 credits-change (Answered (Closes c)) m d = elim (eqb c d) as (λ b. upCredits (itemsBy (pick b closes stays)) ≡ 0) [ true ↦ refl | false ↦ refl ]
 credits-change (Activated t) m d =
-    elim (eqb 0 d) as (λ b. upCredits (itemsBy (pick b (opens t) stays)) ≡ pick b (t .credits) 0) [ true ↦ omega arith | false ↦ refl ]
+    elim (eqb 0 d) as (λ b. upCredits (itemsBy (pick b (opens t) stays)) ≡ pick b (metered (t .credits)) 0) [ true ↦ omega arith | false ↦ refl ]
 credits-change Deactivated m d = elim (eqb 0 d) as (λ b. upCredits (itemsBy (pick b closes stays)) ≡ 0) [ true ↦ refl | false ↦ refl ]
 credits-change Credits m d = go (eqb (creditsFor m d) 0) refl
   where

@@ -22,21 +22,21 @@ use Rattle.state.specs.Conn.{placeOf, connOf, termsOf}
 use Rattle.state.specs.Commands.{commandOf}
 use Rattle.messages.specs.Layout.{Message, resetNtf, creditsNtf, genericErrorNtf, discoverNtf, activatedNtf, deactivateNtf, responseOf, responseMessage, noticeMessage}
 use Rattle.state.specs.Radio.{isActive, isListening, isAsleep, polls}
-use Rattle.dh.specs.Contents.{creditsOk, TermsOk, written, noticeOf, entryId, entryCredits, entryOk, entriesOk, creditsWritten}
+use Rattle.state.specs.Profile.{leastSize, profileOk, profileIn, profileOctetsOk}
+use Rattle.dh.specs.Contents.{written, noticeOf, entryId, entryCredits, entryOk, entriesOk, creditsWritten}
 use Rattle.dh.specs.Host.{answerOf, heardAlone, creditsFor, creditsIn}
-use Rattle.air.specs.Air.{airMessage, airedBy}
-use Rattle.ends.specs.RoundTrips.{TargetOk}
-use Rattle.state.proofs.Chains.{every-at, on}
+use Rattle.air.specs.Air.{airMessage, airedBy, isRefused}
+use Rattle.state.proofs.Limits.{profile-within}
+use Rattle.ends.specs.RoundTrips.{TermsOk, TargetOk}
+use Rattle.state.proofs.Chains.{and-right, every-at, on}
 use Rattle.ends.proofs.RoundTrips.{round-trips}
 use Rattle.messages.specs.Packets.{responsePacket, noticePacket, noticePackets}
 use Rattle.wires.specs.Meaning.{control, meaning}
 use Rattle.wires.specs.Tally.{says}
-use Rattle.model.specs.State.{profileOk, profileIn}
 use Rattle.model.specs.Refusals.{noConn, ids}
 use Rattle.ends.specs.Changes.{stays, opens, closes, changeBy, changeAired, changeHeard, changeAnswered, givenTo}
 use Rattle.model.specs.calls.Down.{answers}
 use Rattle.model.specs.calls.Credit.{allZero}
-use Rattle.model.specs.calls.Air.{isRefused}
 use Rattle.model.proofs.Items.{Item, closed, itemsBy, itemsOf}
 use Rattle.model.proofs.Meanings.{meaning-response, meaning-notice}
 use Rattle.nfcc.proofs.Verdicts.{Fits}
@@ -45,7 +45,7 @@ use Rattle.air.proofs.Taken.{Within, found-by, poll-by, listen-by, failed-by}
 -- ---- a profile within its limits: control payload 32-255, payloads 1-255, credits 1-8 or 255
 
 pub record Limits (p : Profile) : Type 0 where
-  pub control : 32 ≤ p .control
+  pub control : leastSize ≤ p .control
   pub control-most : p .control ≤ 255
   pub dynamic : TermsOk (p .dynamic)
   pub dynamic-most : p .dynamic .payload ≤ 255
@@ -53,19 +53,16 @@ pub record Limits (p : Profile) : Type 0 where
   pub fixed-most : p .fixed .payload ≤ 255
 
 -- that of a profile which `fresh` takes
-pub profile-limits : (m : Octets) → profileOk m ≡ true → Limits (profileIn m)
+pub profile-limits : (m : Octets) → profileOctetsOk m ≡ true → Limits (profileIn m)
 profile-limits m h =
-    let at =
-    every-at (eqb (length m) 5)
-    (leb 32 (getD m 0 0) ∷ leb (getD m 0 0) 255 ∷ leb 1 (getD m 1 0) ∷ leb (getD m 1 0) 255 ∷ creditsOk (getD m 2 0)
-    ∷ leb 1 (getD m 3 0) ∷ leb (getD m 3 0) 255 ∷ creditsOk (getD m 4 0) ∷ []) h in
+    let w = profile-within (profileIn m) (and-right (eqb (length m) 5) (profileOk (profileIn m)) h) in
     record {
-      control = leb-true 32 (getD m 0 0) (at 1);
-      control-most = leb-true (getD m 0 0) 255 (at 2);
-      dynamic = record { payload = leb-true 1 (getD m 1 0) (at 3); credits = at 5 };
-      dynamic-most = leb-true (getD m 1 0) 255 (at 4);
-      fixed = record { payload = leb-true 1 (getD m 3 0) (at 6); credits = at 8 };
-      fixed-most = leb-true (getD m 3 0) 255 (at 7);
+      control = w .control-least;
+      control-most = w .control-most;
+      dynamic = record { payload = w .dynamic .least; credits = w .dynamic .credits-ok };
+      dynamic-most = w .dynamic .most;
+      fixed = record { payload = w .fixed .least; credits = w .fixed .credits-ok };
+      fixed-most = w .fixed .most;
     }
 
 pub terms-within : (p : Profile) (c : ℕ) → Limits p → TermsOk (termsOf p c)

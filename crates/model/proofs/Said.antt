@@ -17,6 +17,7 @@ use Rattle.model.specs.Kinds.answer.{Done, ClosesAll, Sized, Opens, Clos
 use Rattle.model.specs.Kinds.heard.{Nothing, Dropped, Answered, Activated, Deactivated, Credits}
 use Rattle.state.specs.Conn.{placeOf, termsOf}
 use Rattle.state.specs.Commands.{commandOf}
+use Rattle.state.specs.Profile.{TermsWithin}
 use Rattle.messages.specs.Layout.{resetNtf, creditsNtf, genericErrorNtf, discoverNtf, activatedNtf, deactivateNtf, responseOf, noticeMessage}
 use Rattle.dh.specs.Contents.{written, noticeOf}
 use Rattle.dh.specs.Host.{answerOf, okAnswer, aimOf, noticed, heardAlone, expected, hearOf, creditsFor}
@@ -28,7 +29,6 @@ use Rattle.messages.specs.Packets.{noticePacket, noticePackets}
 use Rattle.model.specs.Refusals.{noConn}
 use Rattle.ends.specs.Changes.{Change, stays, opens, closes, gives, changeHeard}
 use Rattle.model.specs.calls.Down.{answers}
-use Rattle.model.specs.Reachable.{TermsWithin}
 use Rattle.nfcc.proofs.Verdicts.{Fits}
 use Rattle.model.proofs.Meanings.{meaning-notice}
 use Rattle.model.proofs.Messages.{Limits, answeredBy, says-response, meaning-answer}

@@ -19,6 +19,7 @@ use Rattle.model.specs.Kinds.answer.{Done, ClosesAll, Sized, Opens, Clos
 use Rattle.model.specs.Kinds.heard.{Nothing, Dropped, Answered, Activated, Deactivated, Credits}
 use Rattle.state.specs.Conn.{placeOf, termsOf}
 use Rattle.state.specs.Runs.{dataLimit, controlLimit}
+use Rattle.state.specs.Profile.{profileIn, ProfileWithin}
 use Rattle.nfcc.specs.Controller.{judgeOf}
 use Rattle.messages.specs.Layout.{noticeMessage}
 use Rattle.dh.specs.Host.{hostAfter, hearOf}
@@ -28,7 +29,7 @@ use Rattle.model.specs.Connection.{Connection, withHost, withController,
 use Rattle.packets.specs.Headers.{dataHeader}
 use Rattle.messages.specs.Packets.{noticePackets}
 use Rattle.wires.specs.Meaning.{Meaning, datum, control, junk, meaning}
-use Rattle.model.specs.State.{State, isOpen, at, withConns, withDown, withUp, withAsking, withHearing, ControlRun, profileIn, withHostState}
+use Rattle.model.specs.State.{State, isOpen, at, withConns, withDown, withUp, withAsking, withHearing, ControlRun, withHostState}
 use Rattle.model.specs.Effects.{fresh, power, command, send, push, down, consume, credit, air, reply, up, report, Effect, taken}
 use Rattle.model.specs.Refusals.{first, noConn, isNil, full, isHeld}
 use Rattle.model.specs.Runs.{runFor, runAfter, wholeBy}
@@ -38,12 +39,12 @@ use Rattle.model.specs.calls.Push.{pushing}
 use Rattle.model.specs.calls.Down.{answers, deciding, answering, arriving, taking, tooTight, firstFull, needsTwo, storeFull}
 use Rattle.model.specs.calls.Consume.{isLoop, echo, segmentIn, joinedRun, consuming}
 use Rattle.model.specs.calls.Credit.{owedBy}
-use Rattle.model.specs.calls.Air.{airedConns, airing, notifies}
+use Rattle.model.specs.calls.Air.{airedConns, airing}
 use Rattle.model.specs.calls.Reply.{replying}
 use Rattle.model.specs.calls.Up.{heard, hearing, coming, reading}
 use Rattle.model.specs.Bench.{rules, act}
 use Rattle.model.specs.Observer.{Ledger}
-use Rattle.model.specs.Reachable.{Always, RunWithin, ProfileWithin, Sizes}
+use Rattle.model.specs.Reachable.{Always, RunWithin, Sizes}
 use Rattle.model.proofs.Link.{clash, held-le, owed-le}
 use Rattle.nfcc.proofs.Verdicts.{Fits, judge-fits}
 use Rattle.air.proofs.Taken.{Within, event-within}
@@ -52,7 +53,7 @@ use Rattle.model.proofs.Messages.{Limits, profile-limits, notices-few}
 use Rattle.model.proofs.Order.{each, need, way-low, way-small}
 use Rattle.model.proofs.Fine.{Fine, SoundIn, Sound, StoredIn, StoredFor}
 use Rattle.model.proofs.Deciding.{dynamic-conn}
-use Rattle.model.proofs.Airing.{Suits, aired-suits, kind-eight}
+use Rattle.model.proofs.Airing.{Suits, aired-suits, kind-eight, notifies}
 use Rattle.model.proofs.Trace.{reachable}
 use Rattle.model.proofs.Always.{Stays, always}
 use Rattle.model.proofs.Never.{heard-whole}

@@ -16,6 +16,7 @@ use Rattle.packets.specs.Reassembly.{Run, run, lost, grown, finished}
 use Rattle.model.specs.Kinds.{Profile}
 use Rattle.model.specs.Kinds.answer.{Opens, Closes}
 use Rattle.state.specs.Runs.{dataLimit, controlLimit}
+use Rattle.state.specs.Profile.{TermsWithin}
 use Rattle.state.proofs.Chains.{on}
 use Rattle.state.proofs.Steady.{Steady}
 use Rattle.model.specs.Connection.{Connection, HostEnd, ControllerEnd, withHost, withController, closed, stored}
@@ -25,7 +26,7 @@ use Rattle.model.specs.Refusals.{noConn}
 use Rattle.ends.specs.Changes.{Change, stays, opens, closes, gives}
 use Rattle.model.specs.Changes.{atController, atHost}
 use Rattle.model.specs.calls.Up.{hearing}
-use Rattle.model.specs.Reachable.{octetsIn, RunWithin, TermsWithin}
+use Rattle.model.specs.Reachable.{octetsIn, RunWithin}
 use Rattle.model.proofs.Link.{clash}
 use Rattle.model.proofs.Messages.{Limits}
 use Rattle.model.proofs.Order.{each}

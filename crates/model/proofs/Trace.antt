@@ -1,25 +1,27 @@
 -- Demand 3: the invariant holds after every list of calls from a fresh bench, and the claim follows from it.
 -- Assumes nothing.
-use Prim.Native.Nat.{ℕ}
+use Prim.Native.Nat.{ℕ, _+_, _≤_}
 use native.Mathlib.Omega.{arith}
 use mathlib.Core.Path.{_≡_, refl, sym, ap, _∙_, subst}
-use mathlib.Core.Bool.{Bool, true, false, not}
+use mathlib.Core.Bool.{Bool, true, false, not, _&&_}
 use mathlib.Core.List.{List, [], _∷_}
 use Rattle.octets.specs.Octets.{Octets, pick}
 use Rattle.packets.specs.Reassembly.{Prefix}
 use Rattle.packets.proofs.Reassembly.{flow-prefix}
 use Rattle.state.specs.Conn.{flows}
 use Rattle.wires.specs.Tally.{dataCount, creditsUp}
-use Rattle.model.specs.State.{State, cold, profileIn, profileOk}
+use Rattle.model.specs.Connection.{owedOn}
+use Rattle.model.specs.State.{State, cold}
+use Rattle.state.specs.Profile.{profileIn, profileOctetsOk}
 use Rattle.model.specs.Effects.{Call, fresh, power, command, send, push, down, consume, credit, air, reply, up, report, Result, taken, refused}
 use Rattle.model.specs.Refusals.{first, noConn}
 use Rattle.model.specs.calls.Consume.{isLoop}
-use Rattle.model.specs.calls.Report.{reportOf}
+use Rattle.model.specs.calls.Report.{heldBy, reportOf}
 use Rattle.model.specs.Bench.{rules, act, judged, step}
 use Rattle.model.specs.Observer.{Ledger, Account, opening, events, after, observed, observe, seen, eventOf}
 use Rattle.model.specs.Claim.{heldIn, owedIn, numbersOf, total, Claim, Demand}
 use Rattle.model.proofs.Items.{itemsOf, segsOf}
-use Rattle.model.proofs.Link.{Live, clash, held-counted, stored-counted, owed-counted}
+use Rattle.model.proofs.Link.{Live, clash, held-counted, held-shown, stored-counted, owed-counted}
 use Rattle.model.proofs.Meanings.{dataCount-segs, creditsUp-items}
 use Rattle.model.proofs.Messages.{profile-limits}
 use Rattle.model.proofs.Fine.{Fine, Kept, Keeps, kept, accountOf, cold-fine}
@@ -64,7 +66,7 @@ calls-keep [] s o k = k
 calls-keep (c ∷ cs) s o k = calls-keep cs (step c s .effect .next) (observe (eventOf c (step c s)) o) (step-keeps c s o k)
 
 -- the invariant, after every list of calls
-pub reachable : (profile : Octets) → profileOk profile ≡ true → (calls : List Call)
+pub reachable : (profile : Octets) → profileOctetsOk profile ≡ true → (calls : List Call)
     → Kept (after calls (cold (profileIn profile))) (observed (events calls (cold (profileIn profile))) opening)
 reachable profile ok calls = calls-keep calls (cold (profileIn profile)) opening (kept (cold-fine (profileIn profile) (profile-limits profile ok)))
 
@@ -101,13 +103,17 @@ module _ (c : ℕ) (s : State) (aim : ℕ) (l : ℕ → Ledger) (f : Fine s aim 
     live : Live (isLoop c) (s .conns c) (segsOf c (s .down)) (itemsOf aim c (s .up)) (l c)
     live = f .good c .live o
 
-    counted-held : (b : Bool) → flows (s .conns c .controller .grant) ≡ b → pick b (s .conns c .host .held) 255 ≡ pick b (heldIn (l c)) 255
-    counted-held true e = sym (held-counted o e (f .good c))
+    counted-held : (b : Bool) → flows (s .conns c .controller .grant) ≡ b → pick b (heldBy (s .conns c .host)) 255 ≡ pick b (heldIn (l c)) 255
+    counted-held true e = held-shown (f .good c) ∙ sym (held-counted o e (f .good c))
     counted-held false e = refl
 
     counted-owed : (b : Bool) → flows (s .conns c .controller .grant) ≡ b → pick b (s .conns c .controller .owed) 0 ≡ pick b (owedIn (l c)) 0
     counted-owed true e = sym (owed-counted o e (f .good c))
     counted-owed false e = refl
+
+    -- of a connection that is open, what counts as owed goes by flow control alone
+    shown-owed : owedOn (s .conns c .controller) ≡ pick (flows (s .conns c .controller .grant)) (s .conns c .controller .owed) 0
+    shown-owed = λ i. pick (o i && flows (s .conns c .controller .grant)) (s .conns c .controller .owed) 0
 
     same-numbers : reportOf c s ≡ numbersOf c (accountOf s aim l)
     same-numbers =
@@ -115,12 +121,16 @@ module _ (c : ℕ) (s : State) (aim : ℕ) (l : ℕ → Ledger) (f : Fine s aim 
         let flow = flows (s .conns c .controller .grant) in
         rw g
         (λ i.
-        counted-held flow refl i ∷ dataCount c (s .down) ∷ sym (stored-counted o (f .good c)) i ∷ counted-owed flow refl i
+        counted-held flow refl i ∷ dataCount c (s .down) ∷ sym (stored-counted o (f .good c)) i ∷ (shown-owed ∙ counted-owed flow refl) i
         ∷ pick flow (creditsUp c (s .up)) 0 ∷ [])
 
+    none-applies : first (rules (report c) s) ≡ taken
+    unfolding first
+    none-applies = rw (conn-known o, o)
+
     reported : step (report c) s .effect .message ≡ reportOf c s ∷ []
-    unfolding step first
-    reported = rw (conn-known o, o)
+    unfolding step
+    reported = ap (λ (r : Result). judged r (report c) s .effect .message) none-applies
 
     whole-sum : flows (l c .controller .grant) ≡ true → total (numbersOf c (accountOf s aim l)) ≡ l c .controller .grant
     whole-sum e =
@@ -135,12 +145,24 @@ module _ (c : ℕ) (s : State) (aim : ℕ) (l : ℕ → Ledger) (f : Fine s aim 
     to-host : (b : Bool) → isLoop c ≡ b → Prefix (l c .talk .outHost) (pick b (l c .talk .sent) (l c .talk .spoken))
     to-host b e = rw (← e) (flow-prefix (live .toHost))
 
+  -- what was pushed had been granted or read
+  held-whole : l c .controller .opened ≡ true → flows (l c .controller .grant) ≡ true → l c .host .opened ≡ true
+      → l c .host .pushed ≤ l c .host .grant + l c .host .read
+  held-whole e y h =
+      let v = live (open-there e) in
+      let there = sym (f .good c .there) ∙ h in
+      let flow : flows (s .conns c .host .grant) ≡ true = rw (v .terms .same there) (rw (v .granted) at y) in
+      omega (arith, f .good c .counts .granted there, f .good c .counts .flow there flow)
+
   claim : Claim c s (accountOf s aim l)
   claim =
       record {
         taken-if-open = (open-if-taken, report-taken);
         numbers = λ e. reported (open-there e) ∙ ap (λ (n : Octets). n ∷ []) (same-numbers (open-there e));
         sum = λ e. whole-sum (open-there e);
+        whole-stored = λ e. omega (arith, live (open-there e) .stored);
+        whole-owed = λ e y. omega (arith, live (open-there e) .owed (rw (live (open-there e) .granted) at y));
+        whole-held = λ e y h. omega (arith, held-whole e y h);
         at-controller = λ e. flow-prefix (live (open-there e) .toController);
         at-host = λ e h. to-host (open-there e) true h;
         at-host-static = λ e h. to-host (open-there e) false h;

@@ -13,6 +13,7 @@ use Rattle.packets.specs.Segments.{Segment, segments, segmentPacket, packetsOf}
 use Rattle.model.specs.Kinds.{Verdict, Aired}
 use Rattle.model.specs.Kinds.aired.{Refused, Goes, Activates, Ends, Speaks}
 use Rattle.state.specs.Conn.{placeOf, termsOf}
+use Rattle.state.specs.Profile.{profileIn}
 use Rattle.nfcc.specs.Controller.{judgeOf}
 use Rattle.dh.specs.Host.{hearOf}
 use Rattle.air.specs.Air.{eventOf}
@@ -20,7 +21,7 @@ use Rattle.state.proofs.Chains.{on, or-left, or-right}
 use Rattle.model.specs.Connection.{Connection, withHost, withController, sent, pushed, heardData, stored, consumed, spoken}
 use Rattle.packets.specs.Headers.{dataHeader, controlHeader}
 use Rattle.wires.specs.Meaning.{Meaning, datum, control, junk, meaning}
-use Rattle.model.specs.State.{State, profileIn, isOpen, at, withConns, withDown, withUp, withAsking, withHearing}
+use Rattle.model.specs.State.{State, isOpen, at, withConns, withDown, withUp, withAsking, withHearing}
 use Rattle.model.specs.Effects.{Call, fresh, power, command, send, push, down, consume, credit, air, reply, up, report, Effect, taken}
 use Rattle.model.specs.Refusals.{first, noConn, isNil, isHeld}
 use Rattle.model.specs.Runs.{runAfter, wholeBy}

@@ -3,8 +3,9 @@
 -- Assumes nothing.
 use mathlib.Core.Bool.{not}
 use mathlib.Core.List.{List, [], _∷_}
+use Rattle.state.specs.Profile.{profileIn, profileOctetsOk}
 use Rattle.air.specs.Air.{eventOf}
-use Rattle.model.specs.State.{State, cold, profileOk, profileIn}
+use Rattle.model.specs.State.{State, cold}
 use Rattle.model.specs.Effects.{Call, Result, Effect, Outcome, quiet, fresh, power, command, send, push, down, consume, credit, air, reply, up, report, taken, refused}
 use Rattle.model.specs.Refusals.{Rule, rule, first}
 use Rattle.model.specs.calls.Command.{commanding, commandRules}
@@ -19,7 +20,7 @@ use Rattle.model.specs.calls.Up.{reading, upRules}
 use Rattle.model.specs.calls.Report.{reporting, reportRules}
 
 abbrev pub rules : Call → State → List Rule
-rules (fresh m) s = rule 3 (not (profileOk m)) ∷ []
+rules (fresh m) s = rule 3 (not (profileOctetsOk m)) ∷ []
 rules power s = []
 rules (command gid oid m) s = commandRules gid oid m s
 rules (send c m) s = sendRules c m s

@@ -1,6 +1,6 @@
 -- Demand 3: the single claim about every list of calls from a fresh bench.
 -- Assumes nothing.
-use Prim.Native.Nat.{ℕ, _+_, _-_}
+use Prim.Native.Nat.{ℕ, _+_, _-_, _≤_}
 use mathlib.Core.Path.{_≡_}
 use mathlib.Core.Logic.{_↔_}
 use mathlib.Core.Bool.{true, false}
@@ -9,7 +9,8 @@ use Rattle.octets.specs.Octets.{Octets, pick}
 use Rattle.packets.specs.Reassembly.{Prefix}
 use Rattle.state.specs.Conn.{flows}
 use Rattle.wires.specs.Tally.{dataCount, creditsUp}
-use Rattle.model.specs.State.{State, cold, profileOk, profileIn}
+use Rattle.model.specs.State.{State, cold}
+use Rattle.state.specs.Profile.{profileIn, profileOctetsOk}
 use Rattle.model.specs.Effects.{Call, report, taken}
 use Rattle.model.specs.calls.Consume.{isLoop}
 use Rattle.model.specs.Bench.{step}
@@ -49,6 +50,13 @@ pub record Claim (c : ℕ) (s : State) (o : Account) : Type 0 where
   pub numbers : o .ledger c .controller .opened ≡ true → step (report c) s .effect .message ≡ numbersOf c o ∷ []
   -- under flow control they sum to the grant
   pub sum : o .ledger c .controller .opened ≡ true → flows (o .ledger c .controller .grant) ≡ true → total (numbersOf c o) ≡ o .ledger c .controller .grant
+  -- no subtraction in these numbers is cut off: no more is consumed than was stored, put in notices than consumed, pushed than granted
+  -- and read
+  pub whole-stored : o .ledger c .controller .opened ≡ true → o .ledger c .controller .consumed ≤ o .ledger c .controller .arrived
+  pub whole-owed : o .ledger c .controller .opened ≡ true → flows (o .ledger c .controller .grant) ≡ true
+      → o .ledger c .controller .noticed ≤ o .ledger c .controller .consumed
+  pub whole-held : o .ledger c .controller .opened ≡ true → flows (o .ledger c .controller .grant) ≡ true → o .ledger c .host .opened ≡ true
+      → o .ledger c .host .pushed ≤ o .ledger c .host .grant + o .ledger c .host .read
   -- the messages handed out are the first of those taken, octet for octet: at the controller those of send,
   pub at-controller : o .ledger c .controller .opened ≡ true → Prefix (o .ledger c .talk .outController) (o .ledger c .talk .sent)
   -- at the host on a loopback those of send, and on connection 0 those of the endpoint
@@ -58,5 +66,5 @@ pub record Claim (c : ℕ) (s : State) (o : Account) : Type 0 where
 -- for every profile that fresh takes, every list of calls and every number
 abbrev pub Demand : Type 0
 Demand =
-    (profile : Octets) → profileOk profile ≡ true → (calls : List Call) (c : ℕ)
+    (profile : Octets) → profileOctetsOk profile ≡ true → (calls : List Call) (c : ℕ)
     → Claim c (after calls (cold (profileIn profile))) (observed (events calls (cold (profileIn profile))) opening)

@@ -7,7 +7,7 @@ use Rattle.octets.specs.Octets.{Octets, pick}
 use Rattle.packets.specs.Segments.{Segment, segments}
 use Rattle.packets.specs.Reassembly.{Run, run, grown}
 use Rattle.model.specs.Kinds.{Terms}
-use Rattle.state.specs.Conn.{flows}
+use Rattle.state.specs.Conn.{flows, creditSum, owing}
 use Rattle.state.specs.Runs.{dataLimit}
 
 -- at the host: the terms it was opened with, the credits held, the segments of the message in hand still to go, reassembly
@@ -80,14 +80,14 @@ abbrev pub heardData : Segment → HostEnd → HostEnd
 heardData x h =
     record { opened = h .opened; payload = h .payload; grant = h .grant; held = h .held; hand = h .hand; run = grown dataLimit (h .run) x }
 
--- credits are read; for a connection that is not open or not flow-controlled they do nothing
+-- credits are read: an octet's sum; for a connection that is not open or not flow-controlled they do nothing
 abbrev pub credited : ℕ → HostEnd → HostEnd
 credited n h =
     record {
       opened = h .opened;
       payload = h .payload;
       grant = h .grant;
-      held = pick (h .opened && flows (h .grant)) (h .held + n) (h .held);
+      held = pick (h .opened && flows (h .grant)) (creditSum (h .held) n) (h .held);
       hand = h .hand;
       run = h .run;
     }
@@ -105,16 +105,27 @@ consumed rest r c =
     record {
       opened = c .opened;
       grant = c .grant;
-      owed = pick (flows (c .grant)) (c .owed + 1) (c .owed);
+      owed = pick (flows (c .grant)) (creditSum (c .owed) 1) (c .owed);
       store = rest;
       run = r;
       speech = c .speech;
     }
 
--- all that is owed has been put in a notice
+-- what is owed, and nothing of a connection that is not open or not flow-controlled
+abbrev pub owedOn : ControllerEnd → ℕ
+owedOn c = owing (c .opened) (c .grant) (c .owed)
+
+-- all that is owed has been put in a notice; a field that counts for nothing stays as it was
 abbrev pub noticed : ControllerEnd → ControllerEnd
 noticed c =
-    record { opened = c .opened; grant = c .grant; owed = 0; store = c .store; run = c .run; speech = c .speech }
+    record {
+      opened = c .opened;
+      grant = c .grant;
+      owed = pick (c .opened && flows (c .grant)) 0 (c .owed);
+      store = c .store;
+      run = c .run;
+      speech = c .speech;
+    }
 
 -- the endpoint has these segments still to send
 abbrev pub spoken : List Segment → ControllerEnd → ControllerEnd

@@ -7,16 +7,16 @@ use mathlib.Core.Bool.{Bool, true, false, _||_}
 use mathlib.Core.List.{List, [], _∷_, _++_}
 use lib.ListN.{length}
 use Rattle.octets.specs.Octets.{Octets}
-use Rattle.model.specs.Kinds.{Header, Profile}
+use Rattle.model.specs.Kinds.{Header}
 use Rattle.model.specs.Kinds.reading.{Packet}
 use Rattle.packets.specs.Packet.{readOf}
 use Rattle.packets.specs.Segments.{Segment, more, last, body}
 use Rattle.packets.specs.Reassembly.{Run, run, lost}
-use Rattle.dh.specs.Contents.{creditsOk}
+use Rattle.state.specs.Profile.{creditsOk, profileIn, profileOctetsOk, TermsWithin, ProfileWithin}
 use Rattle.dh.specs.Host.{aimOf}
 use Rattle.model.specs.Connection.{HostEnd, ControllerEnd, closed}
 use Rattle.wires.specs.Meaning.{Meaning, datum, control, junk, meaning}
-use Rattle.model.specs.State.{State, cold, profileOk, profileIn}
+use Rattle.model.specs.State.{State, cold}
 use Rattle.model.specs.Effects.{Call, refused}
 use Rattle.model.specs.Refusals.{noConn}
 use Rattle.ends.specs.Changes.{Change, stays, opens, closes, gives}
@@ -25,7 +25,7 @@ use Rattle.model.specs.Observer.{after, changeIn}
 
 -- a statement of every bench that calls make, whatever profile `fresh` took
 abbrev pub Always : (State → Type 0) → Type 0
-Always P = (profile : Octets) → profileOk profile ≡ true → (calls : List Call) → P (after calls (cold (profileIn profile)))
+Always P = (profile : Octets) → profileOctetsOk profile ≡ true → (calls : List Call) → P (after calls (cold (profileIn profile)))
 
 -- ---- refusal 13
 
@@ -44,18 +44,6 @@ octetsIn (x ∷ ss) = length (body x) + octetsIn ss
 abbrev pub RunWithin : ℕ → Run → Type 0
 RunWithin limit (run r) = length r ≤ limit
 RunWithin limit lost = Unit {0}
-
--- payload 1-255, credits 1-8 or 255
-pub record TermsWithin (payload credits : ℕ) : Type 0 where
-  pub least : 1 ≤ payload
-  pub most : payload ≤ 255
-  pub credits-ok : creditsOk credits ≡ true
-
-pub record ProfileWithin (p : Profile) : Type 0 where
-  pub control-least : 32 ≤ p .control
-  pub control-most : p .control ≤ 255
-  pub dynamic : TermsWithin (p .dynamic .payload) (p .dynamic .credits)
-  pub fixed : TermsWithin (p .fixed .payload) (p .fixed .credits)
 
 -- a connection at the host: 1,024 octets in hand and in reassembly, no more credits than granted
 pub record HostSizes (h : HostEnd) : Type 0 where

@@ -2,13 +2,11 @@
 -- the tests that several calls share. Refusals 1 and 2 speak of records, areas and buffers, and come with the octets.
 -- Assumes nothing.
 use Prim.Native.Nat.{ℕ, _+_}
-use mathlib.Core.Bool.{Bool, true, false, _&&_, _||_}
+use mathlib.Core.Bool.{Bool, true, false}
 use mathlib.Core.List.{List, [], _∷_}
-use lib.Dec.{eqb, ltb, leb}
+use lib.Dec.{ltb, leb}
 use lib.ListN.{length}
 use Rattle.octets.specs.Octets.{Octets, pick}
-use Rattle.model.specs.Kinds.{Pending}
-use Rattle.model.specs.Kinds.pending as pending
 use Rattle.state.specs.Conn.{placeOf}
 use Rattle.model.specs.State.{State}
 use Rattle.model.specs.Effects.{Result, taken, refused}

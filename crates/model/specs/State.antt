@@ -1,21 +1,13 @@
 -- The state of the bench: both ends, and each wire as a list of packets (document 01, "Profile, record and area").
 -- Assumes nothing.
-use Prim.Native.Nat.{ℕ, _-_}
-use mathlib.Core.Bool.{Bool, _&&_}
+use Prim.Native.Nat.{ℕ}
+use mathlib.Core.Bool.{Bool}
 use mathlib.Core.List.{List, []}
-use lib.Dec.{eqb, leb}
-use lib.ListN.{length, getD}
+use lib.Dec.{eqb}
 use Rattle.octets.specs.Octets.{Octets, pick}
 use Rattle.packets.specs.Reassembly.{Run, run}
 use Rattle.model.specs.Kinds.{Profile, Host, Controller}
-use Rattle.model.specs.Kinds.rf.{Idle}
-use Rattle.model.specs.Kinds.phase.{Cold}
-use Rattle.model.specs.Kinds.pending as pending
-use Rattle.model.specs.Kinds.verdict as verdict
-use Rattle.model.specs.Kinds.heard.{Nothing}
-use Rattle.state.specs.Radio.{noPairs}
-use Rattle.dh.specs.Contents.{creditsOk}
-use Rattle.dh.specs.Host.{leastSize}
+use Rattle.state.specs.Cold.{coldHost, coldController}
 use Rattle.model.specs.Connection.{Connection, closed}
 use Rattle.wires.specs.Meaning.{control}
 
@@ -73,25 +65,5 @@ withAsking r s = record { profile = s .profile; host = s .host; controller = s .
 abbrev pub noRun : ControlRun
 noRun = record { mt = 0; gid = 0; oid = 0; run = run [] }
 
-abbrev pub coldHost : Host
-coldHost = record { size = leastSize; pending = pending.Nothing }
-
-abbrev pub coldController : Controller
-coldController = record { phase = Cold; given = 0; rf = Idle; pairs = noPairs }
-
 abbrev pub cold : Profile → State
 cold p = record { profile = p; host = coldHost; controller = coldController; hearing = noRun; asking = noRun; conns = λ c. closed; down = []; up = [] }
-
--- five octets: most control payload (32-255), payload (1-255) and credits (1-8, or 255) of dynamic connections and of the static one
-abbrev pub profileOk : Octets → Bool
-profileOk m =
-    eqb (length m) 5 && leb 32 (getD m 0 0) && leb (getD m 0 0) 255 && leb 1 (getD m 1 0) && leb (getD m 1 0) 255 && creditsOk (getD m 2 0)
-    && leb 1 (getD m 3 0) && leb (getD m 3 0) 255 && creditsOk (getD m 4 0)
-
-abbrev pub profileIn : Octets → Profile
-profileIn m =
-    record {
-      control = getD m 0 0;
-      dynamic = record { payload = getD m 1 0; credits = getD m 2 0 };
-      fixed = record { payload = getD m 3 0; credits = getD m 4 0 };
-    }

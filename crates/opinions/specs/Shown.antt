@@ -9,6 +9,7 @@ use Rattle.packets.specs.Segments.{segmentsWithin, segments}
 use Rattle.state.specs.Conn.{placeOf, connOf, termsOf}
 use Rattle.state.specs.Radio.{listedIn, addedTo}
 use Rattle.state.specs.Commands.{commandOf}
+use Rattle.state.specs.Profile.{profileIn}
 use Rattle.nfcc.specs.Controller.{shortest, allowed, resetBy, after, seek, nextId, createBy, closeBy, configsOk, discoverBy, deactivateBy, judgeOf, controllerAfter}
 use Rattle.messages.specs.Layout.{entriesFrom, entryCount, responseOf, noticeMessage}
 use Rattle.air.specs.Air.{foundIn, pollIn, listenIn, eventOf, foundBy, pollBy, listenBy, failedBy, airedBy, airMessage, controllerAired}
@@ -16,7 +17,7 @@ use Rattle.dh.specs.Contents.{noticeOf, zeros, initWritten, createWritten, entr
 use Rattle.dh.specs.Host.{answerOf, heardAlone, hearOf, creditsIn, namesClosed, hostAfter, dropHeard}
 use Rattle.wires.specs.Meaning.{meaning}
 use Rattle.wires.specs.Tally.{dataCount, creditsUp}
-use Rattle.model.specs.State.{State, cold, profileIn}
+use Rattle.model.specs.State.{State, cold}
 use Rattle.model.specs.Effects.{Call, Result, taken, refused, Outcome}
 use Rattle.model.specs.Refusals.{first}
 use Rattle.model.specs.calls.Credit.{allZero}

@@ -1,14 +1,17 @@
 -- The laws of `specs/Packet.antt`: a law for each case of a definition. Functions and callers cite these, never the definitions' text.
 -- Assumes nothing.
-use Prim.Native.Nat.{ℕ, _+_, _-_, _/_, _≤_, _<_}
+use Prim.Native.Nat.{ℕ, _+_, _-_, _/_, _%_, _≤_, _<_}
 use native.Mathlib.Nat.{le-of-suc-le-suc, not-suc-le-zero}
 use native.Mathlib.Decide.{decLe}
 use native.Mathlib.Omega.{arith}
 use mathlib.Core.Path.{_≡_, ap, _∙_}
+use mathlib.Core.Bool.{Bool, true, false}
 use mathlib.Core.List.{[], _∷_, _++_}
 use lib.ListN.{length, getD, drop, set}
+use lib.Dec.{eqb}
 use borrow.Author.Tests.{le-leb, lt-leb, lt-ltb, le-ltb}
-use Rattle.octets.specs.Octets.{Octets, splice, over}
+use Rattle.octets.specs.Octets.{Octets, pick, splice, over}
+use Rattle.octets.specs.Octal.{Octal, octal-cons}
 use Rattle.octets.proofs.Octets.{splice-front}
 use Rattle.packets.specs.declared.Header.{Header}
 use Rattle.packets.specs.declared.Reading.the-variants.{Packet, Drop}
@@ -19,6 +22,24 @@ use Rattle.packets.specs.Packet.{octet0, octet1, packetOf, headerOf, rea
 pub length-packet : (h : Header) (payload : Octets) → length (packetOf h payload) ≡ 3 + length payload
 unfolding packetOf
 length-packet h payload = omega arith
+
+octet0-small : (mt : ℕ) (b : Bool) (id : ℕ) → octet0 mt b id ≤ 255
+unfolding octet0
+octet0-small mt true id = omega arith
+octet0-small mt false id = omega arith
+
+octet1-small : (mt oid : ℕ) → octet1 mt oid ≤ 255
+unfolding octet1
+octet1-small mt oid = go (eqb mt 0)
+  where
+    go : (b : Bool) → pick b 0 (oid % 64) ≤ 255
+    go true = omega arith
+    go false = omega arith
+
+-- whatever its header, the octets of a packet are octets
+pub octal-packet : (h : Header) (payload : Octets) → length payload ≤ 255 → Octal payload → Octal (packetOf h payload)
+unfolding packetOf
+octal-packet h payload n k = octal-cons (octet0-small (h .mt) (h .pbf) (h .id)) (octal-cons (octet1-small (h .mt) (h .oid)) (octal-cons n k))
 
 -- ---- readOf
 

@@ -1,7 +1,7 @@
 -- Row 1's tests and the bounds they stand for, both ways.
 -- Assumes nothing.
 use Prim.Native.Nat.{ℕ, zero, suc, _≤_, _<_}
-use mathlib.Core.Path.{_≡_, refl, sym, _∙_}
+use mathlib.Core.Path.{_≡_, refl, sym}
 use mathlib.Core.Bool.{Bool, true, false, not, _&&_, _||_, false≢true}
 use mathlib.Core.List.{List, [], _∷_}
 use native.Mathlib.Omega.{arith}
@@ -9,19 +9,18 @@ use lib.ListN.{length, getD}
 use lib.Dec.{eqb, ltb, leb}
 use borrow.Author.Tests.{leb-true, ltb-true, le-leb, lt-ltb, eqb-false, ne-eqb}
 use Rattle.octets.specs.Octets.{Octets}
-use Rattle.record.specs.Kinds.{Terms, Hand, Ring, Counts, Record}
+use Rattle.record.specs.Kinds.{Hand, Ring, Counts, Record}
 use Rattle.state.specs.Conn.{closedCounts}
+use Rattle.state.specs.Profile.{leastSize, profileOk}
 use Rattle.state.proofs.Chains.{every-at}
-use Rattle.record.specs.Layout.{slot}
+use Rattle.state.proofs.Limits.{profile-within, within-profile}
+use Rattle.area.specs.Map.{areaSize, wireSlots, storeSlots, messageSize, controlSize, places}
+use Rattle.record.specs.Layout.{slot, pairsRoom}
 use Rattle.record.specs.Reading.{decodeOf}
-use Rattle.record.specs.Judge.{ringOk, handOk, givenOk, termsOk, profileOk, hostSideOk, controllerSideOk, countsOk, countsOkIn, connsOk, endsOk, recordOk, tagsOk, judgeOf}
-use Rattle.record.specs.Fit.{FitRing, FitHand, FitTerms, FitCounts, Fit}
+use Rattle.record.specs.Judge.{ringOk, handOk, givenOk, hostSideOk, controllerSideOk, countsOk, countsOkIn, connsOk, endsOk, recordOk, tagsOk, judgeOf}
+use Rattle.record.specs.Fit.{FitRing, FitHand, FitCounts, Each, Fit}
 
 -- ---- tests of which one must hold
-
-or-left : (a b : Bool) → (a || b) ≡ true → b ≡ false → a ≡ true
-or-left true b h e = refl
-or-left false b h e = absurd (false≢true (sym e ∙ h))
 
 or-right : (a b : Bool) → (a || b) ≡ true → a ≡ false → b ≡ true
 or-right true b h e = absurd (false≢true (sym e))
@@ -35,16 +34,11 @@ then-not : (a b : Bool) → (a ≡ true → b ≡ true) → (not a || b) ≡ tru
 then-not true b f = f refl
 then-not false b f = refl
 
-or-either : (a b : Bool) → (b ≡ false → a ≡ true) → (a || b) ≡ true
-or-either true b f = refl
-or-either false true f = refl
-or-either false false f = f refl
-
 or-other : (a b : Bool) → (a ≡ false → b ≡ true) → (a || b) ≡ true
 or-other true b f = refl
 or-other false b f = f refl
 
--- ---- rings, messages in hand, terms, the ID given
+-- ---- rings, messages in hand, the ID given
 
 ring-fits : (slots : ℕ) (k : Ring) → ringOk slots k ≡ true → FitRing slots k
 ring-fits slots k h =
@@ -57,30 +51,12 @@ fits-ring slots k f = rw (le-leb (k .count) slots (f .count), lt-ltb (k .head) s
 hand-fits : (h : Hand) → handOk h ≡ true → FitHand h
 unfolding handOk
 hand-fits h e =
-    let at = every-at (leb (h .len) 1024) (leb (h .at) (h .len) ∷ []) e in
-    record { len = leb-true (h .len) 1024 (at 0); at = leb-true (h .at) (h .len) (at 1) }
+    let at = every-at (leb (h .len) messageSize) (leb (h .at) (h .len) ∷ []) e in
+    record { len = leb-true (h .len) messageSize (at 0); at = leb-true (h .at) (h .len) (at 1) }
 
 fits-hand : (h : Hand) → FitHand h → handOk h ≡ true
 unfolding handOk
-fits-hand h f = rw (le-leb (h .len) 1024 (f .len), le-leb (h .at) (h .len) (f .at))
-
-terms-fit : (t : Terms) → termsOk t ≡ true → FitTerms t
-unfolding termsOk
-terms-fit t h =
-    let c = t .credits in
-    let at = every-at (leb 1 (t .payload)) (leb 1 c ∷ (leb c 8 || eqb c 255) ∷ []) h in
-    record {
-      payload = leb-true 1 (t .payload) (at 0);
-      credits = leb-true 1 c (at 1);
-      limit = λ n. leb-true c 8 (or-left (leb c 8) (eqb c 255) (at 2) (ne-eqb c 255 n));
-    }
-
-fits-terms : (t : Terms) → FitTerms t → termsOk t ≡ true
-unfolding termsOk
-fits-terms t f =
-    let c = t .credits in
-    let limit = or-either (leb c 8) (eqb c 255) (λ e. le-leb c 8 (f .limit (eqb-false c 255 e))) in
-    rw (le-leb 1 (t .payload) (f .payload), le-leb 1 c (f .credits), limit)
+fits-hand h f = rw (le-leb (h .len) messageSize (f .len), le-leb (h .at) (h .len) (f .at))
 
 given-fits : (id : ℕ) → givenOk id ≡ true → (id ≡ 0 → ⊥) → (2 ≤ id) × (id ≤ 5)
 unfolding givenOk
@@ -103,16 +79,16 @@ counts-fit c h =
     let s = c .host in
     let k = c .controller in
     let sides = every-at (hostSideOk s) (controllerSideOk k ∷ []) h in
-    let a = every-at (leb (s .held) (s .grant)) ((not (s .opened) || leb 1 (s .payload)) ∷ handOk (s .hand) ∷ leb (s .run .len) 1024 ∷ []) (sides 0) in
-    let b = every-at (leb (k .owed) (k .grant)) (ringOk 8 (k .store) ∷ leb (k .run .len) 1024 ∷ []) (sides 1) in
+    let a = every-at (leb (s .held) (s .grant)) ((not (s .opened) || leb 1 (s .payload)) ∷ handOk (s .hand) ∷ leb (s .run .len) messageSize ∷ []) (sides 0) in
+    let b = every-at (leb (k .owed) (k .grant)) (ringOk storeSlots (k .store) ∷ leb (k .run .len) messageSize ∷ []) (sides 1) in
     record {
       held = leb-true (s .held) (s .grant) (a 0);
       payload = λ o. leb-true 1 (s .payload) (then (s .opened) (leb 1 (s .payload)) (a 1) o);
       hand = hand-fits (s .hand) (a 2);
-      host-run = leb-true (s .run .len) 1024 (a 3);
+      host-run = leb-true (s .run .len) messageSize (a 3);
       owed = leb-true (k .owed) (k .grant) (b 0);
-      store = ring-fits 8 (k .store) (b 1);
-      controller-run = leb-true (k .run .len) 1024 (b 2);
+      store = ring-fits storeSlots (k .store) (b 1);
+      controller-run = leb-true (k .run .len) messageSize (b 2);
     }
 
 fits-counts : (c : Counts) → FitCounts c → countsOk c ≡ true
@@ -125,20 +101,20 @@ fits-counts c f =
       le-leb (s .held) (s .grant) (f .held),
       open-payload,
       fits-hand (s .hand) (f .hand),
-      le-leb (s .run .len) 1024 (f .host-run),
+      le-leb (s .run .len) messageSize (f .host-run),
       le-leb (k .owed) (k .grant) (f .owed),
-      fits-ring 8 (k .store) (f .store),
-      le-leb (k .run .len) 1024 (f .controller-run),
+      fits-ring storeSlots (k .store) (f .store),
+      le-leb (k .run .len) messageSize (f .controller-run),
     )
 
-conns-fit : (l : List Counts) → connsOk l ≡ true → (p : ℕ) → p < 5 → FitCounts (getD l p closedCounts)
+conns-fit : (l : List Counts) → connsOk l ≡ true → Each FitCounts l
 unfolding connsOk
 conns-fit l h p i = counts-fit (getD l p closedCounts) (go p i)
   where
     at : (i : ℕ) → getD (countsOkIn l 0 ∷ countsOkIn l 1 ∷ countsOkIn l 2 ∷ countsOkIn l 3 ∷ countsOkIn l 4 ∷ []) i true ≡ true
     at = every-at (countsOkIn l 0) (countsOkIn l 1 ∷ countsOkIn l 2 ∷ countsOkIn l 3 ∷ countsOkIn l 4 ∷ []) h
 
-    go : (p : ℕ) → p < 5 → countsOkIn l p ≡ true
+    go : (p : ℕ) → p < places → countsOkIn l p ≡ true
     go zero i = at 0
     go (suc zero) i = at 1
     go (suc (suc zero)) i = at 2
@@ -146,63 +122,59 @@ conns-fit l h p i = counts-fit (getD l p closedCounts) (go p i)
     go (suc (suc (suc (suc zero)))) i = at 4
     go (suc (suc (suc (suc (suc n))))) i = absurd (omega arith)
 
-fits-conns : (l : List Counts) → ((p : ℕ) → p < 5 → FitCounts (getD l p closedCounts)) → connsOk l ≡ true
+fits-conns : (l : List Counts) → Each FitCounts l → connsOk l ≡ true
 unfolding connsOk
 fits-conns l f =
-    let at : (p : ℕ) → p < 5 → countsOkIn l p ≡ true = λ p i. fits-counts (getD l p closedCounts) (f p i) in
+    let at : (p : ℕ) → p < places → countsOkIn l p ≡ true = λ p i. fits-counts (getD l p closedCounts) (f p i) in
     rw (at 0 (omega arith), at 1 (omega arith), at 2 (omega arith), at 3 (omega arith), at 4 (omega arith))
 
 -- ---- the record
 
 pub ok-fits : (r : Record) → recordOk r ≡ true → Fit r
-unfolding recordOk endsOk profileOk
+unfolding recordOk endsOk
 ok-fits r h =
     let e = r .ends in
     let k = e .controller in
     let p = e .profile in
-    let all = every-at (ringOk 16 (r .down)) (ringOk 16 (r .up) ∷ endsOk e ∷ []) h in
+    let all = every-at (ringOk wireSlots (r .down)) (ringOk wireSlots (r .up) ∷ endsOk e ∷ []) h in
     let at =
-    every-at (leb 32 (e .host .size))
-    (leb (e .hearing .run .len) 255 ∷ leb (e .asking .run .len) 255 ∷ leb (k .pairs .count) 8 ∷ givenOk (k .given) ∷ profileOk p ∷ handOk (e .endpoint) ∷ connsOk (e .conns) ∷ [])
+    every-at (leb leastSize (e .host .size))
+    (leb (e .hearing .run .len) controlSize ∷ leb (e .asking .run .len) controlSize ∷ leb (k .pairs .count) pairsRoom ∷ givenOk (k .given) ∷ profileOk p ∷ handOk (e .endpoint) ∷ connsOk (e .conns) ∷ [])
     (all 2)
     in
-    let limits = every-at (leb 32 (p .control)) (termsOk (p .dynamic) ∷ termsOk (p .fixed) ∷ []) (at 5) in
     record {
-      down = ring-fits 16 (r .down) (all 0);
-      up = ring-fits 16 (r .up) (all 1);
-      size = leb-true 32 (e .host .size) (at 0);
-      hearing = leb-true (e .hearing .run .len) 255 (at 1);
-      asking = leb-true (e .asking .run .len) 255 (at 2);
-      pairs = leb-true (k .pairs .count) 8 (at 3);
-      given = given-fits (k .given) (at 4);
-      control = leb-true 32 (p .control) (limits 0);
-      dynamic = terms-fit (p .dynamic) (limits 1);
-      fixed = terms-fit (p .fixed) (limits 2);
-      endpoint = hand-fits (e .endpoint) (at 6);
+      down = ring-fits wireSlots (r .down) (all 0);
+      up = ring-fits wireSlots (r .up) (all 1);
+      own =
+          record {
+            profile = profile-within p (at 5);
+            size = leb-true leastSize (e .host .size) (at 0);
+            hearing = leb-true (e .hearing .run .len) controlSize (at 1);
+            controller = record { pairs = leb-true (k .pairs .count) pairsRoom (at 3); given = given-fits (k .given) (at 4) };
+            asking = leb-true (e .asking .run .len) controlSize (at 2);
+            endpoint = hand-fits (e .endpoint) (at 6);
+          };
       conns = conns-fit (e .conns) (at 7);
     }
 
 pub fits-judged : (r : Record) → Fit r → recordOk r ≡ true
-unfolding recordOk endsOk profileOk
+unfolding recordOk endsOk
 fits-judged r f =
     let e = r .ends in
     let k = e .controller in
-    let p = e .profile in
     rw (
-      fits-ring 16 (r .down) (f .down),
-      fits-ring 16 (r .up) (f .up),
-      le-leb 32 (e .host .size) (f .size),
-      le-leb (e .hearing .run .len) 255 (f .hearing),
-      le-leb (e .asking .run .len) 255 (f .asking),
-      le-leb (k .pairs .count) 8 (f .pairs),
-      fits-given (k .given) (f .given),
-      le-leb 32 (p .control) (f .control),
-      fits-terms (p .dynamic) (f .dynamic),
-      fits-terms (p .fixed) (f .fixed),
-      fits-hand (e .endpoint) (f .endpoint),
+      fits-ring wireSlots (r .down) (f .down),
+      fits-ring wireSlots (r .up) (f .up),
+      le-leb leastSize (e .host .size) (f .own .size),
+      le-leb (e .hearing .run .len) controlSize (f .own .hearing),
+      le-leb (e .asking .run .len) controlSize (f .own .asking),
+      le-leb (k .pairs .count) pairsRoom (f .own .controller .pairs),
+      fits-given (k .given) (f .own .controller .given),
+      within-profile (e .profile) (f .own .profile),
+      fits-hand (e .endpoint) (f .own .endpoint),
       fits-conns (e .conns) (f .conns),
     )
 
-pub judged-fits : (area : Octets) → judgeOf area ≡ true → 36864 ≤ length area → Fit (decodeOf area)
+pub judged-fits : (area : Octets) → judgeOf area ≡ true → areaSize ≤ length area → Fit (decodeOf area)
 unfolding judgeOf
 judged-fits area h long = ok-fits (decodeOf area) (every-at (tagsOk (slot area)) (recordOk (decodeOf area) ∷ []) h 1)

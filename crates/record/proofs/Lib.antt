@@ -2,5 +2,8 @@ pub mod Writing
 pub mod Loads
 pub mod Fits
 pub mod ReadsBack
+pub mod Small
+pub mod Conns
+pub mod Stored
 pub mod Outside
 pub mod Claims

@@ -6,19 +6,20 @@ use mathlib.Core.Bool.{true, false}
 use borrow.Author.Tests.{lt-ltb, le-ltb}
 use lib.ListN.{length}
 use Rattle.octets.specs.Octets.{Octets}
+use Rattle.area.specs.Map.{areaSize}
 use Rattle.record.specs.Reading.{decodeOf}
 use Rattle.record.specs.Judge.{judgeOf}
 use Rattle.record.specs.Load.{blank, loaded, loadOf}
 
-pub short-load : (area : Octets) → length area < 36864 → loadOf area ≡ loaded 2 blank
+pub short-load : (area : Octets) → length area < areaSize → loadOf area ≡ loaded 2 blank
 unfolding loadOf
-short-load area h = rw (lt-ltb (length area) 36864 h)
+short-load area h = rw (lt-ltb (length area) areaSize h)
 
-module _ (area : Octets) (long : 36864 ≤ length area) where
+module _ (area : Octets) (long : areaSize ≤ length area) where
   pub long-load : judgeOf area ≡ true → loadOf area ≡ loaded 0 (decodeOf area)
   unfolding loadOf
-  long-load h = rw (le-ltb (length area) 36864 long, h)
+  long-load h = rw (le-ltb (length area) areaSize long, h)
 
   pub bad-load : judgeOf area ≡ false → loadOf area ≡ loaded 1 (decodeOf area)
   unfolding loadOf
-  bad-load h = rw (le-ltb (length area) 36864 long, h)
+  bad-load h = rw (le-ltb (length area) areaSize long, h)

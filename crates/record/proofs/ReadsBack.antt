@@ -1,6 +1,6 @@
 -- A record that is written is read back and judged good.
 -- Assumes nothing.
-use Prim.Native.Nat.{ℕ, zero, suc, _+_, _*_, _≤_, _<_}
+use Prim.Native.Nat.{ℕ, zero, suc, _+_, _-_, _*_, _≤_, _<_}
 use mathlib.Core.Path.{_≡_, refl, sym, ap, _∙_}
 use mathlib.Core.Bool.{Bool, true, false}
 use mathlib.Core.List.{List, [], _∷_, _++_}
@@ -16,7 +16,8 @@ use Rattle.record.specs.Kinds.rf.{Idle, Discovery, W4AllDiscoveries, W4H
 use Rattle.record.specs.Kinds.phase.{Cold, Reset, Ready}
 use Rattle.record.specs.Kinds.pending as pending
 use Rattle.state.specs.Conn.{closedCounts}
-use Rattle.record.specs.Layout.{slot, high, low, bit}
+use Rattle.area.specs.Map.{areaSize, recordAt, recordRoom, wireSlots, messageSize, controlSize, places}
+use Rattle.record.specs.Layout.{slot, pairsRoom, recordEnd, high, low, bit}
 use Rattle.record.specs.Reading.{wideAt, pendingOf, phaseOf, rfOf, profileAt, progressAt, controlRunAt, handAt, ringAt, hostAt, pairAt, pairsAt, controllerAt, hostSideAt, controllerSideAt, countsAt, connsAt, endsOf, recordOf, decodeOf}
 use Rattle.record.specs.Writing.{pendingOctets, phaseOctet, rfOctets, profileOctets, controlRunOctets, handOctets, ringOctets, hostOctets, noPair, pairsOctets, controllerOctets, countsOctets, connsOctets, frontOctets, middleOctets, wiresOctets, encodeOf}
 use Rattle.record.specs.Judge.{recordOk, rfKnown, connKnown, connsKnown, tagsOk, judgeOf}
@@ -45,10 +46,10 @@ elements-are d l n p = elements-drop d l 0 n (omega arith)
 
 -- ---- numbers and yes or no, written and read
 
-both : (n : ℕ) → n ≤ 1024 → high n * 256 + low n ≡ n
+both : (n : ℕ) → n ≤ messageSize → high n * 256 + low n ≡ n
 both n h = omega arith
 
-small : (n : ℕ) → n ≤ 16 → low n ≡ n
+small : (n : ℕ) → n ≤ wireSlots → low n ≡ n
 small n h = omega arith
 
 bit-back : (b : Bool) → eqb (bit b) 1 ≡ b
@@ -138,28 +139,28 @@ rf-known ListenSleep = refl
 progress : Progress → Progress
 progress p = record { len = high (p .len) * 256 + low (p .len); lost = eqb (bit (p .lost)) 1 }
 
-progress-back : (p : Progress) → p .len ≤ 1024 → progress p ≡ p
+progress-back : (p : Progress) → p .len ≤ messageSize → progress p ≡ p
 unfolding progress
 progress-back p h = rw (both (p .len) h, bit-back (p .lost))
 
 run : ControlRun → ControlRun
 run r = record { mt = r .mt; gid = r .gid; oid = r .oid; run = progress (r .run) }
 
-run-back : (r : ControlRun) → r .run .len ≤ 255 → run r ≡ r
+run-back : (r : ControlRun) → r .run .len ≤ controlSize → run r ≡ r
 unfolding run
 run-back r h = rw (progress-back (r .run) (omega arith))
 
 hand : Hand → Hand
 hand h = record { full = eqb (bit (h .full)) 1; len = high (h .len) * 256 + low (h .len); at = high (h .at) * 256 + low (h .at) }
 
-hand-back : (h : Hand) → h .len ≤ 1024 → h .at ≤ h .len → hand h ≡ h
+hand-back : (h : Hand) → h .len ≤ messageSize → h .at ≤ h .len → hand h ≡ h
 unfolding hand
 hand-back h l a = rw (bit-back (h .full), both (h .len) l, both (h .at) (omega arith))
 
 ring : Ring → Ring
 ring k = record { head = low (k .head); count = low (k .count) }
 
-ring-back : (k : Ring) → k .head ≤ 16 → k .count ≤ 16 → ring k ≡ k
+ring-back : (k : Ring) → k .head ≤ wireSlots → k .count ≤ wireSlots → ring k ≡ k
 unfolding ring
 ring-back k h n = rw (small (k .head) h, small (k .count) n)
 
@@ -223,7 +224,7 @@ again r p x =
                   phase = phaseOf (phaseOctet (r .ends .controller .phase));
                   given = r .ends .controller .given;
                   rf = rfIn x;
-                  pairs = record { list = elements noPair (r .ends .controller .pairs .list) 0 8; count = low (r .ends .controller .pairs .count) };
+                  pairs = record { list = elements noPair (r .ends .controller .pairs .list) 0 pairsRoom; count = low (r .ends .controller .pairs .count) };
                 };
             asking = run (r .ends .asking);
             endpoint = hand (r .ends .endpoint);
@@ -247,22 +248,22 @@ tags r p x t hp hx = simp (hp, hx, phase-known, bit-known)
 again-back : (r : Record) → Shape r → Fit r → again r (pendingOctets (r .ends .host .pending)) (rfOctets (r .ends .controller .rf)) ≡ r
 unfolding again
 again-back r s f =
-    let c : (p : ℕ) → p < 5 → counts (getD (r .ends .conns) p closedCounts) ≡ getD (r .ends .conns) p closedCounts = λ p h. counts-back _ (f .conns p h) in
+    let c : (p : ℕ) → p < places → counts (getD (r .ends .conns) p closedCounts) ≡ getD (r .ends .conns) p closedCounts = λ p h. counts-back _ (f .conns p h) in
     rw (
       pending-back (r .ends .host .pending),
-      run-back (r .ends .hearing) (f .hearing),
+      run-back (r .ends .hearing) (f .own .hearing),
       phase-back (r .ends .controller .phase),
       rf-back (r .ends .controller .rf),
-      elements-are noPair (r .ends .controller .pairs .list) 8 (s .pairs),
-      small (r .ends .controller .pairs .count) (omega arith),
-      run-back (r .ends .asking) (f .asking),
-      hand-back (r .ends .endpoint) (f .endpoint .len) (f .endpoint .at),
+      elements-are noPair (r .ends .controller .pairs .list) pairsRoom (s .pairs),
+      small (r .ends .controller .pairs .count) (omega (arith, f .own .controller .pairs)),
+      run-back (r .ends .asking) (f .own .asking),
+      hand-back (r .ends .endpoint) (f .own .endpoint .len) (f .own .endpoint .at),
       c 0 (omega arith),
       c 1 (omega arith),
       c 2 (omega arith),
       c 3 (omega arith),
       c 4 (omega arith),
-      elements-are closedCounts (r .ends .conns) 5 (s .conns),
+      elements-are closedCounts (r .ends .conns) places (s .conns),
       ring-back (r .down) (omega arith) (f .down .count),
       ring-back (r .up) (omega arith) (f .up .count),
     )
@@ -271,17 +272,17 @@ again-back r s f =
 
 -- what stands after the record in its 512 octets
 rest : Octets → Record → Octets
-rest area r = take 358 (drop 154 (drop 36352 (stored area r)))
+rest area r = take (recordRoom - recordEnd) (drop recordEnd (drop recordAt (stored area r)))
 
-slot-stored : (area : Octets) (r : Record) → 36864 ≤ length area → slot (stored area r) ≡ encodeOf r ++ rest area r
+slot-stored : (area : Octets) (r : Record) → areaSize ≤ length area → slot (stored area r) ≡ encodeOf r ++ rest area r
 unfolding slot cut rest
 slot-stored area r long =
     let l = length-encode r in
-    let fits : 36352 + length (encodeOf r) ≤ length area = rw l (omega arith) in
-    let same : take 154 (drop 36352 (stored area r)) ≡ encodeOf r = rw l at (cut-same area 36352 (encodeOf r) fits) in
-    take-add 154 358 (drop 36352 (stored area r)) ∙ ap (λ (k : Octets). k ++ rest area r) same
+    let fits : recordAt + length (encodeOf r) ≤ length area = rw l (omega arith) in
+    let same : take recordEnd (drop recordAt (stored area r)) ≡ encodeOf r = rw l at (cut-same area recordAt (encodeOf r) fits) in
+    take-add recordEnd (recordRoom - recordEnd) (drop recordAt (stored area r)) ∙ ap (λ (k : Octets). k ++ rest area r) same
 
-module _ (area : Octets) (r : Record) (long : 36864 ≤ length area) (s : Shape r) (ok : recordOk r ≡ true) where
+module _ (area : Octets) (r : Record) (long : areaSize ≤ length area) (s : Shape r) (ok : recordOk r ≡ true) where
   in-slot : slot (stored area r) ≡ written r (four (pendingOctets (r .ends .host .pending))) (four (rfOctets (r .ends .controller .rf))) ++ rest area r
   in-slot = slot-stored area r long ∙ ap (λ (k : Octets). k ++ rest area r) (encoded r)
 

@@ -10,11 +10,13 @@ use Rattle.record.specs.Kinds.{Profile, Rf, Pairs, ControlRun, Controlle
 use Rattle.record.specs.Kinds.selection as selection
 use Rattle.record.specs.Kinds.rf.{Idle, Discovery, W4AllDiscoveries, W4HostSelect, PollActive, ListenActive, ListenSleep}
 use Rattle.record.specs.Kinds.pending as pending
+use Rattle.area.specs.Map.{recordAt}
+use Rattle.record.specs.Layout.{profileSize, controlRunSize, hostSize, rfPart, pairsPart, pairsSize, controllerSize, countsSize, countsPart, connsSize, controllerPlace, askingPlace, connsPlace, downPlace, recordEnd, frontSize, middleSize, wiresSize}
 use Rattle.record.specs.Writing.{pendingOctets, phaseOctet, rfOctets, profileOctets, controlRunOctets, handOctets, ringOctets, hostOctets, pairsOctets, controllerOctets, countsOctets, countsIn, connsOctets, frontOctets, middleOctets, wiresOctets, encodeOf}
 
 -- ---- lengths
 
-length-profile : (p : Profile) → length (profileOctets p) ≡ 5
+length-profile : (p : Profile) → length (profileOctets p) ≡ profileSize
 unfolding profileOctets
 length-profile p = refl
 
@@ -23,11 +25,11 @@ unfolding pendingOctets
 length-pending pending.Nothing = refl
 length-pending (pending.Command a) = refl
 
-length-host : (h : Host) → length (hostOctets h) ≡ 5
+length-host : (h : Host) → length (hostOctets h) ≡ hostSize
 unfolding hostOctets
 length-host h = rw (length-pending (h .pending))
 
-length-run : (r : ControlRun) → length (controlRunOctets r) ≡ 6
+length-run : (r : ControlRun) → length (controlRunOctets r) ≡ controlRunSize
 unfolding controlRunOctets
 length-run r = refl
 
@@ -42,35 +44,35 @@ length-rf (PollActive a) = refl
 length-rf (ListenActive a) = refl
 length-rf ListenSleep = refl
 
-length-pairs : (k : Pairs) → length (pairsOctets k) ≡ 17
+length-pairs : (k : Pairs) → length (pairsOctets k) ≡ pairsSize
 unfolding pairsOctets
 length-pairs k = refl
 
-length-controller : (k : Controller) → length (controllerOctets k) ≡ 23
+length-controller : (k : Controller) → length (controllerOctets k) ≡ controllerSize
 unfolding controllerOctets
 length-controller k = simp (length-append, length-rf, length-pairs)
 
-length-counts : (c : Counts) → length (countsOctets c) ≡ 20
+length-counts : (c : Counts) → length (countsOctets c) ≡ countsSize
 unfolding countsOctets handOctets ringOctets
 length-counts c = refl
 
-length-conns : (l : List Counts) → length (connsOctets l) ≡ 100
+length-conns : (l : List Counts) → length (connsOctets l) ≡ connsSize
 unfolding connsOctets
 length-conns l = simp (length-append, length-counts)
 
-length-front : (e : Ends) → length (frontOctets e) ≡ 16
+length-front : (e : Ends) → length (frontOctets e) ≡ frontSize
 unfolding frontOctets
 length-front e = simp (length-append, length-profile, length-host, length-run)
 
-length-middle : (e : Ends) → length (middleOctets e) ≡ 11
+length-middle : (e : Ends) → length (middleOctets e) ≡ middleSize
 unfolding middleOctets controlRunOctets handOctets
 length-middle e = refl
 
-length-wires : (r : Record) → length (wiresOctets r) ≡ 4
+length-wires : (r : Record) → length (wiresOctets r) ≡ wiresSize
 unfolding wiresOctets ringOctets
 length-wires r = refl
 
-pub length-encode : (r : Record) → length (encodeOf r) ≡ 154
+pub length-encode : (r : Record) → length (encodeOf r) ≡ recordEnd
 unfolding encodeOf
 length-encode r = simp (length-append, length-front, length-controller, length-middle, length-conns, length-wires)
 
@@ -81,49 +83,49 @@ next l at k a b e = ap (λ (n : ℕ). splice (splice l at a) (at + n) b) (sym e)
 
 module _ (l : Octets) (at : ℕ) where
   pub front-stored : (e : Ends)
-      → splice (splice (splice l at (profileOctets (e .profile))) (at + 5) (hostOctets (e .host))) (at + 10) (controlRunOctets (e .hearing))
+      → splice (splice (splice l at (profileOctets (e .profile))) (at + profileSize) (hostOctets (e .host))) (at + (profileSize + hostSize)) (controlRunOctets (e .hearing))
       ≡ splice l at (frontOctets e)
   unfolding frontOctets
   front-stored e =
       let p = profileOctets (e .profile) in
       let h = hostOctets (e .host) in
       rw (
-        next l at 5 p h (length-profile _),
-        next l at 10 (p ++ h) (controlRunOctets (e .hearing)) (simp (length-append, length-profile, length-host)),
+        next l at profileSize p h (length-profile _),
+        next l at (profileSize + hostSize) (p ++ h) (controlRunOctets (e .hearing)) (simp (length-append, length-profile, length-host)),
       )
 
   pub controller-stored : (k : Controller)
-      → splice (splice (splice l at (phaseOctet (k .phase) ∷ k .given ∷ [])) (at + 2) (rfOctets (k .rf))) (at + 6) (pairsOctets (k .pairs))
+      → splice (splice (splice l at (phaseOctet (k .phase) ∷ k .given ∷ [])) (at + rfPart) (rfOctets (k .rf))) (at + pairsPart) (pairsOctets (k .pairs))
       ≡ splice l at (controllerOctets k)
   unfolding controllerOctets
   controller-stored k =
       let h : Octets = phaseOctet (k .phase) ∷ k .given ∷ [] in
       let x = rfOctets (k .rf) in
       rw (
-        next l at 2 h x refl,
-        next l at 6 (h ++ x) (pairsOctets (k .pairs)) (rw (length-rf (k .rf))),
+        next l at rfPart h x refl,
+        next l at pairsPart (h ++ x) (pairsOctets (k .pairs)) (rw (length-rf (k .rf))),
       )
 
-  pub middle-stored : (e : Ends) → splice (splice l at (controlRunOctets (e .asking))) (at + 6) (handOctets (e .endpoint)) ≡ splice l at (middleOctets e)
+  pub middle-stored : (e : Ends) → splice (splice l at (controlRunOctets (e .asking))) (at + controlRunSize) (handOctets (e .endpoint)) ≡ splice l at (middleOctets e)
   unfolding middleOctets
-  middle-stored e = next l at 6 (controlRunOctets (e .asking)) (handOctets (e .endpoint)) (length-run (e .asking))
+  middle-stored e = next l at controlRunSize (controlRunOctets (e .asking)) (handOctets (e .endpoint)) (length-run (e .asking))
 
   pub conns-stored : (s : List Counts)
-      → splice (splice (splice (splice (splice l at (countsIn s 0)) (at + 20) (countsIn s 1)) (at + 40) (countsIn s 2)) (at + 60) (countsIn s 3)) (at + 80) (countsIn s 4)
+      → splice (splice (splice (splice (splice l at (countsIn s 0)) (at + countsPart 1) (countsIn s 1)) (at + countsPart 2) (countsIn s 2)) (at + countsPart 3) (countsIn s 3)) (at + countsPart 4) (countsIn s 4)
       ≡ splice l at (connsOctets s)
   unfolding connsOctets
   conns-stored s =
       let b : ℕ → Octets = λ i. countsIn s i in
       rw (
-        next l at 20 (b 0) (b 1) (length-counts _),
-        next l at 40 (b 0 ++ b 1) (b 2) (simp (length-append, length-counts)),
-        next l at 60 (b 0 ++ b 1 ++ b 2) (b 3) (simp (length-append, length-counts)),
-        next l at 80 (b 0 ++ b 1 ++ b 2 ++ b 3) (b 4) (simp (length-append, length-counts)),
+        next l at (countsPart 1) (b 0) (b 1) (length-counts _),
+        next l at (countsPart 2) (b 0 ++ b 1) (b 2) (simp (length-append, length-counts)),
+        next l at (countsPart 3) (b 0 ++ b 1 ++ b 2) (b 3) (simp (length-append, length-counts)),
+        next l at (countsPart 4) (b 0 ++ b 1 ++ b 2 ++ b 3) (b 4) (simp (length-append, length-counts)),
       )
 
 pub encode-stored : (l : Octets) (r : Record)
-    → splice (splice (splice (splice (splice l 36352 (frontOctets (r .ends))) 36368 (controllerOctets (r .ends .controller))) 36391 (middleOctets (r .ends))) 36402 (connsOctets (r .ends .conns))) 36502 (wiresOctets r)
-    ≡ splice l 36352 (encodeOf r)
+    → splice (splice (splice (splice (splice l recordAt (frontOctets (r .ends))) (recordAt + controllerPlace) (controllerOctets (r .ends .controller))) (recordAt + askingPlace) (middleOctets (r .ends))) (recordAt + connsPlace) (connsOctets (r .ends .conns))) (recordAt + downPlace) (wiresOctets r)
+    ≡ splice l recordAt (encodeOf r)
 unfolding encodeOf
 encode-stored l r =
     let f = frontOctets (r .ends) in
@@ -131,8 +133,8 @@ encode-stored l r =
     let m = middleOctets (r .ends) in
     let s = connsOctets (r .ends .conns) in
     rw (
-      next l 36352 16 f k (length-front _),
-      next l 36352 39 (f ++ k) m (simp (length-append, length-front, length-controller)),
-      next l 36352 50 (f ++ k ++ m) s (simp (length-append, length-front, length-controller, length-middle)),
-      next l 36352 150 (f ++ k ++ m ++ s) (wiresOctets r) (simp (length-append, length-front, length-controller, length-middle, length-conns)),
+      next l recordAt controllerPlace f k (length-front _),
+      next l recordAt askingPlace (f ++ k) m (simp (length-append, length-front, length-controller)),
+      next l recordAt connsPlace (f ++ k ++ m) s (simp (length-append, length-front, length-controller, length-middle)),
+      next l recordAt downPlace (f ++ k ++ m ++ s) (wiresOctets r) (simp (length-append, length-front, length-controller, length-middle, length-conns)),
     )

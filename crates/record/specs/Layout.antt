@@ -1,66 +1,155 @@
--- Where the record stands in the area, and each part in the record. Parts follow one another with no octet between them.
+-- Where the record stands in the area, each part in the record, and each struct's parts in the struct. Parts follow one
+-- another with no octet between them. What cites these names has no number of its own; src/places.rt has the same names in
+-- the code.
 -- Assumes nothing.
 use Prim.Native.Nat.{ℕ, _+_, _*_, _/_, _%_}
 use mathlib.Core.Bool.{Bool, true, false}
 use mathlib.Core.Path.{_≡_, refl}
 use Rattle.octets.specs.Octets.{Octets, cut}
-use Rattle.area.specs.Map.{recordAt, areaSize}
+use Rattle.area.specs.Map.{recordAt, recordRoom, places}
 
 -- ---- the area (document 01: "the record rests in the last 512 of those octets")
-
-abbrev pub recordRoom : ℕ
-recordRoom = 512
-
-pub last-octets : recordAt + recordRoom ≡ areaSize
-last-octets = refl
 
 -- the octets in which the record rests: octet k of them is octet 36,352 + k of the area
 unfoldable pub slot : Octets → Octets
 slot area = cut recordAt recordRoom area
 
--- ---- the parts: each starts where the one before it ends
+-- ---- the structs: how many octets each has (Size), and where what is more than one octet, or a tag, stands in it (Part).
+-- All else is one octet for each field, in the order of the struct.
 
--- control, dynamic payload, dynamic credits, fixed payload, fixed credits
+-- control, dynamic payload, dynamic credits, fixed payload, fixed credits; six octets are free, and 0
+abbrev pub profileSize : ℕ
+profileSize = 11
+
+-- how far a message is: its length (two octets), lost
+abbrev pub lostPart : ℕ
+lostPart = 2
+
+abbrev pub progressSize : ℕ
+progressSize = lostPart + 1
+
+-- a control run: MT, GID, OID, how far it is
+abbrev pub runPart : ℕ
+runPart = 3
+
+abbrev pub controlRunSize : ℕ
+controlRunSize = runPart + progressSize
+
+-- a message in hand: full, length (two octets), position (two octets)
+abbrev pub handSize : ℕ
+handSize = 5
+
+-- a ring: head, count
+abbrev pub ringSize : ℕ
+ringSize = 2
+
+-- the host: size, pending (0 none, 1 a command), GID, OID, aim
+abbrev pub pendingPart : ℕ
+pendingPart = 1
+
+abbrev pub hostSize : ℕ
+hostSize = pendingPart + 4
+
+-- eight pairs of ID and protocol, their count
+abbrev pub pairsRoom : ℕ
+pairsRoom = 8
+
+abbrev pub pairsSize : ℕ
+pairsSize = pairsRoom * 2 + 1
+
+-- the controller: phase, ID given, RF state (four octets, of which the second says of a selection whether there is one), pairs
+abbrev pub rfPart : ℕ
+rfPart = 2
+
+abbrev pub selectedPart : ℕ
+selectedPart = rfPart + 1
+
+abbrev pub pairsPart : ℕ
+pairsPart = rfPart + 4
+
+abbrev pub controllerSize : ℕ
+controllerSize = pairsPart + pairsSize
+
+-- a connection at the host: open, payload, grant, held, message in hand, run
+abbrev pub handPart : ℕ
+handPart = 4
+
+abbrev pub hostRunPart : ℕ
+hostRunPart = handPart + handSize
+
+abbrev pub hostSideSize : ℕ
+hostSideSize = hostRunPart + progressSize
+
+-- a connection at the controller: open, grant, owed, store, run
+abbrev pub storePart : ℕ
+storePart = 3
+
+abbrev pub controllerRunPart : ℕ
+controllerRunPart = storePart + ringSize
+
+abbrev pub controllerSideSize : ℕ
+controllerSideSize = controllerRunPart + progressSize
+
+-- a connection: at the host, at the controller
+abbrev pub countsSize : ℕ
+countsSize = hostSideSize + controllerSideSize
+
+-- the connections, by place
+abbrev pub countsPart : ℕ → ℕ
+countsPart place = place * countsSize
+
+abbrev pub connsSize : ℕ
+connsSize = countsPart places
+
+-- ---- the record: each part starts where the one before it ends
+
 abbrev pub profilePlace : ℕ
 profilePlace = 0
 
--- size, pending (0 none, 1 a command), GID, OID, aim
 abbrev pub hostPlace : ℕ
-hostPlace = profilePlace + 5
+hostPlace = profilePlace + profileSize
 
--- a control run: MT, GID, OID, length (two octets), lost
 abbrev pub hearingPlace : ℕ
-hearingPlace = hostPlace + 5
+hearingPlace = hostPlace + hostSize
 
--- phase, ID given, RF state (four octets), eight pairs of ID and protocol, their count
 abbrev pub controllerPlace : ℕ
-controllerPlace = hearingPlace + 6
+controllerPlace = hearingPlace + controlRunSize
 
--- a control run
 abbrev pub askingPlace : ℕ
-askingPlace = controllerPlace + (1 + 1 + 4 + 8 * 2 + 1)
+askingPlace = controllerPlace + controllerSize
 
--- a message in hand: full, length (two octets), position (two octets)
 abbrev pub endpointPlace : ℕ
-endpointPlace = askingPlace + 6
+endpointPlace = askingPlace + controlRunSize
 
--- connections 0, 2, 3, 4, 5: the host's 12 octets and the controller's 8 for each
 abbrev pub connsPlace : ℕ
-connsPlace = endpointPlace + 5
+connsPlace = endpointPlace + handSize
 
--- a ring: head, count
 abbrev pub downPlace : ℕ
-downPlace = connsPlace + 5 * (12 + 8)
+downPlace = connsPlace + connsSize
 
 abbrev pub upPlace : ℕ
-upPlace = downPlace + 2
+upPlace = downPlace + ringSize
 
 -- what is past this in the 512 octets is left alone
 abbrev pub recordEnd : ℕ
-recordEnd = upPlace + 2
+recordEnd = upPlace + ringSize
 
-pub sum-of-sizes : recordEnd ≡ 154
+pub sum-of-sizes : recordEnd ≡ 160
 sum-of-sizes = refl
+
+-- ---- parts that are stored together
+
+-- the profile, the host and what it hears
+abbrev pub frontSize : ℕ
+frontSize = controllerPlace
+
+-- what the controller is asked, and the endpoint's message
+abbrev pub middleSize : ℕ
+middleSize = controlRunSize + handSize
+
+-- both wires
+abbrev pub wiresSize : ℕ
+wiresSize = ringSize + ringSize
 
 -- ---- numbers and yes or no
 

@@ -5,4 +5,6 @@ pub mod Writing
 pub mod Judge
 pub mod Load
 pub mod Fit
+pub mod Small
+pub mod Plan
 pub mod Claims

@@ -10,7 +10,7 @@ use Rattle.record.specs.Kinds.selection as selection
 use Rattle.record.specs.Kinds.rf.{Idle, Discovery, W4AllDiscoveries, W4HostSelect, PollActive, ListenActive, ListenSleep}
 use Rattle.record.specs.Kinds.phase.{Cold, Reset, Ready}
 use Rattle.record.specs.Kinds.pending as pending
-use Rattle.record.specs.Layout.{slot, profilePlace, hostPlace, hearingPlace, controllerPlace, askingPlace, endpointPlace, connsPlace, downPlace, upPlace}
+use Rattle.record.specs.Layout.{slot, profilePlace, hostPlace, hearingPlace, controllerPlace, askingPlace, endpointPlace, connsPlace, downPlace, upPlace, lostPart, runPart, pendingPart, rfPart, selectedPart, pairsPart, handPart, hostRunPart, storePart, controllerRunPart, hostSideSize, countsPart}
 
 -- ---- numbers
 
@@ -45,10 +45,10 @@ profileAt s at =
     }
 
 unfoldable pub progressAt : Octets → ℕ → Progress
-progressAt s at = record { len = wideAt s at; lost = eqb (getD s (at + 2) 0) 1 }
+progressAt s at = record { len = wideAt s at; lost = eqb (getD s (at + lostPart) 0) 1 }
 
 unfoldable pub controlRunAt : Octets → ℕ → ControlRun
-controlRunAt s at = record { mt = getD s at 0; gid = getD s (at + 1) 0; oid = getD s (at + 2) 0; run = progressAt s (at + 3) }
+controlRunAt s at = record { mt = getD s at 0; gid = getD s (at + 1) 0; oid = getD s (at + 2) 0; run = progressAt s (at + runPart) }
 
 unfoldable pub handAt : Octets → ℕ → Hand
 handAt s at = record { full = eqb (getD s at 0) 1; len = wideAt s (at + 1); at = wideAt s (at + 3) }
@@ -59,7 +59,7 @@ ringAt s at = record { head = getD s at 0; count = getD s (at + 1) 0 }
 -- ---- the two ends
 
 unfoldable pub hostAt : Octets → ℕ → Host
-hostAt s at = record { size = getD s at 0; pending = pendingOf (getD s (at + 1) 0) (getD s (at + 2) 0) (getD s (at + 3) 0) (getD s (at + 4) 0) }
+hostAt s at = record { size = getD s at 0; pending = pendingOf (getD s (at + pendingPart) 0) (getD s (at + 2) 0) (getD s (at + 3) 0) (getD s (at + 4) 0) }
 
 unfoldable pub pairAt : Octets → ℕ → Pair
 pairAt s at = record { id = getD s at 0; protocol = getD s (at + 1) 0 }
@@ -78,8 +78,8 @@ controllerAt s at =
     record {
       phase = phaseOf (getD s at 0);
       given = getD s (at + 1) 0;
-      rf = rfOf (getD s (at + 2) 0) (getD s (at + 3) 0) (getD s (at + 4) 0) (getD s (at + 5) 0);
-      pairs = pairsAt s (at + 6);
+      rf = rfOf (getD s (at + rfPart) 0) (getD s (at + selectedPart) 0) (getD s (at + 4) 0) (getD s (at + 5) 0);
+      pairs = pairsAt s (at + pairsPart);
     }
 
 -- ---- connections
@@ -91,8 +91,8 @@ hostSideAt s at =
       payload = getD s (at + 1) 0;
       grant = getD s (at + 2) 0;
       held = getD s (at + 3) 0;
-      hand = handAt s (at + 4);
-      run = progressAt s (at + 9);
+      hand = handAt s (at + handPart);
+      run = progressAt s (at + hostRunPart);
     }
 
 unfoldable pub controllerSideAt : Octets → ℕ → ControllerSide
@@ -101,15 +101,15 @@ controllerSideAt s at =
       opened = eqb (getD s at 0) 1;
       grant = getD s (at + 1) 0;
       owed = getD s (at + 2) 0;
-      store = ringAt s (at + 3);
-      run = progressAt s (at + 5);
+      store = ringAt s (at + storePart);
+      run = progressAt s (at + controllerRunPart);
     }
 
 unfoldable pub countsAt : Octets → ℕ → Counts
-countsAt s at = record { host = hostSideAt s at; controller = controllerSideAt s (at + 12) }
+countsAt s at = record { host = hostSideAt s at; controller = controllerSideAt s (at + hostSideSize) }
 
 unfoldable pub connsAt : Octets → ℕ → List Counts
-connsAt s at = countsAt s at ∷ countsAt s (at + 20) ∷ countsAt s (at + 40) ∷ countsAt s (at + 60) ∷ countsAt s (at + 80) ∷ []
+connsAt s at = countsAt s at ∷ countsAt s (at + countsPart 1) ∷ countsAt s (at + countsPart 2) ∷ countsAt s (at + countsPart 3) ∷ countsAt s (at + countsPart 4) ∷ []
 
 -- ---- the record
 

@@ -35,8 +35,11 @@ rfOctets ListenSleep = 6 ∷ 0 ∷ 0 ∷ 0 ∷ []
 
 -- ---- parts of both ends
 
+-- six octets are free
 unfoldable pub profileOctets : Profile → Octets
-profileOctets p = p .control ∷ p .dynamic .payload ∷ p .dynamic .credits ∷ p .fixed .payload ∷ p .fixed .credits ∷ []
+profileOctets p =
+    p .control ∷ p .dynamic .payload ∷ p .dynamic .credits ∷ p .fixed .payload ∷ p .fixed .credits
+    ∷ 0 ∷ 0 ∷ 0 ∷ 0 ∷ 0 ∷ 0 ∷ []
 
 abbrev pub progressOctets : Progress → Octets
 progressOctets p = high (p .len) ∷ low (p .len) ∷ bit (p .lost) ∷ []

@@ -1,24 +1,51 @@
 // Row 1 of the refusals (document 01): whether the record in its octets is one that can be. Nothing branches: each
 // function is the definition of its name in specs/Judge.antt, test by test. Tags are looked at in the octets, since a
 // record has none that is not there.
+use crate::places;
 use crate::read::decode;
+use area::map::AREA;
+use area::map::CONTROL;
+use area::map::MESSAGE;
+use area::map::RECORD_AT;
+use area::map::STORE;
+use area::map::WIRE;
 use state::kinds::ControllerSide;
 use state::kinds::Counts;
 use state::kinds::Ends;
 use state::kinds::Hand;
 use state::kinds::HostSide;
-use state::kinds::Profile;
 use state::kinds::Record;
-use state::kinds::Terms;
+use state::profile::LEAST_SIZE;
+use state::profile::profile_ok;
 ghost use mathlib.Core.Path.{_≡_};
 ghost use Prim.Native.Nat.{_+_, _≤_};
 ghost use lib.ListN.{length};
-ghost use Rattle.record.specs.Judge.{handOk, givenOk, termsOk, profileOk, hostSideOk, controllerSideOk, countsOk, connsOk, endsOk, recordOk, rfKnown, connKnown, connsKnown, tagsOk, judgeOf};
+ghost use Rattle.area.specs.Map.{areaSize};
+ghost use Rattle.record.specs.Layout.{countsSize, connsSize, recordEnd};
+ghost use Rattle.record.specs.Judge.{handOk, givenOk, hostSideOk, controllerSideOk, countsOk, connsOk, endsOk, recordOk, rfKnown, connKnown, connsKnown, tagsOk, judgeOf};
+
+// Where tags stand in the record: of the unanswered command, of the two control runs, of the RF state and its selection.
+const PENDING: usize = places::HOST + places::PENDING_PART;
+
+const HEARING_LOST: usize = places::HEARING + places::RUN_PART + places::LOST_PART;
+
+const ASKING_LOST: usize = places::ASKING + places::RUN_PART + places::LOST_PART;
+
+const RF: usize = places::CONTROLLER + places::RF_PART;
+
+const SELECTED: usize = places::CONTROLLER + places::SELECTED_PART;
+
+// Where they stand in a connection: its run lost at the host, open at the controller, its run lost there.
+const HOST_LOST: usize = places::HOST_RUN_PART + places::LOST_PART;
+
+const OPENED: usize = places::HOST_SIDE_SIZE;
+
+const LOST: usize = OPENED + places::CONTROLLER_RUN_PART + places::LOST_PART;
 
 fn hand_ok(h: Hand) -> bool
     ensures { λ r. ⌜ r ≡ handOk h ⌝ }
 {
-    (h.len <= 1024) & (h.at <= h.len)
+    (h.len <= MESSAGE) & (h.at <= h.len)
 }
 
 fn given_ok(id: u8) -> bool
@@ -27,28 +54,18 @@ fn given_ok(id: u8) -> bool
     (id == 0) | ((2 <= id) & (id <= 5))
 }
 
-fn terms_ok(t: Terms) -> bool
-    ensures { λ r. ⌜ r ≡ termsOk t ⌝ }
-{
-    (1 <= t.payload) & (1 <= t.credits) & ((t.credits <= 8) | (t.credits == 255))
-}
-
-fn profile_ok(p: Profile) -> bool
-    ensures { λ r. ⌜ r ≡ profileOk p ⌝ }
-{
-    (32 <= p.control) & terms_ok(p.dynamic) & terms_ok(p.fixed)
-}
-
 fn host_side_ok(h: HostSide) -> bool
     ensures { λ r. ⌜ r ≡ hostSideOk h ⌝ }
 {
-    (h.held <= h.grant) & (!h.opened | (1 <= h.payload)) & hand_ok(h.hand) & (h.run.len <= 1024)
+    (h.held <= h.grant) & (!h.opened | (1 <= h.payload)) & hand_ok(h.hand) & (h.run.len <= MESSAGE)
 }
 
 fn controller_side_ok(k: ControllerSide) -> bool
     ensures { λ r. ⌜ r ≡ controllerSideOk k ⌝ }
 {
-    (k.owed <= k.grant) & ((k.store.count <= 8) & (k.store.head < 8)) & (k.run.len <= 1024)
+    (k.owed <= k.grant)
+        & ((k.store.count <= STORE) & (k.store.head < STORE))
+        & (k.run.len <= MESSAGE)
 }
 
 fn counts_ok(c: Counts) -> bool
@@ -72,10 +89,10 @@ fn ends_ok(e: Ends) -> bool
     ensures { λ r. ⌜ r ≡ endsOk e ⌝ }
 {
     let conns = e.conns;
-    let numbers = (32 <= e.host.size)
-        & (e.hearing.run.len <= 255)
-        & (e.asking.run.len <= 255)
-        & (e.controller.pairs.count <= 8);
+    let numbers = (LEAST_SIZE <= e.host.size)
+        & (e.hearing.run.len <= CONTROL)
+        & (e.asking.run.len <= CONTROL)
+        & (e.controller.pairs.count <= places::PAIRS_ROOM);
     numbers
         & given_ok(e.controller.given)
         & profile_ok(e.profile)
@@ -86,8 +103,8 @@ fn ends_ok(e: Ends) -> bool
 fn record_ok(r: Record) -> bool
     ensures { λ o. ⌜ o ≡ recordOk r ⌝ }
 {
-    let down = (r.down.count <= 16) & (r.down.head < 16);
-    let up = (r.up.count <= 16) & (r.up.head < 16);
+    let down = (r.down.count <= WIRE) & (r.down.head < WIRE);
+    let up = (r.up.count <= WIRE) & (r.up.head < WIRE);
     down & up & ends_ok(r.ends)
 }
 
@@ -98,37 +115,45 @@ fn rf_known(tag: u8, selected: u8) -> bool
 }
 
 fn conn_known(s: &[u8], at: usize) -> bool
-    requires { ⌜ at + 20 ≤ length (now s) ⌝ }
+    requires { ⌜ at + countsSize ≤ length (now s) ⌝ }
     ensures { λ r. ⌜ r ≡ connKnown (now (s .entry)) at ⌝ }
 {
-    (s[at] <= 1) & (s[at + 4] <= 1) & (s[at + 11] <= 1) & (s[at + 12] <= 1) & (s[at + 19] <= 1)
+    (s[at] <= 1)
+        & (s[at + places::HAND_PART] <= 1)
+        & (s[at + HOST_LOST] <= 1)
+        & (s[at + OPENED] <= 1)
+        & (s[at + LOST] <= 1)
 }
 
 fn conns_known(s: &[u8], at: usize) -> bool
-    requires { ⌜ at + 100 ≤ length (now s) ⌝ }
+    requires { ⌜ at + connsSize ≤ length (now s) ⌝ }
     ensures { λ r. ⌜ r ≡ connsKnown (now (s .entry)) at ⌝ }
 {
     conn_known(s, at)
-        & conn_known(s, at + 20)
-        & conn_known(s, at + 40)
-        & conn_known(s, at + 60)
-        & conn_known(s, at + 80)
+        & conn_known(s, at + places::COUNTS_1)
+        & conn_known(s, at + places::COUNTS_2)
+        & conn_known(s, at + places::COUNTS_3)
+        & conn_known(s, at + places::COUNTS_4)
 }
 
 fn tags_ok(s: &[u8]) -> bool
-    requires { ⌜ 154 ≤ length (now s) ⌝ }
+    requires { ⌜ recordEnd ≤ length (now s) ⌝ }
     ensures { λ r. ⌜ r ≡ tagsOk (now (s .entry)) ⌝ }
 {
-    let tags = (s[6] <= 1) & (s[16] <= 2) & (s[15] <= 1) & (s[44] <= 1) & (s[45] <= 1);
-    tags & rf_known(s[18], s[19]) & conns_known(s, 50)
+    let tags = (s[PENDING] <= 1)
+        & (s[places::CONTROLLER] <= 2)
+        & (s[HEARING_LOST] <= 1)
+        & (s[ASKING_LOST] <= 1)
+        & (s[places::ENDPOINT] <= 1);
+    tags & rf_known(s[RF], s[SELECTED]) & conns_known(s, places::CONNS)
 }
 
 // Whether row 1 does not apply.
 pub fn judge(area: &[u8]) -> bool
-    requires { ⌜ 36864 ≤ length (now area) ⌝ }
+    requires { ⌜ areaSize ≤ length (now area) ⌝ }
     ensures { λ r. ⌜ r ≡ judgeOf (now (area .entry)) ⌝ }
 {
-    let known = tags_ok(&area[36352..36864]);
+    let known = tags_ok(&area[RECORD_AT..AREA]);
     let r = decode(area);
     let ok = record_ok(r);
     known & ok

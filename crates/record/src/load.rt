@@ -1,7 +1,9 @@
 // What every call does first: the record out of an area.
 use crate::judge::judge;
+use crate::places;
 use crate::read::decode;
 use crate::read::record_of;
+use area::map::AREA;
 use state::kinds::Record;
 ghost use mathlib.Core.Path.{_≡_};
 ghost use Rattle.record.specs.Load.{blank, loadOf};
@@ -16,7 +18,7 @@ pub struct Loaded {
 fn blank() -> Record
     ensures { λ r. ⌜ r ≡ blank ⌝ }
 {
-    let zeros = [0u8; 154];
+    let zeros = [0u8; places::END];
     record_of(&zeros)
 }
 
@@ -24,7 +26,7 @@ fn blank() -> Record
 pub fn load(area: &[u8]) -> Loaded
     ensures { λ r. ⌜ r ≡ loadOf (now (area .entry)) ⌝ }
 {
-    if area.len() < 36864 {
+    if area.len() < AREA {
         return Loaded {
             answer: 2,
             record: blank(),

@@ -1,5 +1,8 @@
 // The record read from its octets: a function for each struct, named after it. s is the record's 512 octets, and the
 // places in it are those of specs/Layout.antt. A tag that is none of its cases reads as the first; judge sees it.
+use crate::places;
+use area::map::AREA;
+use area::map::RECORD_AT;
 use state::kinds::Activation;
 use state::kinds::Asked;
 use state::kinds::ControlRun;
@@ -24,6 +27,8 @@ use state::kinds::Terms;
 ghost use mathlib.Core.Path.{_≡_};
 ghost use Prim.Native.Nat.{_+_, _≤_, _*_};
 ghost use lib.ListN.{length};
+ghost use Rattle.area.specs.Map.{areaSize};
+ghost use Rattle.record.specs.Layout.{profileSize, progressSize, controlRunSize, handSize, ringSize, hostSize, pairsSize, controllerSize, hostSideSize, controllerSideSize, countsSize, connsSize, recordEnd};
 ghost use Rattle.record.specs.Reading.{wideAt, pendingOf, phaseOf, rfOf, profileAt, progressAt, controlRunAt, handAt, ringAt, hostAt, pairAt, pairsAt, controllerAt, hostSideAt, controllerSideAt, countsAt, connsAt, endsOf, recordOf, decodeOf};
 
 // An octet as a count.
@@ -100,7 +105,7 @@ fn rf_of(tag: u8, a: u8, b: u8, c: u8) -> Rf
 }
 
 fn profile_at(s: &[u8], at: usize) -> Profile
-    requires { ⌜ at + 5 ≤ length (now s) ⌝ }
+    requires { ⌜ at + profileSize ≤ length (now s) ⌝ }
     ensures { λ r. ⌜ r ≡ profileAt (now (s .entry)) at ⌝ }
 {
     Profile {
@@ -117,10 +122,10 @@ fn profile_at(s: &[u8], at: usize) -> Profile
 }
 
 fn progress_at(s: &[u8], at: usize) -> Progress
-    requires { ⌜ at + 3 ≤ length (now s) ⌝ }
+    requires { ⌜ at + progressSize ≤ length (now s) ⌝ }
     ensures { λ r. ⌜ r ≡ progressAt (now (s .entry)) at ⌝ }
 {
-    let lost = s[at + 2] == 1;
+    let lost = s[at + places::LOST_PART] == 1;
     let len = wide_at(s, at);
     Progress {
         len: len,
@@ -129,13 +134,13 @@ fn progress_at(s: &[u8], at: usize) -> Progress
 }
 
 fn control_run_at(s: &[u8], at: usize) -> ControlRun
-    requires { ⌜ at + 6 ≤ length (now s) ⌝ }
+    requires { ⌜ at + controlRunSize ≤ length (now s) ⌝ }
     ensures { λ r. ⌜ r ≡ controlRunAt (now (s .entry)) at ⌝ }
 {
     let mt = s[at];
     let gid = s[at + 1];
     let oid = s[at + 2];
-    let run = progress_at(s, at + 3);
+    let run = progress_at(s, at + places::RUN_PART);
     ControlRun {
         mt: mt,
         gid: gid,
@@ -145,7 +150,7 @@ fn control_run_at(s: &[u8], at: usize) -> ControlRun
 }
 
 fn hand_at(s: &[u8], at: usize) -> Hand
-    requires { ⌜ at + 5 ≤ length (now s) ⌝ }
+    requires { ⌜ at + handSize ≤ length (now s) ⌝ }
     ensures { λ r. ⌜ r ≡ handAt (now (s .entry)) at ⌝ }
 {
     let full = s[at] == 1;
@@ -159,7 +164,7 @@ fn hand_at(s: &[u8], at: usize) -> Hand
 }
 
 fn ring_at(s: &[u8], at: usize) -> Ring
-    requires { ⌜ at + 2 ≤ length (now s) ⌝ }
+    requires { ⌜ at + ringSize ≤ length (now s) ⌝ }
     ensures { λ r. ⌜ r ≡ ringAt (now (s .entry)) at ⌝ }
 {
     let head = number(s[at]);
@@ -171,11 +176,16 @@ fn ring_at(s: &[u8], at: usize) -> Ring
 }
 
 fn host_at(s: &[u8], at: usize) -> Host
-    requires { ⌜ at + 5 ≤ length (now s) ⌝ }
+    requires { ⌜ at + hostSize ≤ length (now s) ⌝ }
     ensures { λ r. ⌜ r ≡ hostAt (now (s .entry)) at ⌝ }
 {
     let size = s[at];
-    let pending = pending_of(s[at + 1], s[at + 2], s[at + 3], s[at + 4]);
+    let pending = pending_of(
+        s[at + places::PENDING_PART],
+        s[at + 2],
+        s[at + 3],
+        s[at + 4],
+    );
     Host {
         size: size,
         pending: pending,
@@ -193,7 +203,7 @@ fn pair_at(s: &[u8], at: usize) -> Pair
 }
 
 fn pairs_at(s: &[u8], at: usize) -> Pairs
-    requires { ⌜ at + 17 ≤ length (now s) ⌝ }
+    requires { ⌜ at + pairsSize ≤ length (now s) ⌝ }
     ensures { λ r. ⌜ r ≡ pairsAt (now (s .entry)) at ⌝ }
 {
     let p0 = pair_at(s, at);
@@ -212,13 +222,18 @@ fn pairs_at(s: &[u8], at: usize) -> Pairs
 }
 
 fn controller_at(s: &[u8], at: usize) -> Controller
-    requires { ⌜ at + 23 ≤ length (now s) ⌝ }
+    requires { ⌜ at + controllerSize ≤ length (now s) ⌝ }
     ensures { λ r. ⌜ r ≡ controllerAt (now (s .entry)) at ⌝ }
 {
     let given = s[at + 1];
     let phase = phase_of(s[at]);
-    let rf = rf_of(s[at + 2], s[at + 3], s[at + 4], s[at + 5]);
-    let pairs = pairs_at(s, at + 6);
+    let rf = rf_of(
+        s[at + places::RF_PART],
+        s[at + places::SELECTED_PART],
+        s[at + 4],
+        s[at + 5],
+    );
+    let pairs = pairs_at(s, at + places::PAIRS_PART);
     Controller {
         phase: phase,
         given: given,
@@ -228,15 +243,15 @@ fn controller_at(s: &[u8], at: usize) -> Controller
 }
 
 fn host_side_at(s: &[u8], at: usize) -> HostSide
-    requires { ⌜ at + 12 ≤ length (now s) ⌝ }
+    requires { ⌜ at + hostSideSize ≤ length (now s) ⌝ }
     ensures { λ r. ⌜ r ≡ hostSideAt (now (s .entry)) at ⌝ }
 {
     let opened = s[at] == 1;
     let payload = s[at + 1];
     let grant = s[at + 2];
     let held = s[at + 3];
-    let hand = hand_at(s, at + 4);
-    let run = progress_at(s, at + 9);
+    let hand = hand_at(s, at + places::HAND_PART);
+    let run = progress_at(s, at + places::HOST_RUN_PART);
     HostSide {
         opened: opened,
         payload: payload,
@@ -248,14 +263,14 @@ fn host_side_at(s: &[u8], at: usize) -> HostSide
 }
 
 fn controller_side_at(s: &[u8], at: usize) -> ControllerSide
-    requires { ⌜ at + 8 ≤ length (now s) ⌝ }
+    requires { ⌜ at + controllerSideSize ≤ length (now s) ⌝ }
     ensures { λ r. ⌜ r ≡ controllerSideAt (now (s .entry)) at ⌝ }
 {
     let opened = s[at] == 1;
     let grant = s[at + 1];
     let owed = s[at + 2];
-    let store = ring_at(s, at + 3);
-    let run = progress_at(s, at + 5);
+    let store = ring_at(s, at + places::STORE_PART);
+    let run = progress_at(s, at + places::CONTROLLER_RUN_PART);
     ControllerSide {
         opened: opened,
         grant: grant,
@@ -266,11 +281,11 @@ fn controller_side_at(s: &[u8], at: usize) -> ControllerSide
 }
 
 fn counts_at(s: &[u8], at: usize) -> Counts
-    requires { ⌜ at + 20 ≤ length (now s) ⌝ }
+    requires { ⌜ at + countsSize ≤ length (now s) ⌝ }
     ensures { λ r. ⌜ r ≡ countsAt (now (s .entry)) at ⌝ }
 {
     let host = host_side_at(s, at);
-    let controller = controller_side_at(s, at + 12);
+    let controller = controller_side_at(s, at + places::HOST_SIDE_SIZE);
     Counts {
         host: host,
         controller: controller,
@@ -278,28 +293,28 @@ fn counts_at(s: &[u8], at: usize) -> Counts
 }
 
 fn conns_at(s: &[u8], at: usize) -> [Counts; 5]
-    requires { ⌜ at + 100 ≤ length (now s) ⌝ }
+    requires { ⌜ at + connsSize ≤ length (now s) ⌝ }
     ensures { λ r. ⌜ r ≡ connsAt (now (s .entry)) at ⌝ }
 {
     let c0 = counts_at(s, at);
-    let c1 = counts_at(s, at + 20);
-    let c2 = counts_at(s, at + 40);
-    let c3 = counts_at(s, at + 60);
-    let c4 = counts_at(s, at + 80);
+    let c1 = counts_at(s, at + places::COUNTS_1);
+    let c2 = counts_at(s, at + places::COUNTS_2);
+    let c3 = counts_at(s, at + places::COUNTS_3);
+    let c4 = counts_at(s, at + places::COUNTS_4);
     [c0, c1, c2, c3, c4]
 }
 
 fn ends_of(s: &[u8]) -> Ends
-    requires { ⌜ 154 ≤ length (now s) ⌝ }
+    requires { ⌜ recordEnd ≤ length (now s) ⌝ }
     ensures { λ r. ⌜ r ≡ endsOf (now (s .entry)) ⌝ }
 {
-    let profile = profile_at(s, 0);
-    let host = host_at(s, 5);
-    let hearing = control_run_at(s, 10);
-    let controller = controller_at(s, 16);
-    let asking = control_run_at(s, 39);
-    let endpoint = hand_at(s, 45);
-    let conns = conns_at(s, 50);
+    let profile = profile_at(s, places::PROFILE);
+    let host = host_at(s, places::HOST);
+    let hearing = control_run_at(s, places::HEARING);
+    let controller = controller_at(s, places::CONTROLLER);
+    let asking = control_run_at(s, places::ASKING);
+    let endpoint = hand_at(s, places::ENDPOINT);
+    let conns = conns_at(s, places::CONNS);
     Ends {
         profile: profile,
         host: host,
@@ -313,12 +328,12 @@ fn ends_of(s: &[u8]) -> Ends
 
 // The record of its own octets.
 pub fn record_of(s: &[u8]) -> Record
-    requires { ⌜ 154 ≤ length (now s) ⌝ }
+    requires { ⌜ recordEnd ≤ length (now s) ⌝ }
     ensures { λ r. ⌜ r ≡ recordOf (now (s .entry)) ⌝ }
 {
     let ends = ends_of(s);
-    let down = ring_at(s, 150);
-    let up = ring_at(s, 152);
+    let down = ring_at(s, places::DOWN);
+    let up = ring_at(s, places::UP);
     Record {
         ends: ends,
         down: down,
@@ -328,8 +343,8 @@ pub fn record_of(s: &[u8]) -> Record
 
 // The record of an area.
 pub fn decode(area: &[u8]) -> Record
-    requires { ⌜ 36864 ≤ length (now area) ⌝ }
+    requires { ⌜ areaSize ≤ length (now area) ⌝ }
     ensures { λ r. ⌜ r ≡ decodeOf (now (area .entry)) ⌝ }
 {
-    record_of(&area[36352..36864])
+    record_of(&area[RECORD_AT..AREA])
 }

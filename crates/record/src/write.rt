@@ -1,5 +1,7 @@
 // The record written to its octets: an array of octets for each struct, then one store of it. The places are those of
 // specs/Layout.antt.
+use crate::places;
+use area::map::RECORD_AT;
 use state::kinds::ControlRun;
 use state::kinds::Controller;
 use state::kinds::Counts;
@@ -17,9 +19,30 @@ ghost use mathlib.Core.Path.{_≡_};
 ghost use Prim.Native.Nat.{_+_, _≤_};
 ghost use lib.ListN.{length};
 ghost use Rattle.octets.specs.Octets.{splice};
+ghost use Rattle.area.specs.Map.{areaSize, recordAt};
+ghost use Rattle.record.specs.Layout.{controllerSize, countsSize, connsSize, frontSize, middleSize, wiresSize};
 ghost use Rattle.record.specs.Writing.{phaseOctet, rfOctets, profileOctets, controlRunOctets, handOctets, hostOctets, pairsOctets, controllerOctets, countsOctets, connsOctets, frontOctets, middleOctets, wiresOctets, encodeOf};
 
-fn profile_octets(p: Profile) -> [u8; 5]
+// Where the parts of the record that are stored together stand in the area, and what follows in each of them.
+const FRONT_AT: usize = RECORD_AT + places::PROFILE;
+
+const HOST_PART: usize = places::PROFILE_SIZE;
+
+const HEARING_PART: usize = HOST_PART + places::HOST_SIZE;
+
+const CONTROLLER_AT: usize = RECORD_AT + places::CONTROLLER;
+
+const MIDDLE_AT: usize = RECORD_AT + places::ASKING;
+
+const ENDPOINT_PART: usize = places::CONTROL_RUN_SIZE;
+
+const CONNS_AT: usize = RECORD_AT + places::CONNS;
+
+const WIRES_AT: usize = RECORD_AT + places::DOWN;
+
+const WIRES_SIZE: usize = places::RING_SIZE + places::RING_SIZE;
+
+fn profile_octets(p: Profile) -> [u8; places::PROFILE_SIZE]
     ensures { λ o. ⌜ o ≡ profileOctets p ⌝ }
 {
     [
@@ -28,10 +51,16 @@ fn profile_octets(p: Profile) -> [u8; 5]
         p.dynamic.credits,
         p.fixed.payload,
         p.fixed.credits,
+        0,
+        0,
+        0,
+        0,
+        0,
+        0,
     ]
 }
 
-fn host_octets(h: Host) -> [u8; 5]
+fn host_octets(h: Host) -> [u8; places::HOST_SIZE]
     ensures { λ o. ⌜ o ≡ hostOctets h ⌝ }
 {
     let pending = h.pending;
@@ -41,7 +70,7 @@ fn host_octets(h: Host) -> [u8; 5]
     }
 }
 
-fn run_octets(r: ControlRun) -> [u8; 6]
+fn run_octets(r: ControlRun) -> [u8; places::CONTROL_RUN_SIZE]
     ensures { λ o. ⌜ o ≡ controlRunOctets r ⌝ }
 {
     [
@@ -81,7 +110,7 @@ fn rf_octets(rf: Rf) -> [u8; 4]
     }
 }
 
-fn pairs_octets(k: Pairs) -> [u8; 17]
+fn pairs_octets(k: Pairs) -> [u8; places::PAIRS_SIZE]
     ensures { λ o. ⌜ o ≡ pairsOctets k ⌝ }
 {
     let count = (k.count % 256) as u8;
@@ -114,7 +143,7 @@ fn pairs_octets(k: Pairs) -> [u8; 17]
     ]
 }
 
-fn hand_octets(h: Hand) -> [u8; 5]
+fn hand_octets(h: Hand) -> [u8; places::HAND_SIZE]
     ensures { λ o. ⌜ o ≡ handOctets h ⌝ }
 {
     [
@@ -126,7 +155,7 @@ fn hand_octets(h: Hand) -> [u8; 5]
     ]
 }
 
-fn counts_octets(c: Counts) -> [u8; 20]
+fn counts_octets(c: Counts) -> [u8; places::COUNTS_SIZE]
     ensures { λ o. ⌜ o ≡ countsOctets c ⌝ }
 {
     let h = c.host;
@@ -155,7 +184,7 @@ fn counts_octets(c: Counts) -> [u8; 20]
     ]
 }
 
-fn wires_octets(r: Record) -> [u8; 4]
+fn wires_octets(r: Record) -> [u8; WIRES_SIZE]
     ensures { λ o. ⌜ o ≡ wiresOctets r ⌝ }
 {
     [
@@ -168,19 +197,19 @@ fn wires_octets(r: Record) -> [u8; 4]
 
 // The profile, the host and what it hears.
 fn store_front(area: &mut [u8], at: usize, e: Ends)
-    requires { ⌜ at + 16 ≤ length (now area) ⌝ }
+    requires { ⌜ at + frontSize ≤ length (now area) ⌝ }
     ensures { λ _. ⌜ now (area .exit) ≡ splice (now (area .entry)) at (frontOctets e) ⌝ }
 {
     let profile = profile_octets(e.profile);
     let host = host_octets(e.host);
     let hearing = run_octets(e.hearing);
     octets::put(area, at, &profile);
-    octets::put(area, at + 5, &host);
-    octets::put(area, at + 10, &hearing);
+    octets::put(area, at + HOST_PART, &host);
+    octets::put(area, at + HEARING_PART, &hearing);
 }
 
 fn store_controller(area: &mut [u8], at: usize, k: Controller)
-    requires { ⌜ at + 23 ≤ length (now area) ⌝ }
+    requires { ⌜ at + controllerSize ≤ length (now area) ⌝ }
     ensures { λ _. ⌜ now (area .exit) ≡ splice (now (area .entry)) at (controllerOctets k) ⌝ }
 {
     let phase = k.phase;
@@ -190,23 +219,23 @@ fn store_controller(area: &mut [u8], at: usize, k: Controller)
     let state = rf_octets(rf);
     let pairs = pairs_octets(list);
     octets::put(area, at, &head);
-    octets::put(area, at + 2, &state);
-    octets::put(area, at + 6, &pairs);
+    octets::put(area, at + places::RF_PART, &state);
+    octets::put(area, at + places::PAIRS_PART, &pairs);
 }
 
 // What the controller is asked, and the endpoint's message.
 fn store_middle(area: &mut [u8], at: usize, e: Ends)
-    requires { ⌜ at + 11 ≤ length (now area) ⌝ }
+    requires { ⌜ at + middleSize ≤ length (now area) ⌝ }
     ensures { λ _. ⌜ now (area .exit) ≡ splice (now (area .entry)) at (middleOctets e) ⌝ }
 {
     let asking = run_octets(e.asking);
     let endpoint = hand_octets(e.endpoint);
     octets::put(area, at, &asking);
-    octets::put(area, at + 6, &endpoint);
+    octets::put(area, at + ENDPOINT_PART, &endpoint);
 }
 
 fn store_counts(area: &mut [u8], at: usize, c: Counts)
-    requires { ⌜ at + 20 ≤ length (now area) ⌝ }
+    requires { ⌜ at + countsSize ≤ length (now area) ⌝ }
     ensures { λ _. ⌜ now (area .exit) ≡ splice (now (area .entry)) at (countsOctets c) ⌝ }
 {
     let o = counts_octets(c);
@@ -214,7 +243,7 @@ fn store_counts(area: &mut [u8], at: usize, c: Counts)
 }
 
 fn store_conns(area: &mut [u8], at: usize, conns: [Counts; 5])
-    requires { ⌜ at + 100 ≤ length (now area) ⌝ }
+    requires { ⌜ at + connsSize ≤ length (now area) ⌝ }
     ensures { λ _. ⌜ now (area .exit) ≡ splice (now (area .entry)) at (connsOctets conns) ⌝ }
 {
     let c0 = conns[0];
@@ -223,14 +252,14 @@ fn store_conns(area: &mut [u8], at: usize, conns: [Counts; 5])
     let c3 = conns[3];
     let c4 = conns[4];
     store_counts(area, at, c0);
-    store_counts(area, at + 20, c1);
-    store_counts(area, at + 40, c2);
-    store_counts(area, at + 60, c3);
-    store_counts(area, at + 80, c4);
+    store_counts(area, at + places::COUNTS_1, c1);
+    store_counts(area, at + places::COUNTS_2, c2);
+    store_counts(area, at + places::COUNTS_3, c3);
+    store_counts(area, at + places::COUNTS_4, c4);
 }
 
 fn store_wires(area: &mut [u8], at: usize, r: Record)
-    requires { ⌜ at + 4 ≤ length (now area) ⌝ }
+    requires { ⌜ at + wiresSize ≤ length (now area) ⌝ }
     ensures { λ _. ⌜ now (area .exit) ≡ splice (now (area .entry)) at (wiresOctets r) ⌝ }
 {
     let o = wires_octets(r);
@@ -239,15 +268,15 @@ fn store_wires(area: &mut [u8], at: usize, r: Record)
 
 // The record into its place of the area.
 pub fn encode(area: &mut [u8], r: Record)
-    requires { ⌜ 36864 ≤ length (now area) ⌝ }
-    ensures { λ _. ⌜ now (area .exit) ≡ splice (now (area .entry)) 36352 (encodeOf r) ⌝ }
+    requires { ⌜ areaSize ≤ length (now area) ⌝ }
+    ensures { λ _. ⌜ now (area .exit) ≡ splice (now (area .entry)) recordAt (encodeOf r) ⌝ }
 {
     let ends = r.ends;
     let controller = ends.controller;
     let conns = ends.conns;
-    store_front(area, 36352, ends);
-    store_controller(area, 36368, controller);
-    store_middle(area, 36391, ends);
-    store_conns(area, 36402, conns);
-    store_wires(area, 36502, r);
+    store_front(area, FRONT_AT, ends);
+    store_controller(area, CONTROLLER_AT, controller);
+    store_middle(area, MIDDLE_AT, ends);
+    store_conns(area, CONNS_AT, conns);
+    store_wires(area, WIRES_AT, r);
 }

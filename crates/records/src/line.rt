@@ -1,13 +1,14 @@
 // A line of input to its answer. The form:
 //
-//     no=NAME len=LLLL rec=HEX    the area's length in four digits, up to A000, and up to 154 octets of the record
+//     no=NAME len=LLLL rec=HEX    the area's length in four digits, up to A000, and the octets of the record
 //
 // Digits are capital and hexadecimal. A line of another form is answered by `no=bad`.
 use crate::areas;
+use record::places::END;
 use text::fields;
 use text::fields::Held;
 
-// The most characters of a line: a name, and 308 digits after 14 characters.
+// The most characters of a line: a name, and two digits for each octet of the record.
 const LONGEST: usize = 600;
 
 // The length that two octets are, high first; more than any area has for another number of octets.
@@ -33,7 +34,7 @@ fn length_in(first: &[u8]) -> usize {
 fn put_fields(out: &mut [u8], at: usize, rest: &[u8]) -> usize {
     let end = fields::blank(rest, 1);
     let len = length_in(octets::window(rest, 0, end));
-    let mut b = [0u8; 154];
+    let mut b = [0u8; END];
     let Held::Octets(n) = fields::octets_of(octets::window(rest, end, LONGEST), b" rec=", &mut b)
     else {
         return at;

@@ -7,7 +7,7 @@ mod line;
 use text::lines;
 
 // Writes the answer to a line. A line has at most 600 characters, so that the longest answer has under 1,000: the name, the
-// record's 154 octets and the names of the fields.
+// record's 160 octets and the names of the fields.
 fn reply(line: &[u8]) {
     let mut out = [0u8; 1024];
     let n = line::answer(line, &mut out);

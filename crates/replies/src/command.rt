@@ -5,9 +5,7 @@ use messages::layout;
 use messages::layout::Note;
 use nfcc::controller;
 use packets::Header;
-use state::conn;
-use state::kinds::Counts;
-use state::kinds::Terms;
+use state::runs::CONTROL_LIMIT;
 
 // The packet of a message that was written to the front of a buffer; no octets for no message.
 pub fn put_packet(
@@ -16,7 +14,7 @@ pub fn put_packet(
     label: &[u8],
     mt: u8,
     note: Note,
-    message: &[u8],
+    message: &[u8; CONTROL_LIMIT],
 ) -> usize {
     let n = text::put(out, at, label);
     let len = note.len;
@@ -46,9 +44,9 @@ pub fn put_answer(out: &mut [u8], at: usize, s: State, c: &[u8]) -> usize {
     let k = s.controller;
     let conns = s.conns;
     let v = controller::judge(p, k, conns, gid, oid, octets::window(c, 2, 255));
-    let mut rsp = [0u8; 43];
+    let mut rsp = [0u8; CONTROL_LIMIT];
     let response = layout::response(&mut rsp, gid, oid, p, v);
-    let mut ntf = [0u8; 43];
+    let mut ntf = [0u8; CONTROL_LIMIT];
     let notice = layout::notice(&mut ntf, v);
     let mut n = put_packet(out, at, b" rsp=", packets::RESPONSE, response, &rsp);
     n = put_packet(out, n, b" ntf=", packets::NOTIFICATION, notice, &ntf);
@@ -58,26 +56,4 @@ pub fn put_answer(out: &mut [u8], at: usize, s: State, c: &[u8]) -> usize {
         controller::controller_after(k, v),
         controller::conns_after(conns, v),
     )
-}
-
-// A connection that is open at the controller and owes credits.
-fn owing(conns: [Counts; 5], id: u8, owed: u8) -> [Counts; 5] {
-    let mut side = conn::opened_controller(Terms {
-        payload: 1,
-        credits: 8,
-    });
-    side.owed = owed;
-    conn::with_controller(conns, id, side)
-}
-
-// The fields that answer what is owed on the five connections: the credit notice.
-pub fn put_credits(out: &mut [u8], at: usize, owed: &[u8]) -> usize {
-    let a = owing(given::all_closed(), 0, octets::octet_at(owed, 0));
-    let b = owing(a, 2, octets::octet_at(owed, 1));
-    let c = owing(b, 3, octets::octet_at(owed, 2));
-    let d = owing(c, 4, octets::octet_at(owed, 3));
-    let e = owing(d, 5, octets::octet_at(owed, 4));
-    let mut ntf = [0u8; 43];
-    let notice = layout::credits_ntf(&mut ntf, e);
-    put_packet(out, at, b" ntf=", packets::NOTIFICATION, notice, &ntf)
 }

@@ -169,13 +169,25 @@ fn opened_where(yes: bool, conns: [Counts; 5], id: u8, p: Profile) -> [Counts; 5
     }
 }
 
+// The bits of a mask: whether each of the five connections is open.
+pub fn opens(mask: u8) -> [bool; 5] {
+    [
+        mask % 2 == 1,
+        mask / 2 % 2 == 1,
+        mask / 4 % 2 == 1,
+        mask / 8 % 2 == 1,
+        mask / 16 % 2 == 1,
+    ]
+}
+
 // The connections that the bits of a mask open.
 fn conns_of(mask: u8, p: Profile) -> [Counts; 5] {
-    let a = opened_where(mask % 2 == 1, all_closed(), 0, p);
-    let b = opened_where(mask / 2 % 2 == 1, a, 2, p);
-    let c = opened_where(mask / 4 % 2 == 1, b, 3, p);
-    let d = opened_where(mask / 8 % 2 == 1, c, 4, p);
-    opened_where(mask / 16 % 2 == 1, d, 5, p)
+    let on = opens(mask);
+    let a = opened_where(on[0], all_closed(), 0, p);
+    let b = opened_where(on[1], a, 2, p);
+    let c = opened_where(on[2], b, 3, p);
+    let d = opened_where(on[3], c, 4, p);
+    opened_where(on[4], d, 5, p)
 }
 
 pub fn state_of(o: &[u8]) -> State {

@@ -54,11 +54,12 @@ fn joined_where(yes: bool, conns: [Counts; 5], id: u8) -> [Counts; 5] {
 
 // The connections that the bits of a mask open.
 fn conns_of(mask: u8) -> [Counts; 5] {
-    let a = joined_where(mask % 2 == 1, given::all_closed(), 0);
-    let b = joined_where(mask / 2 % 2 == 1, a, 2);
-    let c = joined_where(mask / 4 % 2 == 1, b, 3);
-    let d = joined_where(mask / 8 % 2 == 1, c, 4);
-    joined_where(mask / 16 % 2 == 1, d, 5)
+    let on = given::opens(mask);
+    let a = joined_where(on[0], given::all_closed(), 0);
+    let b = joined_where(on[1], a, 2);
+    let c = joined_where(on[2], b, 3);
+    let d = joined_where(on[3], c, 4);
+    joined_where(on[4], d, 5)
 }
 
 // The mask of the connections that are open at the host.
@@ -100,7 +101,7 @@ fn put_credits(out: &mut [u8], at: usize, m: &[u8]) -> usize {
 }
 
 // What the host hears, and with which octets.
-fn put_heard(out: &mut [u8], at: usize, x: Heard, m: &[u8]) -> usize {
+pub fn put_heard(out: &mut [u8], at: usize, x: Heard, m: &[u8]) -> usize {
     match x {
         Heard::Nothing => text::put(out, at, b" heard=nothing with="),
         Heard::Dropped => text::put(out, at, b" heard=dropped with="),
@@ -123,14 +124,6 @@ fn put_pending(out: &mut [u8], at: usize, p: Pending) -> usize {
     }
 }
 
-// The connections after what the host heard: a credit notice opens and closes none.
-fn conns_after(conns: [Counts; 5], m: &[u8], x: Heard) -> [Counts; 5] {
-    if let Heard::Credits = x {
-        return conns;
-    }
-    host::conns_heard(conns, m, x)
-}
-
 // The host after what it heard: the drop flag, its numbers and its connections.
 fn put_after(out: &mut [u8], at: usize, o: &[u8], x: Heard, m: &[u8]) -> usize {
     let conns = conns_of(octets::octet_at(o, 1));
@@ -139,7 +132,8 @@ fn put_after(out: &mut [u8], at: usize, o: &[u8], x: Heard, m: &[u8]) -> usize {
     let mut n = text::put_flag(out, at, b" drop=", host::drop_heard(conns, m, x));
     n = text::put_octets(out, n, b" size=", &[h.size]);
     n = put_pending(out, n, pending);
-    text::put_octets(out, n, b" open=", &[mask_of(conns_after(conns, m, x))])
+    let next = host::conns_heard(conns, m, x);
+    text::put_octets(out, n, b" open=", &[mask_of(next)])
 }
 
 // The fields that answer a packet. What the reader drops, the host drops; a data packet or a part of a message is no whole

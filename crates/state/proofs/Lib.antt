@@ -1,5 +1,6 @@
 pub mod Progress
 pub mod Chains
 pub mod Places
+pub mod Limits
 pub mod Conns
 pub mod Steady

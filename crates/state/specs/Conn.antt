@@ -4,7 +4,7 @@ use Prim.Native.Nat.{ℕ, _+_, _%_}
 use mathlib.Core.Bool.{Bool, true, false, not, _&&_}
 use mathlib.Core.List.{List}
 use lib.ListN.{getD, set}
-use lib.Dec.{eqb}
+use lib.Dec.{eqb, ltb}
 use Rattle.octets.specs.Octets.{pick}
 use Rattle.state.specs.Kinds.{Terms, Profile, Progress, Hand, Ring, HostSide, ControllerSide, Counts}
 
@@ -60,6 +60,10 @@ empty = record { full = false; len = 0; at = 0 }
 -- a message of n octets was put in hand
 abbrev pub handWith : ℕ → Hand
 handWith n = record { full = true; len = n; at = 0 }
+
+-- a segment of at most size octets has gone: the next one starts after it, or the message is gone whole
+abbrev pub handAfter : ℕ → Hand → Hand
+handAfter size h = pick (ltb (h .at + size) (h .len)) (record { full = true; len = h .len; at = h .at + size }) empty
 
 abbrev pub emptyRing : Ring
 emptyRing = record { head = 0; count = 0 }

@@ -9,10 +9,16 @@ pub use Rattle.state.specs.declared.kinds.ControlRun.{ControlRun}
 pub use Rattle.state.specs.declared.kinds.Controller.{Controller}
 pub use Rattle.state.specs.declared.kinds.ControllerSide.{ControllerSide}
 pub use Rattle.state.specs.declared.kinds.Counts.{Counts}
+pub use Rattle.state.specs.declared.kinds.Ends.{Ends}
 pub use Rattle.state.specs.declared.kinds.Hand.{Hand}
+pub use Rattle.state.specs.declared.kinds.Host.{Host}
 pub use Rattle.state.specs.declared.kinds.HostSide.{HostSide}
 pub use Rattle.state.specs.declared.kinds.Pair.{Pair}
 pub use Rattle.state.specs.declared.kinds.Pairs.{Pairs}
+pub use Rattle.state.specs.declared.kinds.Pending.{Pending}
+pub use Rattle.state.specs.declared.kinds.Pending.the-variants as pending
+pub use Rattle.state.specs.declared.kinds.Phase.{Phase}
+pub use Rattle.state.specs.declared.kinds.Phase.the-variants as phase
 pub use Rattle.state.specs.declared.kinds.Profile.{Profile}
 pub use Rattle.state.specs.declared.kinds.Progress.{Progress}
 pub use Rattle.state.specs.declared.kinds.Rf.{Rf}

@@ -3,3 +3,5 @@ pub mod Conn
 pub mod Radio
 pub mod Runs
 pub mod Commands
+pub mod Profile
+pub mod Cold

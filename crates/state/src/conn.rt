@@ -8,7 +8,7 @@ use crate::kinds::Progress;
 use crate::kinds::Ring;
 use crate::kinds::Terms;
 ghost use mathlib.Core.Path.{_≡_};
-ghost use Rattle.state.specs.Conn.{placeOf, connOf, termsOf, metered, creditSum, owing, countsOf, heldOpen, openAt, start, empty, handWith, closedController, openedController, closedHost, openedHost, withController, withHost, shutAt, openedAt, allShut, leftAt, joinedAt, allLeft, noticedSide, noticedAt, allNoticed};
+ghost use Rattle.state.specs.Conn.{placeOf, connOf, termsOf, metered, creditSum, owing, countsOf, heldOpen, openAt, start, empty, handWith, handAfter, closedController, openedController, closedHost, openedHost, withController, withHost, shutAt, openedAt, allShut, leftAt, joinedAt, allLeft, noticedSide, noticedAt, allNoticed};
 
 // The credits octet for no flow control.
 pub const UNMETERED: u8 = 255;
@@ -141,6 +141,21 @@ pub fn hand_with(n: usize) -> Hand
         full: true,
         len: n,
         at: 0,
+    }
+}
+
+// A message in hand after a segment of at most size octets has gone.
+pub fn hand_after(size: usize, h: Hand) -> Hand
+    ensures { λ r. ⌜ r ≡ handAfter size h ⌝ }
+{
+    if packets::follows(h.len, h.at, size) {
+        Hand {
+            full: true,
+            len: h.len,
+            at: h.at + size,
+        }
+    } else {
+        empty_hand()
     }
 }
 

@@ -25,7 +25,7 @@ pub struct ControlJoined {
 }
 
 // Whether a segment of n octets is within the limit.
-fn fits(limit: usize, p: Progress, n: usize) -> bool
+pub fn fits(limit: usize, p: Progress, n: usize) -> bool
     ensures { λ r. ⌜ r ≡ within limit p n ⌝ }
 {
     if p.lost {

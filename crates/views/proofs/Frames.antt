@@ -7,17 +7,18 @@ use mathlib.Core.Path.{_≡_, refl, sym, ap, _∙_, subst}
 use mathlib.Core.Logic.{_⊎_, inl, inr}
 use mathlib.Core.Bool.{Bool, true, false}
 use mathlib.Core.List.{List, []}
-use lib.ListN.{length, getD, set, List·getD-eq-default}
+use lib.ListN.{length, getD, set}
 use lib.Seq.{getD-set-same, getD-set-other}
 use lib.Dec.{eqb}
 use borrow.Author.Tests.{eqb-true, eqb-false}
 use Rattle.octets.specs.Octets.{Octets, pick, cut, splice}
 use Rattle.packets.specs.Segments.{Segment}
 use Rattle.views.specs.Kinds.{Hand, Counts}
-use Rattle.state.specs.Conn.{placeOf, connOf, closedCounts, countsOf}
-use Rattle.state.proofs.Places.{conn-place}
+use Rattle.state.specs.Conn.{placeOf, closedCounts, countsOf}
+use Rattle.state.proofs.Places.{places-differ}
+use Rattle.state.proofs.Conns.{past-five}
 use Rattle.record.specs.Fit.{FitCounts}
-use Rattle.area.specs.Map.{storeAt, handAt, endpointAt, hostRunAt, controllerRunAt}
+use Rattle.area.specs.Map.{payloadSize, storeSlots, storeSize, messageSize, places, storeAt, handAt, endpointAt, hostRunAt, controllerRunAt}
 use Rattle.area.specs.Ring.{tab, packetsFrom}
 use Rattle.area.proofs.Rings.{apart, store}
 use Rattle.model.specs.Connection.{Connection}
@@ -48,10 +49,10 @@ same-outside lo hi at n a b (inr h) o i k l m = o i k (inr (omega arith))
 
 -- a place's store, message in hand and runs are kept
 pub record KeptAt (p : ℕ) (a b : Octets) : Type 0 where
-  pub store : Same (storeAt p) 2064 a b
-  pub hand : Same (handAt p) 1024 a b
-  pub host-run : Same (hostRunAt p) 1024 a b
-  pub controller-run : Same (controllerRunAt p) 1024 a b
+  pub store : Same (storeAt p) storeSize a b
+  pub hand : Same (handAt p) messageSize a b
+  pub host-run : Same (hostRunAt p) messageSize a b
+  pub controller-run : Same (controllerRunAt p) messageSize a b
 
 pub connection-kept : (p : ℕ) (a b : Octets) (k : Counts) (s : List Segment) → FitCounts k → KeptAt p a b → connectionOf p b k s ≡ connectionOf p a k s
 connection-kept p a b k s f kept i =
@@ -63,15 +64,15 @@ connection-kept p a b k s f kept i =
             grant = k .host .grant;
             held = k .host .held;
             hand = hand-same (handAt p) (k .host .payload) a b (k .host .hand) (f .hand .at) (f .hand .len) (kept .hand) i;
-            run = run-same (hostRunAt p) 1024 a b (k .host .run) (f .host-run) (kept .host-run) i;
+            run = run-same (hostRunAt p) messageSize a b (k .host .run) (f .host-run) (kept .host-run) i;
           };
       controller =
           record {
             opened = k .controller .opened;
             grant = k .controller .grant;
             owed = k .controller .owed;
-            store = packets-same (storeAt p) 8 store a b (k .controller .store) (kept .store) i;
-            run = run-same (controllerRunAt p) 1024 a b (k .controller .run) (f .controller-run) (kept .controller-run) i;
+            store = packets-same (storeAt p) storeSlots store a b (k .controller .store) (kept .store) i;
+            run = run-same (controllerRunAt p) messageSize a b (k .controller .run) (f .controller-run) (kept .controller-run) i;
             speech = s;
           };
     }
@@ -81,38 +82,29 @@ none-kept : (p : ℕ) (a b : Octets) (s : List Segment) → connectionOf p b clo
 unfolding handOf runOf packetsFrom tab cut
 none-kept p a b s = refl
 
--- ---- Conn IDs and places
-
-past-five : (l : List Counts) (p : ℕ) → length l ≡ 5 → (p < 5 → ⊥) → getD l p closedCounts ≡ closedCounts
-past-five l p n h = let m : length l ≤ p = omega arith in List·getD-eq-default l closedCounts m
-
--- two connections have two places
-pub places-differ : (c d : ℕ) → placeOf c < 5 → (c ≡ d → ⊥) → placeOf c ≡ placeOf d → ⊥
-places-differ c d h ne e = ne (sym (conn-place c h) ∙ ap connOf e ∙ conn-place d (subst (λ (p : ℕ). p < 5) e h))
-
 -- ---- all connections
 
-module _ (a b : Octets) (conns : List Counts) (n : length conns ≡ 5) (fits : (p : ℕ) → p < 5 → FitCounts (getD conns p closedCounts)) where
+module _ (a b : Octets) (conns : List Counts) (n : length conns ≡ 5) (fits : (p : ℕ) → p < places → FitCounts (getD conns p closedCounts)) where
   -- one whose place is kept
-  pub conn-kept : (d : ℕ) (s : List Segment) → (placeOf d < 5 → KeptAt (placeOf d) a b) → connectionOf (placeOf d) b (countsOf conns d) s ≡ connectionOf (placeOf d) a (countsOf conns d) s
+  pub conn-kept : (d : ℕ) (s : List Segment) → (placeOf d < places → KeptAt (placeOf d) a b) → connectionOf (placeOf d) b (countsOf conns d) s ≡ connectionOf (placeOf d) a (countsOf conns d) s
   conn-kept d s kept = go (decLt (placeOf d) 5)
     where
-      go : Dec (placeOf d < 5) → connectionOf (placeOf d) b (countsOf conns d) s ≡ connectionOf (placeOf d) a (countsOf conns d) s
+      go : Dec (placeOf d < places) → connectionOf (placeOf d) b (countsOf conns d) s ≡ connectionOf (placeOf d) a (countsOf conns d) s
       go (yes l) = connection-kept (placeOf d) a b (countsOf conns d) s (fits (placeOf d) l) (kept l)
       go (no l) =
           let e : countsOf conns d ≡ closedCounts = past-five conns (placeOf d) n l in
           ap (λ (k : Counts). connectionOf (placeOf d) b k s) e ∙ none-kept (placeOf d) a b s ∙ ap (λ (k : Counts). connectionOf (placeOf d) a k s) (sym e)
 
   -- all of them
-  pub conns-kept : (h : Hand) → ((p : ℕ) → p < 5 → KeptAt p a b) → handOf endpointAt 255 b h ≡ handOf endpointAt 255 a h → connsOf b h conns ≡ connsOf a h conns
+  pub conns-kept : (h : Hand) → ((p : ℕ) → p < places → KeptAt p a b) → handOf endpointAt payloadSize b h ≡ handOf endpointAt payloadSize a h → connsOf b h conns ≡ connsOf a h conns
   conns-kept h kept e i d =
       ((λ j. connectionOf (placeOf d) b (countsOf conns d) (pick (eqb 0 d) (e j) []))
       ∙ conn-kept d (speechOf a h d) (kept (placeOf d))) i
 
   -- all but one, which is changed
-  pub conns-changed : (c : ℕ) → placeOf c < 5 → (g h : Hand) (k : Counts) (f : Connection → Connection)
+  pub conns-changed : (c : ℕ) → placeOf c < places → (g h : Hand) (k : Counts) (f : Connection → Connection)
       → connectionOf (placeOf c) b k (speechOf b g c) ≡ f (connectionOf (placeOf c) a (countsOf conns c) (speechOf a h c))
-      → ((p : ℕ) → p < 5 → (placeOf c ≡ p → ⊥) → KeptAt p a b)
+      → ((p : ℕ) → p < places → (placeOf c ≡ p → ⊥) → KeptAt p a b)
       → ((d : ℕ) → (c ≡ d → ⊥) → speechOf b g d ≡ speechOf a h d)
       → connsOf b g (set conns (placeOf c) k) ≡ at c f (connsOf a h conns)
   conns-changed c l g h k f e kept speech i d = go (eqb c d) refl i

@@ -6,3 +6,4 @@ pub mod Places
 pub mod Others
 pub mod Commands
 pub mod Whole
+pub mod Stored

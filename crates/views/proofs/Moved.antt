@@ -11,12 +11,12 @@ use Rattle.octets.proofs.Octets.{length-cut}
 use Rattle.views.specs.Kinds.{Header, Record}
 use Rattle.packets.specs.Packet.{packetOf}
 use Rattle.packets.proofs.Packet.{length-packet}
-use Rattle.area.specs.Map.{downAt, upAt, storeAt, handAt, endpointAt, hostRunAt, controllerRunAt, askingAt, hearingAt}
+use Rattle.area.specs.Map.{downAt, upAt, storeAt, handAt, endpointAt, hostRunAt, controllerRunAt, askingAt, hearingAt, payloadSize, slotSize, wireSlots, wireSize, storeSize, messageSize, controlSize, storesAt}
 use Rattle.area.specs.Ring.{slotPacket, trim, freeAt, tookFrom, putInto}
 use Rattle.area.proofs.Rings.{slot-written, slot-copied, wire, packets-put, packets-took}
+use Rattle.record.specs.Plan.{withDown, withUp}
 use Rattle.model.specs.State as bench
 use Rattle.views.specs.View.{handOf, controlRunOf, connsOf, downOf, upOf, view}
-use Rattle.views.specs.Plan.{withDown, withUp}
 use Rattle.views.specs.Moves.{Sound}
 use Rattle.views.proofs.Parts.{Same, hand-same, run-same, packets-same}
 use Rattle.views.proofs.Frames.{Outside, outside-splice, same-outside, conns-kept}
@@ -24,22 +24,22 @@ use Rattle.views.proofs.Frames.{Outside, outside-splice, same-outside, 
 -- ---- parts that a write leaves alone
 
 module _ (a b : Octets) (r : Record) (s : Sound a r) where
-  pub hearing-kept : Same hearingAt 255 a b → controlRunOf hearingAt b (r .ends .hearing) ≡ controlRunOf hearingAt a (r .ends .hearing)
+  pub hearing-kept : Same hearingAt controlSize a b → controlRunOf hearingAt b (r .ends .hearing) ≡ controlRunOf hearingAt a (r .ends .hearing)
   hearing-kept k i =
-      record { mt = r .ends .hearing .mt; gid = r .ends .hearing .gid; oid = r .ends .hearing .oid; run = run-same hearingAt 255 a b (r .ends .hearing .run) (s .fit .hearing) k i }
+      record { mt = r .ends .hearing .mt; gid = r .ends .hearing .gid; oid = r .ends .hearing .oid; run = run-same hearingAt controlSize a b (r .ends .hearing .run) (s .fit .own .hearing) k i }
 
-  pub asking-kept : Same askingAt 255 a b → controlRunOf askingAt b (r .ends .asking) ≡ controlRunOf askingAt a (r .ends .asking)
+  pub asking-kept : Same askingAt controlSize a b → controlRunOf askingAt b (r .ends .asking) ≡ controlRunOf askingAt a (r .ends .asking)
   asking-kept k i =
-      record { mt = r .ends .asking .mt; gid = r .ends .asking .gid; oid = r .ends .asking .oid; run = run-same askingAt 255 a b (r .ends .asking .run) (s .fit .asking) k i }
+      record { mt = r .ends .asking .mt; gid = r .ends .asking .gid; oid = r .ends .asking .oid; run = run-same askingAt controlSize a b (r .ends .asking .run) (s .fit .own .asking) k i }
 
-  pub endpoint-kept : Same endpointAt 1024 a b → handOf endpointAt 255 b (r .ends .endpoint) ≡ handOf endpointAt 255 a (r .ends .endpoint)
-  endpoint-kept k = hand-same endpointAt 255 a b (r .ends .endpoint) (s .fit .endpoint .at) (s .fit .endpoint .len) k
+  pub endpoint-kept : Same endpointAt messageSize a b → handOf endpointAt payloadSize b (r .ends .endpoint) ≡ handOf endpointAt payloadSize a (r .ends .endpoint)
+  endpoint-kept k = hand-same endpointAt payloadSize a b (r .ends .endpoint) (s .fit .own .endpoint .at) (s .fit .own .endpoint .len) k
 
-  pub down-kept : Same downAt 4128 a b → downOf b r ≡ downOf a r
-  down-kept k = packets-same downAt 16 wire a b (r .down) k
+  pub down-kept : Same downAt wireSize a b → downOf b r ≡ downOf a r
+  down-kept k = packets-same downAt wireSlots wire a b (r .down) k
 
-  pub up-kept : Same upAt 4128 a b → upOf b r ≡ upOf a r
-  up-kept k = packets-same upAt 16 wire a b (r .up) k
+  pub up-kept : Same upAt wireSize a b → upOf b r ≡ upOf a r
+  up-kept k = packets-same upAt wireSlots wire a b (r .up) k
 
   -- what is written on the wires leaves the rest
   pub record Off (lo hi : ℕ) : Type 0 where
@@ -47,36 +47,36 @@ module _ (a b : Octets) (r : Record) (s : Sound a r) where
     pub asking : controlRunOf askingAt b (r .ends .asking) ≡ controlRunOf askingAt a (r .ends .asking)
     pub conns : connsOf b (r .ends .endpoint) (r .ends .conns) ≡ connsOf a (r .ends .endpoint) (r .ends .conns)
 
-  pub on-wires : (lo hi : ℕ) → hi ≤ 8256 → Outside lo hi a b → Off lo hi
+  pub on-wires : (lo hi : ℕ) → hi ≤ storesAt → Outside lo hi a b → Off lo hi
   on-wires lo hi h o =
       record {
-        hearing = hearing-kept (same-outside lo hi hearingAt 255 a b (inr (omega arith)) o);
-        asking = asking-kept (same-outside lo hi askingAt 255 a b (inr (omega arith)) o);
+        hearing = hearing-kept (same-outside lo hi hearingAt controlSize a b (inr (omega arith)) o);
+        asking = asking-kept (same-outside lo hi askingAt controlSize a b (inr (omega arith)) o);
         conns =
             conns-kept a b (r .ends .conns) (s .shape .conns) (s .fit .conns) (r .ends .endpoint)
             (λ p l.
             record {
-              store = same-outside lo hi (storeAt p) 2064 a b (inr (omega arith)) o;
-              hand = same-outside lo hi (handAt p) 1024 a b (inr (omega arith)) o;
-              host-run = same-outside lo hi (hostRunAt p) 1024 a b (inr (omega arith)) o;
-              controller-run = same-outside lo hi (controllerRunAt p) 1024 a b (inr (omega arith)) o;
+              store = same-outside lo hi (storeAt p) storeSize a b (inr (omega arith)) o;
+              hand = same-outside lo hi (handAt p) messageSize a b (inr (omega arith)) o;
+              host-run = same-outside lo hi (hostRunAt p) messageSize a b (inr (omega arith)) o;
+              controller-run = same-outside lo hi (controllerRunAt p) messageSize a b (inr (omega arith)) o;
             })
-            (endpoint-kept (same-outside lo hi endpointAt 1024 a b (inr (omega arith)) o));
+            (endpoint-kept (same-outside lo hi endpointAt messageSize a b (inr (omega arith)) o));
       }
 
 -- ---- the down wire
 
 module _ (a : Octets) (r : Record) (s : Sound a r) where
   -- where a slot of a wire ends
-  down-slot : (v : Octets) → length v ≤ 258 → freeAt downAt 16 (r .down) + length v ≤ 4128
+  down-slot : (v : Octets) → length v ≤ slotSize → freeAt downAt wireSlots (r .down) + length v ≤ upAt
   down-slot v h = omega arith
 
-  puts-down-as : (v x : Octets) → length v ≤ 258 → r .down .count < 16 → slotPacket downAt (splice a (freeAt downAt 16 (r .down)) v) ((r .down .head + r .down .count) % 16) ≡ x
-      → view (splice a (freeAt downAt 16 (r .down)) v) (withDown (putInto (r .down)) r) ≡ bench.withDown (downOf a r ++ (x ∷ [])) (view a r)
+  puts-down-as : (v x : Octets) → length v ≤ slotSize → r .down .count < wireSlots → slotPacket downAt (splice a (freeAt downAt wireSlots (r .down)) v) ((r .down .head + r .down .count) % wireSlots) ≡ x
+      → view (splice a (freeAt downAt wireSlots (r .down)) v) (withDown (putInto (r .down)) r) ≡ bench.withDown (downOf a r ++ (x ∷ [])) (view a r)
   puts-down-as v x h l e i =
-      let b : Octets = splice a (freeAt downAt 16 (r .down)) v in
-      let o : Outside 0 4128 a b = outside-splice 0 4128 a (freeAt downAt 16 (r .down)) v (omega arith) (down-slot v h) in
-      let off = on-wires a b r s 0 4128 (omega arith) o in
+      let b : Octets = splice a (freeAt downAt wireSlots (r .down)) v in
+      let o : Outside downAt upAt a b = outside-splice downAt upAt a (freeAt downAt wireSlots (r .down)) v (omega arith) (down-slot v h) in
+      let off = on-wires a b r s downAt upAt (omega arith) o in
       record {
         profile = r .ends .profile;
         host = r .ends .host;
@@ -84,31 +84,31 @@ module _ (a : Octets) (r : Record) (s : Sound a r) where
         hearing = off .hearing i;
         asking = off .asking i;
         conns = off .conns i;
-        down = packets-put downAt 16 wire a (r .down) v x l h e i;
-        up = up-kept a b r s (same-outside 0 4128 upAt 4128 a b (inr (omega arith)) o) i;
+        down = packets-put downAt wireSlots wire a (r .down) v x l h e i;
+        up = up-kept a b r s (same-outside downAt upAt upAt wireSize a b (inr (omega arith)) o) i;
       }
 
-  pub put-down : (h : Header) (m : Octets) → length m ≤ 255 → r .down .count < 16
-      → view (splice a (freeAt downAt 16 (r .down)) (packetOf h m)) (withDown (putInto (r .down)) r) ≡ bench.withDown (downOf a r ++ (packetOf h m ∷ [])) (view a r)
+  pub put-down : (h : Header) (m : Octets) → length m ≤ payloadSize → r .down .count < wireSlots
+      → view (splice a (freeAt downAt wireSlots (r .down)) (packetOf h m)) (withDown (putInto (r .down)) r) ≡ bench.withDown (downOf a r ++ (packetOf h m ∷ [])) (view a r)
   put-down h m k l =
       puts-down-as (packetOf h m) (packetOf h m) (omega (arith, length-packet h m)) l
-      (slot-written downAt a ((r .down .head + r .down .count) % 16) h m k (omega (arith, s .room)))
+      (slot-written downAt a ((r .down .head + r .down .count) % wireSlots) h m k (omega (arith, s .room)))
 
   pub took-down : 0 < r .down .count
-      → view a r ≡ bench.withDown (slotPacket downAt a (r .down .head) ∷ downOf a (withDown (tookFrom 16 (r .down)) r)) (view a (withDown (tookFrom 16 (r .down)) r))
-  took-down h i = bench.withDown (packets-took downAt 16 wire a (r .down) (s .fit .down .head) h i) (view a r)
+      → view a r ≡ bench.withDown (slotPacket downAt a (r .down .head) ∷ downOf a (withDown (tookFrom wireSlots (r .down)) r)) (view a (withDown (tookFrom wireSlots (r .down)) r))
+  took-down h i = bench.withDown (packets-took downAt wireSlots wire a (r .down) (s .fit .down .head) h i) (view a r)
 
   -- ---- the up wire
 
-  up-slot : (v : Octets) → length v ≤ 258 → freeAt upAt 16 (r .up) + length v ≤ 8256
+  up-slot : (v : Octets) → length v ≤ slotSize → freeAt upAt wireSlots (r .up) + length v ≤ storesAt
   up-slot v h = omega arith
 
-  puts-up-as : (v x : Octets) → length v ≤ 258 → r .up .count < 16 → slotPacket upAt (splice a (freeAt upAt 16 (r .up)) v) ((r .up .head + r .up .count) % 16) ≡ x
-      → view (splice a (freeAt upAt 16 (r .up)) v) (withUp (putInto (r .up)) r) ≡ bench.withUp (upOf a r ++ (x ∷ [])) (view a r)
+  puts-up-as : (v x : Octets) → length v ≤ slotSize → r .up .count < wireSlots → slotPacket upAt (splice a (freeAt upAt wireSlots (r .up)) v) ((r .up .head + r .up .count) % wireSlots) ≡ x
+      → view (splice a (freeAt upAt wireSlots (r .up)) v) (withUp (putInto (r .up)) r) ≡ bench.withUp (upOf a r ++ (x ∷ [])) (view a r)
   puts-up-as v x h l e i =
-      let b : Octets = splice a (freeAt upAt 16 (r .up)) v in
-      let o : Outside 4128 8256 a b = outside-splice 4128 8256 a (freeAt upAt 16 (r .up)) v (omega arith) (up-slot v h) in
-      let off = on-wires a b r s 4128 8256 (omega arith) o in
+      let b : Octets = splice a (freeAt upAt wireSlots (r .up)) v in
+      let o : Outside upAt storesAt a b = outside-splice upAt storesAt a (freeAt upAt wireSlots (r .up)) v (omega arith) (up-slot v h) in
+      let off = on-wires a b r s upAt storesAt (omega arith) o in
       record {
         profile = r .ends .profile;
         host = r .ends .host;
@@ -116,23 +116,23 @@ module _ (a : Octets) (r : Record) (s : Sound a r) where
         hearing = off .hearing i;
         asking = off .asking i;
         conns = off .conns i;
-        down = down-kept a b r s (same-outside 4128 8256 downAt 4128 a b (inl (omega arith)) o) i;
-        up = packets-put upAt 16 wire a (r .up) v x l h e i;
+        down = down-kept a b r s (same-outside upAt storesAt downAt wireSize a b (inl (omega arith)) o) i;
+        up = packets-put upAt wireSlots wire a (r .up) v x l h e i;
       }
 
-  pub put-up : (h : Header) (m : Octets) → length m ≤ 255 → r .up .count < 16
-      → view (splice a (freeAt upAt 16 (r .up)) (packetOf h m)) (withUp (putInto (r .up)) r) ≡ bench.withUp (upOf a r ++ (packetOf h m ∷ [])) (view a r)
+  pub put-up : (h : Header) (m : Octets) → length m ≤ payloadSize → r .up .count < wireSlots
+      → view (splice a (freeAt upAt wireSlots (r .up)) (packetOf h m)) (withUp (putInto (r .up)) r) ≡ bench.withUp (upOf a r ++ (packetOf h m ∷ [])) (view a r)
   put-up h m k l =
       puts-up-as (packetOf h m) (packetOf h m) (omega (arith, length-packet h m)) l
-      (slot-written upAt a ((r .up .head + r .up .count) % 16) h m k (omega (arith, s .room)))
+      (slot-written upAt a ((r .up .head + r .up .count) % wireSlots) h m k (omega (arith, s .room)))
 
-  pub echo-up : (from : ℕ) → from + 258 ≤ length a → r .up .count < 16
-      → view (splice a (freeAt upAt 16 (r .up)) (cut from 258 a)) (withUp (putInto (r .up)) r) ≡ bench.withUp (upOf a r ++ (trim (cut from 258 a) ∷ [])) (view a r)
+  pub echo-up : (from : ℕ) → from + slotSize ≤ length a → r .up .count < wireSlots
+      → view (splice a (freeAt upAt wireSlots (r .up)) (cut from slotSize a)) (withUp (putInto (r .up)) r) ≡ bench.withUp (upOf a r ++ (trim (cut from slotSize a) ∷ [])) (view a r)
   echo-up from k l =
-      let n : length (cut from 258 a) ≡ 258 = length-cut from 258 a k in
-      puts-up-as (cut from 258 a) (trim (cut from 258 a)) (omega arith) l
-      (slot-copied upAt a ((r .up .head + r .up .count) % 16) (cut from 258 a) n (omega (arith, s .room)))
+      let n : length (cut from slotSize a) ≡ slotSize = length-cut from slotSize a k in
+      puts-up-as (cut from slotSize a) (trim (cut from slotSize a)) (omega arith) l
+      (slot-copied upAt a ((r .up .head + r .up .count) % wireSlots) (cut from slotSize a) n (omega (arith, s .room)))
 
   pub took-up : 0 < r .up .count
-      → view a r ≡ bench.withUp (slotPacket upAt a (r .up .head) ∷ upOf a (withUp (tookFrom 16 (r .up)) r)) (view a (withUp (tookFrom 16 (r .up)) r))
-  took-up h i = bench.withUp (packets-took upAt 16 wire a (r .up) (s .fit .up .head) h i) (view a r)
+      → view a r ≡ bench.withUp (slotPacket upAt a (r .up .head) ∷ upOf a (withUp (tookFrom wireSlots (r .up)) r)) (view a (withUp (tookFrom wireSlots (r .up)) r))
+  took-up h i = bench.withUp (packets-took upAt wireSlots wire a (r .up) (s .fit .up .head) h i) (view a r)

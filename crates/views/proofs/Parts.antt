@@ -14,11 +14,11 @@ use Rattle.packets.specs.Segments.{Segment, segments, segmentAt}
 use Rattle.packets.proofs.Segments.{segments-step}
 use Rattle.packets.specs.Reassembly.{run, lost}
 use Rattle.views.specs.Kinds.{Progress, Hand, Ring}
+use Rattle.area.specs.Map.{slotSize, messageSize}
 use Rattle.area.specs.Ring.{slotAt, trim, slotPacket, packetsIn}
+use Rattle.state.specs.Conn.{handAfter, empty}
 use Rattle.area.proofs.Rings.{apart, Size, packets-kept}
-use Rattle.state.specs.Conn.{empty}
 use Rattle.views.specs.View.{handOf, runOf}
-use Rattle.views.specs.Plan.{handAfter}
 
 -- ---- what a write leaves alone
 
@@ -31,7 +31,7 @@ pub same-apart : (lo n : ℕ) (a : Octets) (at : ℕ) (v : Octets) → (lo + n �
 same-apart lo n a at v (inl h) i k l m = apart a at v i k (inl (omega arith))
 same-apart lo n a at v (inr h) i k l m = apart a at v i k (inr (omega arith))
 
-pub hand-same : (base size : ℕ) (a b : Octets) (h : Hand) → h .at ≤ h .len → h .len ≤ 1024 → Same base 1024 a b → handOf base size b h ≡ handOf base size a h
+pub hand-same : (base size : ℕ) (a b : Octets) (h : Hand) → h .at ≤ h .len → h .len ≤ messageSize → Same base messageSize a b → handOf base size b h ≡ handOf base size a h
 unfolding handOf
 hand-same base size a b h l m s = ap (λ (v : Octets). pick (h .full) (segments size v) []) (s (base + h .at) (h .len - h .at) (omega arith) (omega arith))
 
@@ -39,11 +39,11 @@ pub run-same : (base room : ℕ) (a b : Octets) (p : Progress) → p .len ≤ ro
 unfolding runOf
 run-same base room a b p l s = ap (λ (v : Octets). pick (p .lost) lost (run v)) (s base (p .len) (omega arith) (omega arith))
 
-pub packets-same : (base cap : ℕ) (z : Size cap) (a b : Octets) (r : Ring) → Same base (cap * 258) a b → packetsIn base cap b r ≡ packetsIn base cap a r
+pub packets-same : (base cap : ℕ) (z : Size cap) (a b : Octets) (r : Ring) → Same base (cap * slotSize) a b → packetsIn base cap b r ≡ packetsIn base cap a r
 unfolding slotPacket
-packets-same base cap z a b r s = packets-kept base cap z a b r (λ i l. ap trim (s (slotAt base i) 258 (omega arith) (fits i l)))
+packets-same base cap z a b r s = packets-kept base cap z a b r (λ i l. ap trim (s (slotAt base i) slotSize (omega arith) (fits i l)))
   where
-    fits : (i : ℕ) → i < cap → slotAt base i + 258 ≤ base + cap * 258
+    fits : (i : ℕ) → i < cap → slotAt base i + slotSize ≤ base + cap * slotSize
     fits i l = omega arith
 
 -- ---- the message in hand

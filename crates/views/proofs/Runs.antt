@@ -15,8 +15,8 @@ use Rattle.packets.specs.Reassembly.{run, lost}
 use Rattle.views.specs.Kinds.{Progress}
 use Rattle.state.specs.Runs.{within, joinedOf}
 use Rattle.state.proofs.Progress.{within-room}
+use Rattle.area.specs.Runs.{runArea}
 use Rattle.views.specs.View.{runOf}
-use Rattle.views.specs.Plan.{runArea}
 use Rattle.views.specs.Moves.{RunJoined}
 use Rattle.views.proofs.Frames.{Outside, outside-splice, outside-none}
 

@@ -1,4 +1,3 @@
 pub mod Kinds
 pub mod View
-pub mod Plan
 pub mod Moves

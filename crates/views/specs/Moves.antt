@@ -11,18 +11,19 @@ use Rattle.packets.specs.Packet.{packetOf}
 use Rattle.packets.specs.Segments.{Segment, body, flag, segments, segmentAt, packetsOf}
 use Rattle.packets.specs.Reassembly.{grown, finished, flagged}
 use Rattle.state.specs.Conn as conn
-use Rattle.state.specs.Conn.{placeOf, countsOf}
+use Rattle.state.specs.Conn.{placeOf, countsOf, handWith, handAfter}
 use Rattle.state.specs.Runs.{handedOn, joinedOf, runFor, controlJoined}
 use Rattle.record.specs.Fit.{Shape, Fit}
-use Rattle.area.specs.Map.{downAt, upAt, storeAt, handAt, endpointAt, hostRunAt, controllerRunAt, askingAt, hearingAt, spareAt, areaSize}
+use Rattle.record.specs.Plan.{withDown, withUp, withConns, withEndpoint, withHearing, withAsking, withHand, withHostRun, withStore, withControllerRun, coldRecord}
+use Rattle.area.specs.Map.{payloadSize, slotSize, wireSlots, storeSlots, messageSize, controlSize, places, downAt, upAt, storeAt, handAt, endpointAt, hostRunAt, controllerRunAt, askingAt, hearingAt, spareAt, areaSize}
 use Rattle.area.specs.Ring.{slotPacket, trim, packetsIn, freeAt, tookFrom, putInto}
 use Rattle.area.specs.Movers.{putsAll}
+use Rattle.area.specs.Runs.{runArea}
 use Rattle.model.specs.Connection.{ControllerEnd, sent, heardData, stored, spoken}
 use Rattle.model.specs.Connection as connection
 use Rattle.model.specs.State as bench
 use Rattle.model.specs.Runs.{runAfter}
 use Rattle.views.specs.View.{handOf, runOf, connectionOf, speechOf, downOf, upOf, view}
-use Rattle.views.specs.Plan.{handWith, handAfter, runArea, withDown, withUp, withConns, withEndpoint, withHearing, withAsking, withHand, withHostRun, withStore, withControllerRun, coldRecord}
 
 -- ---- one run
 
@@ -47,7 +48,7 @@ pub record Sound (a : Octets) (r : Record) : Type 0 where
 
 -- a run of the controller's grew; the rest of that end is as it was
 abbrev pub grew : Segment → ControllerEnd → ControllerEnd
-grew x k = record { opened = k .opened; grant = k .grant; owed = k .owed; store = k .store; run = grown 1024 (k .run) x; speech = k .speech }
+grew x k = record { opened = k .opened; grant = k .grant; owed = k .owed; store = k .store; run = grown messageSize (k .run) x; speech = k .speech }
 
 module _ (a : Octets) (r : Record) where
   -- the numbers of a connection
@@ -56,68 +57,68 @@ module _ (a : Octets) (r : Record) where
 
   pub record Moves : Type 0 where
     -- a packet is written into the first free slot of a wire
-    pub put-down : (h : Header) (m : Octets) → length m ≤ 255 → r .down .count < 16
-        → view (splice a (freeAt downAt 16 (r .down)) (packetOf h m)) (withDown (putInto (r .down)) r)
+    pub put-down : (h : Header) (m : Octets) → length m ≤ payloadSize → r .down .count < wireSlots
+        → view (splice a (freeAt downAt wireSlots (r .down)) (packetOf h m)) (withDown (putInto (r .down)) r)
         ≡ bench.withDown (downOf a r ++ (packetOf h m ∷ [])) (view a r)
-    pub put-up : (h : Header) (m : Octets) → length m ≤ 255 → r .up .count < 16
-        → view (splice a (freeAt upAt 16 (r .up)) (packetOf h m)) (withUp (putInto (r .up)) r)
+    pub put-up : (h : Header) (m : Octets) → length m ≤ payloadSize → r .up .count < wireSlots
+        → view (splice a (freeAt upAt wireSlots (r .up)) (packetOf h m)) (withUp (putInto (r .up)) r)
         ≡ bench.withUp (upOf a r ++ (packetOf h m ∷ [])) (view a r)
     -- a slot is copied there
-    pub echo-up : (from : ℕ) → from + 258 ≤ length a → r .up .count < 16
-        → view (splice a (freeAt upAt 16 (r .up)) (cut from 258 a)) (withUp (putInto (r .up)) r)
-        ≡ bench.withUp (upOf a r ++ (trim (cut from 258 a) ∷ [])) (view a r)
+    pub echo-up : (from : ℕ) → from + slotSize ≤ length a → r .up .count < wireSlots
+        → view (splice a (freeAt upAt wireSlots (r .up)) (cut from slotSize a)) (withUp (putInto (r .up)) r)
+        ≡ bench.withUp (upOf a r ++ (trim (cut from slotSize a) ∷ [])) (view a r)
     -- the first packet of a wire is taken
     pub took-down : 0 < r .down .count
-        → view a r ≡ bench.withDown (slotPacket downAt a (r .down .head) ∷ downOf a (withDown (tookFrom 16 (r .down)) r)) (view a (withDown (tookFrom 16 (r .down)) r))
+        → view a r ≡ bench.withDown (slotPacket downAt a (r .down .head) ∷ downOf a (withDown (tookFrom wireSlots (r .down)) r)) (view a (withDown (tookFrom wireSlots (r .down)) r))
     pub took-up : 0 < r .up .count
-        → view a r ≡ bench.withUp (slotPacket upAt a (r .up .head) ∷ upOf a (withUp (tookFrom 16 (r .up)) r)) (view a (withUp (tookFrom 16 (r .up)) r))
+        → view a r ≡ bench.withUp (slotPacket upAt a (r .up .head) ∷ upOf a (withUp (tookFrom wireSlots (r .up)) r)) (view a (withUp (tookFrom wireSlots (r .up)) r))
     -- a slot is copied into the first free slot of a connection's store
-    pub put-store : (c from : ℕ) → placeOf c < 5 → from + 258 ≤ length a → counts c .controller .store .count < 8
-        → view (splice a (freeAt (storeAt (placeOf c)) 8 (counts c .controller .store)) (cut from 258 a))
+    pub put-store : (c from : ℕ) → placeOf c < places → from + slotSize ≤ length a → counts c .controller .store .count < storeSlots
+        → view (splice a (freeAt (storeAt (placeOf c)) storeSlots (counts c .controller .store)) (cut from slotSize a))
         (withConns (conn.withController (r .ends .conns) c (withStore (putInto (counts c .controller .store)) (counts c .controller))) r)
-        ≡ bench.withConns (bench.at c (λ k. connection.withController (stored (trim (cut from 258 a)) (k .controller)) k) (view a r .conns)) (view a r)
+        ≡ bench.withConns (bench.at c (λ k. connection.withController (stored (trim (cut from slotSize a)) (k .controller)) k) (view a r .conns)) (view a r)
     -- the oldest packet of a store, and those after it
-    pub took-store : (c : ℕ) → placeOf c < 5 → 0 < counts c .controller .store .count
+    pub took-store : (c : ℕ) → placeOf c < places → 0 < counts c .controller .store .count
         → view a r .conns c .controller .store
-        ≡ slotPacket (storeAt (placeOf c)) a (counts c .controller .store .head) ∷ packetsIn (storeAt (placeOf c)) 8 a (tookFrom 8 (counts c .controller .store))
+        ≡ slotPacket (storeAt (placeOf c)) a (counts c .controller .store .head) ∷ packetsIn (storeAt (placeOf c)) storeSlots a (tookFrom storeSlots (counts c .controller .store))
     -- a message is taken into its place
-    pub put-hand : (c : ℕ) (m : Octets) → placeOf c < 5 → length m ≤ 1024
+    pub put-hand : (c : ℕ) (m : Octets) → placeOf c < places → length m ≤ messageSize
         → view (splice a (handAt (placeOf c)) m)
         (withConns (conn.withHost (r .ends .conns) c (withHand (handWith (length m)) (counts c .host))) r)
         ≡ bench.withConns (bench.at c (λ k. connection.withHost (sent m (k .host)) k) (view a r .conns)) (view a r)
-    pub put-endpoint : (m : Octets) → length m ≤ 1024
+    pub put-endpoint : (m : Octets) → length m ≤ messageSize
         → view (splice a endpointAt m) (withEndpoint (handWith (length m)) r)
-        ≡ bench.withConns (bench.at 0 (λ k. connection.withController (spoken (segments 255 m) (k .controller)) k) (view a r .conns)) (view a r)
+        ≡ bench.withConns (bench.at 0 (λ k. connection.withController (spoken (segments payloadSize m) (k .controller)) k) (view a r .conns)) (view a r)
     -- the next segment of a message in hand, a part of the message, and those after it
-    pub gone-hand : (c : ℕ) → placeOf c < 5 → counts c .host .hand .full ≡ true → 1 ≤ counts c .host .payload
+    pub gone-hand : (c : ℕ) → placeOf c < places → counts c .host .hand .full ≡ true → 1 ≤ counts c .host .payload
         → view a r .conns c .host .hand
         ≡ segmentAt (counts c .host .payload) (cut (handAt (placeOf c)) (counts c .host .hand .len) a) (counts c .host .hand .at)
         ∷ handOf (handAt (placeOf c)) (counts c .host .payload) a (handAfter (counts c .host .payload) (counts c .host .hand))
     pub gone-endpoint : r .ends .endpoint .full ≡ true
         → view a r .conns 0 .controller .speech
-        ≡ segmentAt 255 (cut endpointAt (r .ends .endpoint .len) a) (r .ends .endpoint .at) ∷ handOf endpointAt 255 a (handAfter 255 (r .ends .endpoint))
+        ≡ segmentAt payloadSize (cut endpointAt (r .ends .endpoint .len) a) (r .ends .endpoint .at) ∷ handOf endpointAt payloadSize a (handAfter payloadSize (r .ends .endpoint))
     -- a segment joins a run
-    pub join-host : (c : ℕ) (x : Segment) → placeOf c < 5
-        → view (runArea 1024 (hostRunAt (placeOf c)) a (counts c .host .run) (body x))
-        (withConns (conn.withHost (r .ends .conns) c (withHostRun (joined 1024 (counts c .host .run) x) (counts c .host))) r)
+    pub join-host : (c : ℕ) (x : Segment) → placeOf c < places
+        → view (runArea messageSize (hostRunAt (placeOf c)) a (counts c .host .run) (body x))
+        (withConns (conn.withHost (r .ends .conns) c (withHostRun (joined messageSize (counts c .host .run) x) (counts c .host))) r)
         ≡ bench.withConns (bench.at c (λ k. connection.withHost (heardData x (k .host)) k) (view a r .conns)) (view a r)
-    pub join-controller : (c : ℕ) (x : Segment) → placeOf c < 5
-        → view (runArea 1024 (controllerRunAt (placeOf c)) a (counts c .controller .run) (body x))
-        (withConns (conn.withController (r .ends .conns) c (withControllerRun (joined 1024 (counts c .controller .run) x) (counts c .controller))) r)
+    pub join-controller : (c : ℕ) (x : Segment) → placeOf c < places
+        → view (runArea messageSize (controllerRunAt (placeOf c)) a (counts c .controller .run) (body x))
+        (withConns (conn.withController (r .ends .conns) c (withControllerRun (joined messageSize (counts c .controller .run) x) (counts c .controller))) r)
         ≡ bench.withConns (bench.at c (λ k. connection.withController (grew x (k .controller)) k) (view a r .conns)) (view a r)
     -- h: the packet's header, whose flag is the segment's
     pub join-hearing : (h : Header) (x : Segment) → h .pbf ≡ flag x
-        → view (runArea 255 hearingAt a (runFor (r .ends .hearing) h) (body x)) (withHearing (controlJoined (r .ends .hearing) h (length (body x)) .next) r)
+        → view (runArea controlSize hearingAt a (runFor (r .ends .hearing) h) (body x)) (withHearing (controlJoined (r .ends .hearing) h (length (body x)) .next) r)
         ≡ bench.withHearing (runAfter (view a r .hearing) (h .mt) (h .id) (h .oid) x) (view a r)
     pub join-asking : (h : Header) (x : Segment) → h .pbf ≡ flag x
-        → view (runArea 255 askingAt a (runFor (r .ends .asking) h) (body x)) (withAsking (controlJoined (r .ends .asking) h (length (body x)) .next) r)
+        → view (runArea controlSize askingAt a (runFor (r .ends .asking) h) (body x)) (withAsking (controlJoined (r .ends .asking) h (length (body x)) .next) r)
         ≡ bench.withAsking (runAfter (view a r .asking) (h .mt) (h .id) (h .oid) x) (view a r)
     -- all segments of a message are written into the free slots of the down wire
-    pub puts-down : (h : Header) (size : ℕ) (m : Octets) → 1 ≤ size → size ≤ 255 → r .down .count + length (segments size m) ≤ 16
+    pub puts-down : (h : Header) (size : ℕ) (m : Octets) → 1 ≤ size → size ≤ payloadSize → r .down .count + length (segments size m) ≤ wireSlots
         → view (putsAll downAt a (r .down) (packetsOf h size m)) (withDown (record { head = r .down .head; count = r .down .count + length (segments size m) }) r)
         ≡ bench.withDown (downOf a r ++ packetsOf h size m) (view a r)
     -- the numbers of one connection change, and no octet
-    pub counts-set : (c : ℕ) (k : Counts) → placeOf c < 5
+    pub counts-set : (c : ℕ) (k : Counts) → placeOf c < places
         → view a (withConns (set (r .ends .conns) (placeOf c) k) r)
         ≡ bench.withConns (bench.at c (λ _. connectionOf (placeOf c) a k (speechOf a (r .ends .endpoint) c)) (view a r .conns)) (view a r)
     -- the record is written, or what is left over

@@ -10,8 +10,9 @@ use Rattle.packets.specs.Reassembly.{Run, run, lost}
 use Rattle.views.specs.Kinds.{Progress, Hand, HostSide, ControllerSide, Counts, Record}
 use Rattle.views.specs.Kinds as kinds
 use Rattle.state.specs.Conn.{placeOf, countsOf}
-use Rattle.area.specs.Map.{downAt, upAt, storeAt, handAt, endpointAt, hostRunAt, controllerRunAt, askingAt, hearingAt}
+use Rattle.area.specs.Map.{payloadSize, wireSlots, storeSlots, downAt, upAt, storeAt, handAt, endpointAt, hostRunAt, controllerRunAt, askingAt, hearingAt}
 use Rattle.area.specs.Ring.{packetsIn}
+use Rattle.record.specs.Reading.{decodeOf}
 use Rattle.model.specs.Connection.{HostEnd, ControllerEnd, Connection}
 use Rattle.model.specs.State.{ControlRun, State}
 
@@ -48,7 +49,7 @@ controllerOf place a k speech =
       opened = k .opened;
       grant = k .grant;
       owed = k .owed;
-      store = packetsIn (storeAt place) 8 a (k .store);
+      store = packetsIn (storeAt place) storeSlots a (k .store);
       run = runOf (controllerRunAt place) a (k .run);
       speech = speech;
     }
@@ -58,19 +59,19 @@ connectionOf place a k speech = record { host = hostOf place a (k .host); contro
 
 -- ---- the bench
 
--- the endpoint speaks on connection 0, in segments of 255 octets
+-- the endpoint speaks on connection 0, in segments as long as a payload can be
 abbrev pub speechOf : Octets → Hand → ℕ → List Segment
-speechOf a h c = pick (eqb 0 c) (handOf endpointAt 255 a h) []
+speechOf a h c = pick (eqb 0 c) (handOf endpointAt payloadSize a h) []
 
 -- by Conn ID; an ID that no connection has is a closed one
 abbrev pub connsOf : Octets → Hand → List Counts → ℕ → Connection
 connsOf a h conns c = connectionOf (placeOf c) a (countsOf conns c) (speechOf a h c)
 
 abbrev pub downOf : Octets → Record → List Octets
-downOf a r = packetsIn downAt 16 a (r .down)
+downOf a r = packetsIn downAt wireSlots a (r .down)
 
 abbrev pub upOf : Octets → Record → List Octets
-upOf a r = packetsIn upAt 16 a (r .up)
+upOf a r = packetsIn upAt wireSlots a (r .up)
 
 abbrev pub view : Octets → Record → State
 view a r =
@@ -84,3 +85,7 @@ view a r =
       down = downOf a r;
       up = upOf a r;
     }
+
+-- the state that an area stands for, by its own record
+abbrev pub viewOf : Octets → State
+viewOf a = view a (decodeOf a)

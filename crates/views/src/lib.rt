@@ -1,5 +1,2 @@
-// What a record and an area stand for: the state of the model, and what each mover does to it. This crate holds definitions and
-// theorems; a crate needs one function.
-pub fn wires() -> u8 {
-    2
-}
+// What a record and an area stand for: the state of the model, and what each mover does to it. This crate holds definitions
+// and theorems.

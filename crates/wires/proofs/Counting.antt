@@ -9,6 +9,7 @@ use mathlib.Core.List.{List, [], _∷_, _++_}
 use lib.ListN.{take, drop}
 use Rattle.octets.specs.Octets.{Octets, pick}
 use Rattle.octets.proofs.Octets.{cut-part}
+use Rattle.area.specs.Map.{slotSize, wireSlots}
 use Rattle.area.specs.Ring.{slotAt, trim, slotPacket, tab, packetsFrom}
 use Rattle.area.proofs.Rings.{packets-snoc}
 use Rattle.wires.specs.Meaning.{meaning}
@@ -19,10 +20,10 @@ use Rattle.wires.proofs.Slots.{first-slot}
 
 -- a slot as the code names it, `&a[at..at + 258]`
 abbrev pub slotPart : ℕ → Octets → ℕ → Octets
-slotPart base a i = take (slotAt base i + 258 - slotAt base i) (drop (slotAt base i) a)
+slotPart base a i = take (slotAt base i + slotSize - slotAt base i) (drop (slotAt base i) a)
 
 part-packet : (base : ℕ) (a : Octets) (i : ℕ) → trim (slotPart base a i) ≡ slotPacket base a i
-part-packet base a i = ap trim (cut-part (slotAt base i) 258 a) ∙ sym (first-slot base a i)
+part-packet base a i = ap trim (cut-part (slotAt base i) slotSize a) ∙ sym (first-slot base a i)
 
 -- ---- dataCount
 
@@ -39,19 +40,19 @@ module _ (c : ℕ) where
   data-count-snoc [] p = omega arith
   data-count-snoc (q ∷ w) p = ap (λ (n : ℕ). dataOne c q + n) (data-count-snoc w p) ∙ sym (add-assoc _ _ _)
 
-  pub data-count-first : (base : ℕ) (a : Octets) (p : ℕ) → 0 ≡ dataCount c (packetsFrom base 16 a p 0)
+  pub data-count-first : (base : ℕ) (a : Octets) (p : ℕ) → 0 ≡ dataCount c (packetsFrom base wireSlots a p 0)
   unfolding packetsFrom tab dataCount
   data-count-first base a p = refl
 
   pub data-count-more : (base : ℕ) (a : Octets) (p n : ℕ)
-      → dataCount c (packetsFrom base 16 a p (n + 1)) ≡ dataCount c (packetsFrom base 16 a p n) + dataOne c (slotPacket base a ((p + n) % 16))
-  data-count-more base a p n = ap (dataCount c) (packets-snoc base 16 a p n) ∙ data-count-snoc _ _
+      → dataCount c (packetsFrom base wireSlots a p (n + 1)) ≡ dataCount c (packetsFrom base wireSlots a p n) + dataOne c (slotPacket base a ((p + n) % wireSlots))
+  data-count-more base a p n = ap (dataCount c) (packets-snoc base wireSlots a p n) ∙ data-count-snoc _ _
 
   -- one turn of the loop, whose part of the area is the slot
-  pub data-count-turn : (base : ℕ) (a : Octets) (p n acc one : ℕ) → acc ≡ dataCount c (packetsFrom base 16 a p n)
-      → one ≡ dataOne c (trim (slotPart base a ((p + n) % 16))) → acc + one ≡ dataCount c (packetsFrom base 16 a p (n + 1))
+  pub data-count-turn : (base : ℕ) (a : Octets) (p n acc one : ℕ) → acc ≡ dataCount c (packetsFrom base wireSlots a p n)
+      → one ≡ dataOne c (trim (slotPart base a ((p + n) % wireSlots))) → acc + one ≡ dataCount c (packetsFrom base wireSlots a p (n + 1))
   data-count-turn base a p n acc one e f =
-      (λ i. e i + (f ∙ ap (dataOne c) (part-packet base a ((p + n) % 16))) i) ∙ sym (data-count-more base a p n)
+      (λ i. e i + (f ∙ ap (dataOne c) (part-packet base a ((p + n) % wireSlots))) i) ∙ sym (data-count-more base a p n)
 
 -- ---- creditsUp
 
@@ -61,15 +62,15 @@ module _ (c : ℕ) where
   credits-up-snoc [] p = omega arith
   credits-up-snoc (q ∷ w) p = ap (λ (n : ℕ). creditsOn c q + n) (credits-up-snoc w p) ∙ sym (add-assoc _ _ _)
 
-  pub credits-up-first : (base : ℕ) (a : Octets) (p : ℕ) → 0 ≡ creditsUp c (packetsFrom base 16 a p 0)
+  pub credits-up-first : (base : ℕ) (a : Octets) (p : ℕ) → 0 ≡ creditsUp c (packetsFrom base wireSlots a p 0)
   unfolding packetsFrom tab creditsUp
   credits-up-first base a p = refl
 
   pub credits-up-more : (base : ℕ) (a : Octets) (p n : ℕ)
-      → creditsUp c (packetsFrom base 16 a p (n + 1)) ≡ creditsUp c (packetsFrom base 16 a p n) + creditsOn c (slotPacket base a ((p + n) % 16))
-  credits-up-more base a p n = ap (creditsUp c) (packets-snoc base 16 a p n) ∙ credits-up-snoc _ _
+      → creditsUp c (packetsFrom base wireSlots a p (n + 1)) ≡ creditsUp c (packetsFrom base wireSlots a p n) + creditsOn c (slotPacket base a ((p + n) % wireSlots))
+  credits-up-more base a p n = ap (creditsUp c) (packets-snoc base wireSlots a p n) ∙ credits-up-snoc _ _
 
-  pub credits-up-turn : (base : ℕ) (a : Octets) (p n acc more : ℕ) → acc ≡ creditsUp c (packetsFrom base 16 a p n)
-      → more ≡ creditsOn c (trim (slotPart base a ((p + n) % 16))) → acc + more ≡ creditsUp c (packetsFrom base 16 a p (n + 1))
+  pub credits-up-turn : (base : ℕ) (a : Octets) (p n acc more : ℕ) → acc ≡ creditsUp c (packetsFrom base wireSlots a p n)
+      → more ≡ creditsOn c (trim (slotPart base a ((p + n) % wireSlots))) → acc + more ≡ creditsUp c (packetsFrom base wireSlots a p (n + 1))
   credits-up-turn base a p n acc more e f =
-      (λ i. e i + (f ∙ ap (λ (q : Octets). creditsOn c q) (part-packet base a ((p + n) % 16))) i) ∙ sym (credits-up-more base a p n)
+      (λ i. e i + (f ∙ ap (λ (q : Octets). creditsOn c q) (part-packet base a ((p + n) % wireSlots))) i) ∙ sym (credits-up-more base a p n)

@@ -14,13 +14,14 @@ use Rattle.packets.specs.declared.Reading.the-variants.{Packet, Drop}
 use Rattle.packets.specs.Packet.{readOf, headerOf, payloadOf}
 use Rattle.packets.specs.Segments.{segment}
 use Rattle.packets.proofs.Packet.{read-rfu, read-whole, read-facts}
+use Rattle.area.specs.Map.{slotSize}
 use Rattle.area.specs.Ring.{trim, slotAt, slotPacket}
 use Rattle.wires.specs.Meaning.{junk, meant, meaningIn, meaning}
 
 -- ---- slotPacket
 
 -- the packet of a slot is that of the slot's octets
-pub first-slot : (base : ℕ) (a : Octets) (i : ℕ) → slotPacket base a i ≡ trim (cut (slotAt base i) 258 a)
+pub first-slot : (base : ℕ) (a : Octets) (i : ℕ) → slotPacket base a i ≡ trim (cut (slotAt base i) slotSize a)
 unfolding slotPacket
 first-slot base a i = refl
 

@@ -1,10 +1,11 @@
 // Data on the down wire: how many packets of a ring hold data of a connection.
-use area::ring;
+use area::map;
 use packets::Reading;
 ghost use mathlib.Core.Path.{_≡_};
 ghost use Prim.Native.Nat.{_+_, _≤_, _<_};
 ghost use lib.ListN.{length};
 ghost use Rattle.octets.specs.Octets.{pick};
+ghost use Rattle.area.specs.Map.{wireSlots, wireSize};
 ghost use Rattle.area.specs.Ring.{trim, packetsFrom};
 ghost use Rattle.wires.specs.Meaning.{meaning};
 ghost use Rattle.wires.specs.Tally.{isDataFor, dataCount};
@@ -30,14 +31,14 @@ fn one_for(slot: &[u8], conn: u8) -> usize
 
 // How many packets hold data of the connection, of the count packets from slot head on in the ring at base.
 pub fn data_count(area: &[u8], base: usize, head: usize, count: usize, conn: u8) -> usize
-    requires { ⌜ (head < 16) × (count ≤ 16) × (base + 4128 ≤ length (now area)) ⌝ }
-    ensures { λ r. ⌜ r ≡ dataCount conn (packetsFrom base 16 (now (area .entry)) head count) ⌝ }
+    requires { ⌜ (head < wireSlots) × (count ≤ wireSlots) × (base + wireSize ≤ length (now area)) ⌝ }
+    ensures { λ r. ⌜ r ≡ dataCount conn (packetsFrom base wireSlots (now (area .entry)) head count) ⌝ }
 {
     let mut n: usize = 0;
     let mut i: usize = 0;
     while i < count {
-        let at = (head + i) % ring::WIRE * ring::SLOT + base;
-        let one = one_for(&area[at..at + ring::SLOT], conn);
+        let at = (head + i) % map::WIRE * map::SLOT + base;
+        let one = one_for(&area[at..at + map::SLOT], conn);
         n += one;
         i += 1;
     }

@@ -1,5 +1,5 @@
 // Credits on the up wire: what the packets of a ring have for a connection, in credit notices and in the grants of what opens it.
-use area::ring;
+use area::map;
 use dh::contents;
 use dh::host;
 use dh::host::Answer;
@@ -13,6 +13,7 @@ ghost use Prim.Native.Nat.{_+_, _≤_, _<_};
 ghost use lib.ListN.{length};
 ghost use lib.Dec.{eqb};
 ghost use Rattle.octets.specs.Octets.{pick};
+ghost use Rattle.area.specs.Map.{wireSlots, wireSize};
 ghost use Rattle.area.specs.Ring.{trim, packetsFrom};
 ghost use Rattle.state.specs.Conn.{metered};
 ghost use Rattle.dh.specs.Host.{creditsFor};
@@ -86,14 +87,14 @@ pub fn credits_on(slot: &[u8], conn: u8) -> u8
 
 // Credits for the connection, over the count packets from slot head on in the ring at base.
 pub fn credits_up(area: &[u8], base: usize, head: usize, count: usize, conn: u8) -> usize
-    requires { ⌜ (head < 16) × (count ≤ 16) × (base + 4128 ≤ length (now area)) ⌝ }
-    ensures { λ r. ⌜ r ≡ creditsUp conn (packetsFrom base 16 (now (area .entry)) head count) ⌝ }
+    requires { ⌜ (head < wireSlots) × (count ≤ wireSlots) × (base + wireSize ≤ length (now area)) ⌝ }
+    ensures { λ r. ⌜ r ≡ creditsUp conn (packetsFrom base wireSlots (now (area .entry)) head count) ⌝ }
 {
     let mut sum: usize = 0;
     let mut i: usize = 0;
     while i < count {
-        let at = (head + i) % ring::WIRE * ring::SLOT + base;
-        let more = credits_on(&area[at..at + ring::SLOT], conn);
+        let at = (head + i) % map::WIRE * map::SLOT + base;
+        let more = credits_on(&area[at..at + map::SLOT], conn);
         sum += more as usize;
         i += 1;
     }

@@ -5,14 +5,15 @@ use mathlib.Core.Bool.{Bool, true, false, _&&_}
 use mathlib.Core.List.{List, [], _∷_, map}
 use lib.Dec.{eqb}
 use Rattle.messages.specs.Layout.{creditsNtf}
-use Rattle.model.specs.Connection.{withController, noticed}
+use Rattle.model.specs.Connection.{withController, owedOn, noticed}
 use Rattle.messages.specs.Packets.{noticePacket}
 use Rattle.model.specs.State.{State, withConns}
 use Rattle.model.specs.Effects.{Effect, puttingUp}
 use Rattle.model.specs.Refusals.{Rule, rule, full, ids}
 
+-- what is owed on each connection
 abbrev pub owedBy : State → List ℕ
-owedBy s = map (λ (c : ℕ). s .conns c .controller .owed) ids
+owedBy s = map (λ (c : ℕ). owedOn (s .conns c .controller)) ids
 
 unfoldable pub allZero : List ℕ → Bool
 allZero [] = true

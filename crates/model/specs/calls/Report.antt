@@ -6,18 +6,23 @@ use mathlib.Core.List.{List, [], _∷_}
 use lib.ListN.{length, drop}
 use Rattle.octets.specs.Octets.{Octets, pick}
 use Rattle.state.specs.Conn.{flows}
+use Rattle.model.specs.Connection.{HostEnd, owedOn}
 use Rattle.wires.specs.Tally.{dataCount, creditsUp}
 use Rattle.model.specs.State.{State, isOpen}
 use Rattle.model.specs.Effects.{Effect}
 use Rattle.model.specs.Refusals.{Rule, rule, noConn}
 
+-- "0 while it hasn't the connection open", whatever the field says
+abbrev pub heldBy : HostEnd → ℕ
+heldBy h = pick (h .opened) (h .held) 0
+
 -- credits held, packets on the down wire, packets stored, credits owed, credits on the up wire; without flow control 255, and 0 for the last two
 abbrev pub reportOf : ℕ → State → Octets
 reportOf c s =
-    pick (flows (s .conns c .controller .grant)) (s .conns c .host .held) 255
+    pick (flows (s .conns c .controller .grant)) (heldBy (s .conns c .host)) 255
     ∷ dataCount c (s .down)
     ∷ length (s .conns c .controller .store)
-    ∷ pick (flows (s .conns c .controller .grant)) (s .conns c .controller .owed) 0
+    ∷ owedOn (s .conns c .controller)
     ∷ pick (flows (s .conns c .controller .grant)) (creditsUp c (s .up)) 0
     ∷ []
 

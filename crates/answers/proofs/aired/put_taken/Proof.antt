@@ -1,6 +1,6 @@
 -- `answers::aired::put_taken` is safe and ends: the notification of an event that was read fits its buffer.
 -- Assumes nothing.
-use Rattle.air.proofs.Room.{message-short}
+use Rattle.air.proofs.Room.{event-room}
 use borrow.Author.Needs.{needs}
 use Rattle.answers.proofs.aired.put_taken.Statement.{statement}
 use Rattle.answers.proofs.aired.put_taken.Tie as tie
@@ -8,13 +8,8 @@ use Rattle.answers.proofs.aired.put_taken.Tie as tie
 event-of-requires : tie.Need-event-of-requires
 event-of-requires c κs = search needs
 
-slice-aggregate-air-message : tie.Need-slice-aggregate-air-message
-slice-aggregate-air-message c = search needs
-
 air-message-requires : tie.Need-air-message-requires
-air-message-requires c κs =
-    let m = c .before .before .before .before .before .before .before .args .m .now in
-    (search needs, rw (c .before .event-of .ensures) (message-short _ m))
+air-message-requires c κs = event-room _ _ _ (c .before .event-of .ensures)
 
 slice-aggregate-put : tie.Need-slice-aggregate-put
 slice-aggregate-put c = search needs
@@ -24,9 +19,6 @@ put-requires c κs = search needs
 
 slice-aggregate-put-packet : tie.Need-slice-aggregate-put-packet
 slice-aggregate-put-packet c = search needs
-
-slice-aggregate-put-packet-2 : tie.Need-slice-aggregate-put-packet-2
-slice-aggregate-put-packet-2 c = search needs
 
 put-packet-requires : tie.Need-put-packet-requires
 put-packet-requires c κs = search needs
@@ -51,12 +43,10 @@ put-taken-spec =
     tie.close
     (tie.spec
     event-of-requires
-    slice-aggregate-air-message
     air-message-requires
     slice-aggregate-put
     put-requires
     slice-aggregate-put-packet
-    slice-aggregate-put-packet-2
     put-packet-requires
     controller-aired-requires
     conns-aired-requires

@@ -1,31 +1,9 @@
--- What the moves do to the record's numbers: the plans that the calls stand on.
+-- Records with one part changed, and the cold one: the plans that the calls stand on.
 -- Assumes nothing.
-use Prim.Native.Nat.{ℕ, _+_}
-use mathlib.Core.Bool.{true}
-use mathlib.Core.List.{List, [], _∷_}
-use lib.Dec.{ltb}
-use lib.ListN.{length}
-use Rattle.octets.specs.Octets.{Octets, pick, splice}
-use Rattle.views.specs.Kinds.{Profile, Hand, Ring, HostSide, ControllerSide, Counts, Progress, ControlRun, Ends, Record}
-use Rattle.state.specs.Conn.{start, empty, emptyRing, closedCounts}
-use Rattle.state.specs.Runs.{within}
-use Rattle.model.specs.State.{coldHost, coldController}
-
--- ---- a message in hand
-
--- a message of n octets was put in hand
-abbrev pub handWith : ℕ → Hand
-handWith n = record { full = true; len = n; at = 0 }
-
--- a segment has gone: the next one starts after it, or the message is gone whole
-abbrev pub handAfter : ℕ → Hand → Hand
-handAfter size h = pick (ltb (h .at + size) (h .len)) (record { full = true; len = h .len; at = h .at + size }) empty
-
--- ---- a run
-
--- the area after octets join a run that lies from base on: they stand after those that came before; past the limit none is kept
-unfoldable pub runArea : ℕ → ℕ → Octets → Progress → Octets → Octets
-runArea limit base a p b = pick (within limit p (length b)) (splice a (base + p .len) b) a
+use mathlib.Core.List.{List}
+use Rattle.record.specs.Kinds.{Profile, Hand, Ring, HostSide, ControllerSide, Counts, Progress, ControlRun, Ends, Record}
+use Rattle.state.specs.Conn.{emptyRing}
+use Rattle.state.specs.Cold.{coldEnds}
 
 -- ---- one part of the record
 
@@ -96,21 +74,7 @@ withAsking k r =
 
 -- both ends cold, both wires empty
 abbrev pub coldRecord : Profile → Record
-coldRecord p =
-    record {
-      ends =
-          record {
-            profile = p;
-            host = coldHost;
-            hearing = record { mt = 0; gid = 0; oid = 0; run = start };
-            controller = coldController;
-            asking = record { mt = 0; gid = 0; oid = 0; run = start };
-            endpoint = empty;
-            conns = closedCounts ∷ closedCounts ∷ closedCounts ∷ closedCounts ∷ closedCounts ∷ [];
-          };
-      down = emptyRing;
-      up = emptyRing;
-    }
+coldRecord p = record { ends = coldEnds p; down = emptyRing; up = emptyRing }
 
 -- ---- one part of a connection's counts
 

@@ -1,7 +1,0 @@
--- The parts of the area lie one after the other, and together are its 36,864 octets.
--- Assumes nothing.
-use mathlib.Core.Path.{refl}
-use Rattle.area.specs.Map.{Sum}
-
-pub sum : Sum
-sum = record { down = refl; up = refl; stores = refl; hands = refl; endpoint = refl; host-runs = refl; controller-runs = refl; asking = refl; hearing = refl; spare = refl; record-octets = refl }

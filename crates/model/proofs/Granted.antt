@@ -1,0 +1,97 @@
+-- What opens a connection grants an octet of credits: the host takes nothing else for written.
+-- Assumes nothing.
+use Prim.Native.Nat.{ℕ, _≤_}
+use native.Mathlib.Omega.{arith}
+use mathlib.Core.Path.{_≡_, refl}
+use mathlib.Core.Bool.{Bool, true, false, _&&_, _||_, not, false≢true}
+use mathlib.Core.List.{[], _∷_}
+use lib.Dec.{eqb, leb}
+use lib.ListN.{length, getD}
+use borrow.Author.Tests.{eqb-true, leb-true}
+use Rattle.octets.specs.Octets.{Octets, pick}
+use Rattle.model.specs.Kinds.{Terms, Command, Notice}
+use Rattle.model.specs.Kinds.command.{Reset, Init, ConnCreate, ConnClose, Discover, Select, Deactivate, Unknown}
+use Rattle.model.specs.Kinds.notice as notice
+use Rattle.model.specs.Kinds.answer.{Done}
+use Rattle.model.specs.Kinds.heard.{Nothing, Answered}
+use Rattle.state.specs.Radio.{idOk}
+use Rattle.state.specs.Commands.{commandOf}
+use Rattle.state.proofs.Chains.{on, every-at}
+use Rattle.state.specs.Profile.{creditsOk}
+use Rattle.dh.specs.Contents.{statusAlone, createWritten, okWritten, activatedWritten, noticeWritten, noticeOf, written}
+use Rattle.dh.specs.Host.{heardAlone, answerOf, okAnswer, noticed, creditsFor}
+use Rattle.wires.specs.Tally.{aimedAt, says}
+use Rattle.ends.specs.Changes.{Change, stays, opens, closes, gives, changeHeard}
+
+abbrev pub GrantsOctet : Change → Type 0
+GrantsOctet stays = Unit {0}
+GrantsOctet (opens t) = t .credits ≤ 255
+GrantsOctet closes = Unit {0}
+GrantsOctet (gives n) = Unit {0}
+
+credits-octet : (n : ℕ) → creditsOk n ≡ true → n ≤ 255
+credits-octet n h = go (leb 1 n) (leb n 8) (eqb n 255) refl refl h
+  where
+    go : (a b c : Bool) → leb n 8 ≡ b → eqb n 255 ≡ c → ((a && b) || c) ≡ true → n ≤ 255
+    go a true c e f h = omega (arith, leb-true n 8 e)
+    go a false true e f h = omega (arith, eqb-true n 255 f)
+    go true false false e f h = absurd (false≢true h)
+    go false false false e f h = absurd (false≢true h)
+
+module _ (m : Octets) (d : ℕ) where
+  opens-octet : (c : ℕ) (t : Terms) → creditsOk (t .credits) ≡ true → GrantsOctet (pick (eqb c d) (opens t) stays)
+  opens-octet c t h = on GrantsOctet (eqb c d) (λ e. credits-octet (t .credits) h) (λ e. tt)
+
+  closes-octet : (c : ℕ) → GrantsOctet (pick (eqb c d) closes stays)
+  closes-octet c = on GrantsOctet (eqb c d) (λ e. tt) (λ e. tt)
+
+  answer-octet : (c : Command) (aim : ℕ) → okWritten c m ≡ true → GrantsOctet (changeHeard (Answered (okAnswer c aim m)) m d)
+  unfolding createWritten
+  answer-octet Reset aim h = tt
+  answer-octet Init aim h = tt
+  answer-octet ConnCreate aim h =
+      opens-octet (getD m 3 0) _
+      (every-at (eqb (length m) 4)
+      (eqb (getD m 0 0) 0x00 ∷ leb 1 (getD m 1 0) ∷ creditsOk (getD m 2 0) ∷ leb 2 (getD m 3 0) ∷ leb (getD m 3 0) 5 ∷ []) h 3)
+  answer-octet ConnClose aim h = closes-octet aim
+  answer-octet Discover aim h = tt
+  answer-octet Select aim h = tt
+  answer-octet Deactivate aim h = tt
+  answer-octet Unknown aim h = tt
+
+  response-octet : (c : Command) (aim : ℕ) → (statusAlone m || okWritten c m) ≡ true → GrantsOctet (changeHeard (Answered (answerOf c aim m)) m d)
+  unfolding answerOf
+  response-octet c aim = go (eqb (length m) 1) (eqb (getD m 0 0) 0x00)
+    where
+      go : (a b : Bool) → ((a && not b) || okWritten c m) ≡ true → GrantsOctet (changeHeard (Answered (pick b (okAnswer c aim m) Done)) m d)
+      go true true h = answer-octet c aim h
+      go false true h = answer-octet c aim h
+      go a false h = tt
+
+  notice-octet : (n : Notice) → noticeWritten n m ≡ true → GrantsOctet (changeHeard (noticed n m) m d)
+  unfolding activatedWritten
+  notice-octet notice.Reset h = tt
+  notice-octet notice.Credits h = on GrantsOctet (eqb (creditsFor m d) 0) (λ e. tt) (λ e. tt)
+  notice-octet notice.GenericError h = tt
+  notice-octet notice.Discover h = tt
+  notice-octet notice.Activated h =
+      opens-octet 0 _
+      (every-at (idOk (getD m 0 0)) (_ ∷ _ ∷ _ ∷ creditsOk (getD m 5 0) ∷ _ ∷ _ ∷ _ ∷ _ ∷ []) h 4)
+  notice-octet notice.Deactivate h = closes-octet 0
+  notice-octet notice.Unknown h = tt
+
+  says-it : (aim mt gid oid : ℕ) → GrantsOctet (changeHeard (says aim mt gid oid m) m d)
+  unfolding written heardAlone
+  says-it aim mt gid oid = go (written mt gid oid m) refl
+    where
+      alone : (b : Bool) → pick b (statusAlone m || okWritten (commandOf gid oid) m) (noticeWritten (noticeOf gid oid) m) ≡ true
+          → GrantsOctet (changeHeard (pick b (Answered (answerOf (commandOf gid oid) aim m)) (noticed (noticeOf gid oid) m)) m d)
+      alone true h = response-octet (commandOf gid oid) aim h
+      alone false h = notice-octet (noticeOf gid oid) h
+
+      go : (b : Bool) → written mt gid oid m ≡ b → GrantsOctet (changeHeard (pick b (heardAlone (aimedAt aim) mt gid oid m) Nothing) m d)
+      go true e = alone (eqb mt 2) e
+      go false e = tt
+
+pub says-octet : (aim mt gid oid : ℕ) (m : Octets) (d : ℕ) → GrantsOctet (changeHeard (says aim mt gid oid m) m d)
+says-octet aim mt gid oid m d = says-it m d aim mt gid oid

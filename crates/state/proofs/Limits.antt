@@ -1,0 +1,85 @@
+-- The laws of `specs/Profile.antt`: from a test on a profile to its bounds, and back.
+-- Assumes nothing.
+use Prim.Native.Nat.{ℕ, _≤_}
+use native.Mathlib.Omega.{arith}
+use mathlib.Core.Path.{_≡_, refl, sym}
+use mathlib.Core.Bool.{Bool, true, false, _&&_, _||_, false≢true}
+use lib.Dec.{eqb, leb}
+use borrow.Author.Tests.{leb-true, le-leb, eqb-true, eqb-false, ne-eqb}
+use Rattle.state.specs.Kinds.{Terms, Profile}
+use Rattle.state.specs.Profile.{leastSize, payloadOk, creditsOk, termsOk, controlOk, profileOk, TermsWithin, ProfileWithin}
+use Rattle.state.proofs.Chains.{and-left, and-right}
+
+-- ---- a test that an octet passes by its type
+
+-- the code leaves it out
+pub and-octet : (a : Bool) (n : ℕ) → n ≤ 255 → (a && leb n 255) ≡ a
+and-octet true n h = le-leb n 255 h
+and-octet false n h = refl
+
+-- ---- credits
+
+pub credits-some : (n : ℕ) → creditsOk n ≡ true → 1 ≤ n
+credits-some n h = go (leb 1 n) refl (leb n 8) (eqb n 255) refl h
+  where
+    go : (a : Bool) → leb 1 n ≡ a → (b c : Bool) → eqb n 255 ≡ c → ((a && b) || c) ≡ true → 1 ≤ n
+    go true e b c f h = leb-true 1 n e
+    go false e b true f h = let z : n ≡ 255 = eqb-true n 255 f in omega arith
+    go false e b false f h = absurd (false≢true h)
+
+pub credits-few : (n : ℕ) → creditsOk n ≡ true → (n ≡ 255 → ⊥) → n ≤ 8
+credits-few n h ne = go (leb 1 n) (leb n 8) refl (eqb n 255) (ne-eqb n 255 ne) h
+  where
+    go : (a b : Bool) → leb n 8 ≡ b → (c : Bool) → c ≡ false → ((a && b) || c) ≡ true → n ≤ 8
+    go a true e c f h = leb-true n 8 e
+    go true false e true f h = absurd (false≢true (sym f))
+    go true false e false f h = absurd (false≢true h)
+    go false false e true f h = absurd (false≢true (sym f))
+    go false false e false f h = absurd (false≢true h)
+
+pub credits-ok : (n : ℕ) → 1 ≤ n → ((n ≡ 255 → ⊥) → n ≤ 8) → creditsOk n ≡ true
+credits-ok n h f = go (eqb n 255) refl
+  where
+    or-true : (a : Bool) → (a || true) ≡ true
+    or-true true = refl
+    or-true false = refl
+
+    go : (c : Bool) → eqb n 255 ≡ c → ((leb 1 n && leb n 8) || c) ≡ true
+    go true e = or-true (leb 1 n && leb n 8)
+    go false e = rw (le-leb 1 n h, le-leb n 8 (f (eqb-false n 255 e)))
+
+-- ---- terms and profiles
+
+pub terms-within : (t : Terms) → termsOk t ≡ true → TermsWithin (t .payload) (t .credits)
+terms-within t h =
+    let n = t .payload in
+    let p = and-left (payloadOk n) (creditsOk (t .credits)) h in
+    record {
+      least = leb-true 1 n (and-left (leb 1 n) (leb n 255) p);
+      most = leb-true n 255 (and-right (leb 1 n) (leb n 255) p);
+      credits-ok = and-right (payloadOk n) (creditsOk (t .credits)) h;
+    }
+
+pub within-terms : (t : Terms) → TermsWithin (t .payload) (t .credits) → termsOk t ≡ true
+within-terms t f = rw (le-leb 1 (t .payload) (f .least), le-leb (t .payload) 255 (f .most), f .credits-ok)
+
+pub profile-within : (p : Profile) → profileOk p ≡ true → ProfileWithin p
+profile-within p h =
+    let n = p .control in
+    let front = and-left (controlOk n && termsOk (p .dynamic)) (termsOk (p .fixed)) h in
+    let control = and-left (controlOk n) (termsOk (p .dynamic)) front in
+    record {
+      control-least = leb-true leastSize n (and-left (leb leastSize n) (leb n 255) control);
+      control-most = leb-true n 255 (and-right (leb leastSize n) (leb n 255) control);
+      dynamic = terms-within (p .dynamic) (and-right (controlOk n) (termsOk (p .dynamic)) front);
+      fixed = terms-within (p .fixed) (and-right (controlOk n && termsOk (p .dynamic)) (termsOk (p .fixed)) h);
+    }
+
+pub within-profile : (p : Profile) → ProfileWithin p → profileOk p ≡ true
+within-profile p f =
+    rw (
+      le-leb leastSize (p .control) (f .control-least),
+      le-leb (p .control) 255 (f .control-most),
+      within-terms (p .dynamic) (f .dynamic),
+      within-terms (p .fixed) (f .fixed),
+    )
