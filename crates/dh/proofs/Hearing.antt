@@ -1,9 +1,18 @@
--- Five steps in a row, one for each connection.
+-- Laws of what the host hears.
 -- Assumes nothing.
-use Prim.Native.Nat.{ℕ}
-use mathlib.Core.Path.{_≡_}
+use Prim.Native.Nat.{ℕ, _+_, _-_, _≤_, _<_}
+use native.Mathlib.Omega.{arith}
+use native.Mathlib.Decide.{decLt}
+use mathlib.Core.Path.{_≡_, sym, _∙_}
+use lib.Dec.{ltb}
+use borrow.Author.Tests.{lt-ltb, le-ltb}
 
--- five steps, one for each connection
-pub five : {A : Type 0} (f : A → ℕ → A) (x a b c d e : A)
-    → a ≡ f x 0 → b ≡ f a 2 → c ≡ f b 3 → d ≡ f c 4 → e ≡ f d 5 → e ≡ f (f (f (f (f x 0) 2) 3) 4) 5
-five f x a b c d e p q r s t = rw (t, s, r, q, p)
+-- ---- credits above the grant
+
+-- the test without a sum, which could pass its type
+pub ltb-from : (grant held n : ℕ) → held ≤ grant → ltb (grant - held) n ≡ ltb grant (held + n)
+ltb-from grant held n h = go (decLt grant (held + n))
+  where
+    go : Dec (grant < held + n) → ltb (grant - held) n ≡ ltb grant (held + n)
+    go (yes e) = lt-ltb (grant - held) n (omega arith) ∙ sym (lt-ltb grant (held + n) e)
+    go (no e) = le-ltb (grant - held) n (omega arith) ∙ sym (le-ltb grant (held + n) (omega arith))

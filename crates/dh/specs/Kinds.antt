@@ -9,6 +9,7 @@ pub use Rattle.state.specs.declared.kinds.Host.{Host}
 pub use Rattle.state.specs.declared.kinds.HostSide.{HostSide}
 pub use Rattle.state.specs.declared.kinds.Pending.{Pending}
 pub use Rattle.state.specs.declared.kinds.Pending.the-variants as pending
+pub use Rattle.state.specs.declared.kinds.Terms.{Terms}
 pub use Rattle.dh.specs.declared.contents.Notice.{Notice}
 pub use Rattle.dh.specs.declared.contents.Notice.the-variants as notice
 pub use Rattle.dh.specs.declared.host.Answer.{Answer}

@@ -1,3 +1,4 @@
 pub mod CreditNotice
 pub mod RoundTrips
 pub mod Backwards
+pub mod Changes

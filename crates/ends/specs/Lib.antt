@@ -1,3 +1,5 @@
 pub mod Kinds
 pub mod RoundTrips
 pub mod Backwards
+pub mod Changes
+pub mod Steps

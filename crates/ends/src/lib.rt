@@ -1,5 +1,4 @@
-// What one end writes the other reads: laws about both ends at once. They are in specs/ and proofs/.
-// A crate needs one function.
-pub fn ends() -> u8 {
-    2
-}
+// Both ends: what is decided on a command, a control message and an event of the air, and the numbers after it.
+pub mod command;
+pub mod event;
+pub mod message;

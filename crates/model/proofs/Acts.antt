@@ -18,7 +18,7 @@ use Rattle.state.specs.Runs.{dataLimit}
 use Rattle.state.proofs.Chains.{and-left}
 use Rattle.model.specs.Connection.{Connection, withHost, withController, sent, pushed, stored, consumed, owedOn, noticed, spoken}
 use Rattle.wires.specs.Meaning.{meaning}
-use Rattle.model.specs.Changes.{givenTo}
+use Rattle.ends.specs.Changes.{givenTo}
 use Rattle.model.specs.calls.Consume.{segmentIn}
 use Rattle.model.specs.Observer.{Ledger, pushedL, arrivedL, consumedL, sentL, spokenL}
 use Rattle.model.proofs.Items.{Load, Item, carry, credit, opened, closed, loaded, itemsBy, storeSegs, putK, putsK, readK, readsK, readMessages, putL, putsL, readL, readsL, upSegs, upReturned}

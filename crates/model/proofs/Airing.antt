@@ -24,14 +24,15 @@ use Rattle.messages.specs.Packets.{noticePackets}
 use Rattle.model.specs.State.{State, withConns, withUp, withControllerState, at}
 use Rattle.model.specs.Effects.{air}
 use Rattle.model.specs.Refusals.{isNil}
-use Rattle.model.specs.Changes.{Change, stays, opens, changeAired, atController}
+use Rattle.ends.specs.Changes.{Change, stays, opens, changeAired}
+use Rattle.model.specs.Changes.{atController}
 use Rattle.model.specs.calls.Air.{airingAs, airing}
 use Rattle.model.specs.Bench.{rules}
 use Rattle.model.specs.Observer.{Ledger, spokenL, airedL, shown}
 use Rattle.model.proofs.Items.{itemsBy, itemsOf, segsOf, putsL}
 use Rattle.model.proofs.Link.{clash}
 use Rattle.model.proofs.Acts.{MayPut, puts-good, air-good}
-use Rattle.model.proofs.Verdicts.{Within, event-within, found-by, poll-by, listen-by, failed-by, AirLegal, aired-legal}
+use Rattle.air.proofs.Taken.{Within, event-within, found-by, poll-by, listen-by, failed-by, AirLegal, aired-legal}
 use Rattle.model.proofs.Meanings.{itemsOf-append}
 use Rattle.model.proofs.Messages.{items-aired, Notices, notices-air}
 use Rattle.model.proofs.Order.{each, need, nil-of, replies, replies-append}

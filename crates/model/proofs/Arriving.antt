@@ -23,7 +23,7 @@ use Rattle.model.specs.Observer.{Ledger, Account, arrivedL, arrival, sho
 use Rattle.model.proofs.Items.{itemsOf, segsIn, segsOf}
 use Rattle.model.proofs.Link.{clash}
 use Rattle.model.proofs.Acts.{deliver-good, drop-good}
-use Rattle.model.proofs.Verdicts.{Fits, judge-fits, judge-legal}
+use Rattle.nfcc.proofs.Verdicts.{Fits, judge-fits, judge-legal}
 use Rattle.model.proofs.Order.{each, need, right-nil, named, headsIn, heads, ordersIn, replies, endsOrder, NoDatum, NoData, Tidy, one-only, other-way, way-run, way-more, way-last, way-low, way-small}
 use Rattle.model.proofs.Fine.{Order, Fine, Kept, Keeps, GoodAt, StoredFor, stored-append, order-open, at-keeps, standing-at, accountOf}
 use Rattle.model.proofs.Deciding.{Behind, decided-keeps}

@@ -21,11 +21,11 @@ use Rattle.dh.specs.Host.{okAnswer, answerOf, noticed, heardAlone, creditsFor, 
 use Rattle.state.proofs.Chains.{on}
 use Rattle.wires.specs.Meaning.{Meaning, datum, control, junk, meaning}
 use Rattle.wires.specs.Tally.{says}
-use Rattle.model.specs.Changes.{Change, stays, opens, changeHeard}
+use Rattle.ends.specs.Changes.{Change, stays, opens, changeHeard}
 use Rattle.model.proofs.Items.{Item, carry, credit, opened, closed, itemsBy, itemsIn, itemsOf}
 use Rattle.model.proofs.Phases.{walk, start, live, Ends, bad-walk}
 use Rattle.model.proofs.Link.{clash}
-use Rattle.model.proofs.Verdicts.{Named, command-named}
+use Rattle.nfcc.proofs.Verdicts.{Named, command-named}
 use Rattle.model.proofs.Order.{Name, named, pendingName, repliesIn, replies, left-nil, right-nil}
 
 -- ---- items that do not close

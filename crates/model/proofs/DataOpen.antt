@@ -15,7 +15,7 @@ use Rattle.dh.specs.Host.{aimOf}
 use Rattle.state.proofs.Chains.{on}
 use Rattle.wires.specs.Meaning.{Meaning, datum, control, junk, meaning}
 use Rattle.model.specs.State.{State}
-use Rattle.model.specs.Changes.{Change, stays, opens, closes, gives}
+use Rattle.ends.specs.Changes.{Change, stays, opens, closes, gives}
 use Rattle.model.specs.Observer.{Ledger, changeIn}
 use Rattle.model.specs.Reachable.{Always, openedBy, openAfter, isOpening, opensIn, DataOpen}
 use Rattle.model.proofs.Items.{Item, loaded, itemsBy, itemsIn, itemsOf}

@@ -6,9 +6,9 @@ use mathlib.Core.Path.{_≡_, refl, sym, ap, _∙_, subst}
 use mathlib.Core.Logic.{inl, inr}
 use mathlib.Core.Bool.{Bool, true, false}
 use mathlib.Core.List.{List, [], _∷_, _++_, append-assoc}
-use lib.Dec.{eqb, leb}
+use lib.Dec.{eqb}
 use lib.ListN.{length}
-use borrow.Author.Tests.{ne-eqb, eqb-false}
+use borrow.Author.Tests.{ne-eqb, eqb-false, lt-leb}
 use Rattle.octets.specs.Octets.{Octets, pick}
 use Rattle.model.specs.Kinds.{Terms, Profile, Verdict, Answer}
 use Rattle.packets.specs.Reassembly.{run}
@@ -22,18 +22,21 @@ use Rattle.state.specs.Runs.{controlLimit}
 use Rattle.nfcc.specs.Controller.{controllerAfter}
 use Rattle.messages.specs.Layout.{responseOf, responseMessage, noticeMessage, resetNtf, deactivateNtf}
 use Rattle.state.proofs.Chains.{on}
+use Rattle.state.proofs.Places.{dynamic-place}
+use Rattle.messages.proofs.Lengths.{response-short}
 use Rattle.model.specs.Connection.{Connection}
 use Rattle.wires.specs.Tally.{aimedAt, says}
 use Rattle.messages.specs.Packets.{responsePacket, noticePacket, noticePackets}
 use Rattle.model.specs.State.{State, isOpen}
 use Rattle.model.specs.Refusals.{noConn}
-use Rattle.model.specs.Changes.{Change, stays, opens, closes, changeBy, atController}
+use Rattle.ends.specs.Changes.{Change, stays, opens, closes, changeBy}
+use Rattle.model.specs.Changes.{atController}
 use Rattle.model.specs.calls.Down.{answers, deciding}
 use Rattle.model.specs.Observer.{Ledger, shown}
 use Rattle.model.proofs.Items.{putsL, Item, opened, itemsBy, itemsOf, segsOf}
 use Rattle.model.proofs.Link.{clash}
 use Rattle.model.proofs.Acts.{MayPut, puts-good}
-use Rattle.model.proofs.Verdicts.{Fits, Legal}
+use Rattle.nfcc.proofs.Verdicts.{Fits, Legal}
 use Rattle.model.proofs.Meanings.{itemsOf-append, meaning-notice}
 use Rattle.model.proofs.Messages.{answeredBy, says-response, Limits, items-answers, Notices, notices-verdict, meaning-answer}
 use Rattle.model.proofs.Order.{OnItsWay, each, Name, named, heads, replies, replies-append, pendingName, NoData, no-segs, no-data-tidy, right-nil}
@@ -53,15 +56,7 @@ verdict-plain (verdict.Deactivates type rf) d = on Plain (eqb 0 d) (λ e. tt) (�
 
 -- a dynamic Conn ID is one of the five
 pub dynamic-conn : (c : ℕ) → 2 ≤ c → c ≤ 5 → noConn c ≡ false
-unfolding placeOf
-dynamic-conn c low high =
-    let Five : ℕ → Type 0 = λ (n : ℕ). leb 5 n ≡ false in
-    on Five (eqb c 0) (λ e. refl)
-    (λ a. on Five (eqb c 2) (λ e. refl)
-    (λ b. on Five (eqb c 3) (λ e. refl)
-    (λ d. on Five (eqb c 4) (λ e. refl)
-    (λ g. on Five (eqb c 5) (λ e. refl)
-    (λ h. absurd (omega (arith, eqb-false c 2 b, eqb-false c 3 d, eqb-false c 4 g, eqb-false c 5 h)))))))
+dynamic-conn c low high = lt-leb 5 (placeOf c) (dynamic-place c low high)
 
 -- ---- the packets of an answer
 
@@ -74,17 +69,6 @@ answers-replies : (gid oid : ℕ) (p : Profile) (v : Verdict) → gid < 16 → o
 unfolding replies
 answers-replies gid oid p v low small =
     rw (meaning-answer gid oid p v low small) (ap (λ (ns : List Name). named gid oid ∷ ns) (notices-replies (noticePackets (noticeMessage v)) (notices-verdict v)))
-
-pub response-short : (p : Profile) (v : Verdict) → length (responseOf p v) ≤ controlLimit
-unfolding responseOf
-response-short p (verdict.Refuses status) = omega arith
-response-short p (verdict.Resets type) = omega arith
-response-short p verdict.Initialises = omega arith
-response-short p (verdict.Opens c t) = omega arith
-response-short p (verdict.Closes c) = omega arith
-response-short p (verdict.Turns rf) = omega arith
-response-short p (verdict.Selects pair) = omega arith
-response-short p (verdict.Deactivates type rf) = omega arith
 
 pub notice-sound : (gid oid : ℕ) (m : Octets) → gid < 16 → oid < 64 → length m ≤ controlLimit
     → Sound (noticePackets (record { gid = gid; oid = oid; payload = m }))

@@ -25,7 +25,8 @@ use Rattle.model.specs.State.{State, cold, at}
 use Rattle.model.specs.Effects.{Call, taken}
 use Rattle.dh.specs.Host.{isClosing}
 use Rattle.model.specs.Refusals.{noConn, first}
-use Rattle.model.specs.Changes.{Change, stays, opens, closes, gives, atController, atHost}
+use Rattle.ends.specs.Changes.{Change, stays, opens, closes, gives}
+use Rattle.model.specs.Changes.{atController, atHost}
 use Rattle.model.specs.calls.Consume.{isLoop}
 use Rattle.model.specs.Bench.{rules, act, judged}
 use Rattle.model.specs.Observer.{Ledger, Account, blank, putBy, readBy, putAll, changeIn, seen, eventOf}

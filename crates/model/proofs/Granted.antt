@@ -21,7 +21,7 @@ use Rattle.state.specs.Profile.{creditsOk}
 use Rattle.dh.specs.Contents.{statusAlone, createWritten, okWritten, activatedWritten, noticeWritten, noticeOf, written}
 use Rattle.dh.specs.Host.{heardAlone, answerOf, okAnswer, noticed, creditsFor}
 use Rattle.wires.specs.Tally.{aimedAt, says}
-use Rattle.model.specs.Changes.{Change, stays, opens, closes, gives, changeHeard}
+use Rattle.ends.specs.Changes.{Change, stays, opens, closes, gives, changeHeard}
 
 abbrev pub GrantsOctet : Change → Type 0
 GrantsOctet stays = Unit {0}

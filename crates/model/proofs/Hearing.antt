@@ -29,7 +29,7 @@ use Rattle.model.specs.State.{State, at, withUp, withConns, withHearing}
 use Rattle.model.specs.Effects.{Effect, taken, up}
 use Rattle.model.specs.Refusals.{isNil}
 use Rattle.model.specs.Runs.{runFor, sameRun}
-use Rattle.model.specs.Changes.{Change, stays, opens, closes, gives, changeHeard}
+use Rattle.ends.specs.Changes.{Change, stays, opens, closes, gives, changeHeard}
 use Rattle.model.specs.calls.Up.{understanding, hearing, heard, coming, reading}
 use Rattle.model.specs.Bench.{rules}
 use Rattle.model.specs.Observer.{Ledger, Account, givenL, readBy, changeIn, heardAs, seen, eventOf}

@@ -12,7 +12,7 @@ use Rattle.state.specs.Conn.{metered}
 use Rattle.state.specs.Runs.{dataLimit}
 use Rattle.model.specs.Connection.{Connection, ControllerEnd, withHost, withController, closedHost, openedHost, closedController, openedController, heardData, credited}
 use Rattle.wires.specs.Meaning.{Meaning, datum, control, junk, meaning}
-use Rattle.model.specs.Changes.{Change, stays, opens, closes, gives}
+use Rattle.ends.specs.Changes.{Change, stays, opens, closes, gives}
 use Rattle.model.specs.calls.Consume.{segmentIn}
 use Rattle.model.specs.Observer.{Ledger, putBy, readBy, givenL, changeIn}
 

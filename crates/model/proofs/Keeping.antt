@@ -26,7 +26,7 @@ use Rattle.state.proofs.Limits.{credits-few}
 use Rattle.model.specs.Effects.{taken, fresh, power, command, send, push, consume, credit, reply, report}
 use Rattle.model.specs.Refusals.{isNil, noConn}
 use Rattle.dh.specs.Host.{isClosing}
-use Rattle.model.specs.Changes.{givenTo}
+use Rattle.ends.specs.Changes.{givenTo}
 use Rattle.model.specs.calls.Push.{pushing}
 use Rattle.model.specs.calls.Consume.{isLoop, consuming, consumedAs, segmentIn}
 use Rattle.model.specs.calls.Credit.{owedBy, allZero}

@@ -2,7 +2,6 @@ pub mod Items
 pub mod Phases
 pub mod Link
 pub mod Acts
-pub mod Verdicts
 pub mod Granted
 pub mod Meanings
 pub mod Messages

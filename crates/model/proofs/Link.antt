@@ -15,7 +15,7 @@ use Rattle.state.specs.Conn.{flows, creditSum}
 use Rattle.state.specs.Runs.{dataLimit}
 use Rattle.model.specs.Connection.{Connection, closed as coldConnection}
 use Rattle.wires.specs.Meaning.{meaning}
-use Rattle.model.specs.Changes.{Change, stays, opens, closes, gives, creditsOf}
+use Rattle.ends.specs.Changes.{Change, stays, opens, closes, gives, creditsOf}
 use Rattle.model.specs.calls.Consume.{segmentIn}
 use Rattle.model.specs.calls.Report.{heldBy}
 use Rattle.model.specs.Observer.{HostCount, Ledger, blank}

@@ -34,12 +34,13 @@ use Rattle.messages.specs.Packets.{responsePacket, noticePacket, noticePackets}
 use Rattle.wires.specs.Meaning.{control, meaning}
 use Rattle.wires.specs.Tally.{says}
 use Rattle.model.specs.Refusals.{noConn, ids}
-use Rattle.model.specs.Changes.{stays, opens, closes, changeBy, changeAired, changeHeard, changeAnswered, givenTo}
+use Rattle.ends.specs.Changes.{stays, opens, closes, changeBy, changeAired, changeHeard, changeAnswered, givenTo}
 use Rattle.model.specs.calls.Down.{answers}
 use Rattle.model.specs.calls.Credit.{allZero}
 use Rattle.model.proofs.Items.{Item, closed, itemsBy, itemsOf}
 use Rattle.model.proofs.Meanings.{meaning-response, meaning-notice}
-use Rattle.model.proofs.Verdicts.{Fits, Within, found-by, poll-by, listen-by, failed-by}
+use Rattle.nfcc.proofs.Verdicts.{Fits}
+use Rattle.air.proofs.Taken.{Within, found-by, poll-by, listen-by, failed-by}
 
 -- ---- a profile within its limits: control payload 32-255, payloads 1-255, credits 1-8 or 255
 

@@ -28,7 +28,7 @@ use Rattle.model.specs.State.{State, isOpen, withUp}
 use Rattle.model.specs.Effects.{Call, fresh, power, command, send, push, down, consume, credit, air, reply, up, report, Result, taken, refused}
 use Rattle.model.specs.Refusals.{Rule, rule, first, isNil, noConn, isHeld, full, ids}
 use Rattle.model.specs.Runs.{sameRun, wholeBy}
-use Rattle.model.specs.Changes.{Change, creditsOf, changeHeard}
+use Rattle.ends.specs.Changes.{Change, creditsOf, changeHeard}
 use Rattle.model.specs.calls.Consume.{isLoop}
 use Rattle.model.specs.calls.Up.{above, anyOf, tooMany, firstTooMany}
 use Rattle.model.specs.Bench.{rules, judged, step}

@@ -27,9 +27,9 @@ use Rattle.wires.specs.Meaning.{Meaning, datum, control, junk, meaning}
 use Rattle.wires.specs.Tally.{aimedAt, says}
 use Rattle.messages.specs.Packets.{noticePacket, noticePackets}
 use Rattle.model.specs.Refusals.{noConn}
-use Rattle.model.specs.Changes.{Change, stays, opens, closes, gives, changeHeard}
+use Rattle.ends.specs.Changes.{Change, stays, opens, closes, gives, changeHeard}
 use Rattle.model.specs.calls.Down.{answers}
-use Rattle.model.proofs.Verdicts.{Fits}
+use Rattle.nfcc.proofs.Verdicts.{Fits}
 use Rattle.model.proofs.Meanings.{meaning-notice}
 use Rattle.model.proofs.Messages.{Limits, answeredBy, says-response, meaning-answer}
 use Rattle.model.proofs.Order.{each}

@@ -26,14 +26,15 @@ use Rattle.messages.specs.Packets.{noticePacket, noticePackets}
 use Rattle.wires.specs.Meaning.{meaning}
 use Rattle.model.specs.State.{State, cold}
 use Rattle.model.specs.Refusals.{noConn}
-use Rattle.model.specs.Changes.{Change, stays, opens, closes, gives, atController, atHost}
+use Rattle.ends.specs.Changes.{Change, stays, opens, closes, gives}
+use Rattle.model.specs.Changes.{atController, atHost}
 use Rattle.model.specs.calls.Down.{answers}
 use Rattle.model.specs.Reachable.{WellFormed, GoesDown, GoesUp, Each}
-use Rattle.model.proofs.Verdicts.{Within}
+use Rattle.messages.proofs.Lengths.{response-short}
+use Rattle.air.proofs.Taken.{Within}
 use Rattle.model.proofs.Meanings.{meaning-data, meaning-command, meaning-response, meaning-notice}
 use Rattle.model.proofs.Fine.{conn-small}
 use Rattle.model.proofs.Keeping.{entries-few}
-use Rattle.model.proofs.Deciding.{response-short}
 
 -- ---- lists
 

@@ -33,7 +33,8 @@ use Rattle.model.specs.State.{State, isOpen, at, withConns, withDown, wi
 use Rattle.model.specs.Effects.{fresh, power, command, send, push, down, consume, credit, air, reply, up, report, Effect, taken}
 use Rattle.model.specs.Refusals.{first, noConn, isNil, full, isHeld}
 use Rattle.model.specs.Runs.{runFor, runAfter, wholeBy}
-use Rattle.model.specs.Changes.{stays, opens, closes, changeBy, changeHeard, atHost}
+use Rattle.ends.specs.Changes.{stays, opens, closes, changeBy, changeHeard}
+use Rattle.model.specs.Changes.{atHost}
 use Rattle.model.specs.calls.Push.{pushing}
 use Rattle.model.specs.calls.Down.{answers, deciding, answering, arriving, taking, tooTight, firstFull, needsTwo, storeFull}
 use Rattle.model.specs.calls.Consume.{isLoop, echo, segmentIn, joinedRun, consuming}
@@ -45,7 +46,8 @@ use Rattle.model.specs.Bench.{rules, act}
 use Rattle.model.specs.Observer.{Ledger}
 use Rattle.model.specs.Reachable.{Always, RunWithin, Sizes}
 use Rattle.model.proofs.Link.{clash, held-le, owed-le}
-use Rattle.model.proofs.Verdicts.{Fits, judge-fits, Within, event-within}
+use Rattle.nfcc.proofs.Verdicts.{Fits, judge-fits}
+use Rattle.air.proofs.Taken.{Within, event-within}
 use Rattle.model.proofs.Meanings.{meaning-data}
 use Rattle.model.proofs.Messages.{Limits, profile-limits, notices-few}
 use Rattle.model.proofs.Order.{each, need, way-low, way-small}
@@ -56,7 +58,9 @@ use Rattle.model.proofs.Trace.{reachable}
 use Rattle.model.proofs.Always.{Stays, always}
 use Rattle.model.proofs.Never.{heard-whole}
 use Rattle.model.proofs.Said.{Bounded, Said, said-append, hear-bounded, terms-bounded, answers-said, air-said, credit-said, data-said, OpensWithin, heard-opens}
-use Rattle.model.proofs.Small.{HostSmall, ControllerSmall, ConnSmall, Small, cold-small, sent-octets, grown-within, more-none, at-small, change-controller, change-host, held-known, open-known, after-steady, aired-steady}
+use Rattle.nfcc.proofs.Verdicts.{after-steady}
+use Rattle.air.proofs.Taken.{aired-steady}
+use Rattle.model.proofs.Small.{HostSmall, ControllerSmall, ConnSmall, Small, cold-small, sent-octets, grown-within, more-none, at-small, change-controller, change-host, held-known, open-known}
 
 -- ---- down
 

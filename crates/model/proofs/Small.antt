@@ -1,38 +1,33 @@
--- The sizes that a bench may have, as an invariant: one connection, the controller's own numbers, the bench. That each call keeps it is
+-- The sizes that a bench may have, as an invariant: one connection, the bench. That each call keeps it is
 -- in Sizes.
 -- Assumes nothing.
 use Prim.Native.Nat.{ℕ, zero, suc, _+_, _≤_}
 use native.Mathlib.Omega.{arith}
-use mathlib.Core.Path.{_≡_, refl, ap, _∙_}
-use mathlib.Core.Logic.{_⊎_, inl, inr}
+use mathlib.Core.Path.{_≡_, refl, ap}
+use mathlib.Core.Logic.{inl}
 use mathlib.Core.Bool.{Bool, true, false}
 use mathlib.Core.List.{List, []}
 use lib.Dec.{ltb}
-use lib.ListN.{length, drop, length-append, length-take, length-drop, length-set}
-use borrow.Author.Tests.{ltb-false, ltb-true}
+use lib.ListN.{length, drop, length-append, length-take, length-drop}
+use borrow.Author.Tests.{ltb-false}
 use Rattle.octets.specs.Octets.{Octets, pick}
 use Rattle.packets.specs.Segments.{Segment, more, last, segmentsWithin, segments}
 use Rattle.packets.specs.Reassembly.{Run, run, lost, grown, finished}
-use Rattle.model.specs.Kinds.{Profile, Pairs, Rf, Controller, Verdict, Listing, Aired}
-use Rattle.model.specs.Kinds.verdict as verdict
-use Rattle.model.specs.Kinds.listing.{Keeps, Starts, Adds}
-use Rattle.model.specs.Kinds.aired.{Refused, Goes, Activates, Ends, Speaks}
+use Rattle.model.specs.Kinds.{Profile}
 use Rattle.model.specs.Kinds.answer.{Opens, Closes}
-use Rattle.state.specs.Radio.{isIdle, addedTo}
 use Rattle.state.specs.Runs.{dataLimit, controlLimit}
 use Rattle.state.specs.Profile.{TermsWithin}
-use Rattle.nfcc.specs.Controller.{turned, controllerAfter}
-use Rattle.air.specs.Air.{listedAfter, controllerAired}
 use Rattle.state.proofs.Chains.{on}
+use Rattle.state.proofs.Steady.{Steady}
 use Rattle.model.specs.Connection.{Connection, HostEnd, ControllerEnd, withHost, withController, closed, stored}
 use Rattle.model.specs.State.{State, cold, at}
 use Rattle.model.specs.Effects.{down, up}
 use Rattle.model.specs.Refusals.{noConn}
-use Rattle.model.specs.Changes.{Change, stays, opens, closes, gives, atController, atHost}
+use Rattle.ends.specs.Changes.{Change, stays, opens, closes, gives}
+use Rattle.model.specs.Changes.{atController, atHost}
 use Rattle.model.specs.calls.Up.{hearing}
 use Rattle.model.specs.Reachable.{octetsIn, RunWithin}
 use Rattle.model.proofs.Link.{clash}
-use Rattle.model.proofs.Verdicts.{Fits}
 use Rattle.model.proofs.Messages.{Limits}
 use Rattle.model.proofs.Order.{each}
 use Rattle.model.proofs.Said.{Said, OpensWithin}
@@ -144,48 +139,6 @@ open-known d k m o = go (noConn d) refl
     go : (b : Bool) → noConn d ≡ b → b ≡ false
     go true e = clash o (ap (λ (x : Connection). x .controller .opened) (m .other e))
     go false e = refl
-
--- ---- the controller's own numbers
-
-pub record Steady (k : Controller) : Type 0 where
-  pub given : (k .given ≡ 0) ⊎ ((2 ≤ k .given) × (k .given ≤ 5))
-  pub pairs : k .pairs .count ≤ 8
-  pub places : length (k .pairs .list) ≡ 8
-
-turned-steady : (k : Controller) (rf : Rf) → Steady k → Steady (turned k rf)
-turned-steady k rf m =
-    record {
-      given = m .given;
-      pairs = on (λ (ps : Pairs). ps .count ≤ 8) (isIdle rf) (λ e. omega arith) (λ e. m .pairs);
-      places = on (λ (ps : Pairs). length (ps .list) ≡ 8) (isIdle rf) (λ e. refl) (λ e. m .places);
-    }
-
-pub after-steady : (gid oid aim : ℕ) (p : Profile) (k : Controller) (v : Verdict) → Fits gid oid aim p v → Steady k → Steady (controllerAfter k v)
-unfolding controllerAfter
-after-steady gid oid aim p k (verdict.Refuses status) f m = m
-after-steady gid oid aim p k (verdict.Resets type) f m = record { given = inl refl; pairs = omega arith; places = refl }
-after-steady gid oid aim p k verdict.Initialises f m = record { given = m .given; pairs = m .pairs; places = m .places }
-after-steady gid oid aim p k (verdict.Opens c t) f m = record { given = inr (f .2, f .3); pairs = m .pairs; places = m .places }
-after-steady gid oid aim p k (verdict.Closes c) f m = m
-after-steady gid oid aim p k (verdict.Turns rf) f m = turned-steady k rf m
-after-steady gid oid aim p k (verdict.Selects pair) f m = turned-steady k _ m
-after-steady gid oid aim p k (verdict.Deactivates type rf) f m = turned-steady k rf m
-
-listed-pairs : (ps : Pairs) (l : Listing) → ps .count ≤ 8 → length (ps .list) ≡ 8 → (listedAfter ps l .count ≤ 8) × (length (listedAfter ps l .list) ≡ 8)
-unfolding addedTo
-listed-pairs ps Keeps h e = (h, e)
-listed-pairs ps (Starts p) h e = (omega arith, refl)
-listed-pairs ps (Adds p) h e =
-    on (λ (x : Pairs). (x .count ≤ 8) × (length (x .list) ≡ 8)) (ltb (ps .count) 8)
-    (λ z. let low = ltb-true (ps .count) 8 z in (omega arith, length-set (ps .list) (ps .count) p ∙ e)) (λ z. (h, e))
-
-pub aired-steady : (k : Controller) (a : Aired) → Steady k → Steady (controllerAired k a)
-unfolding controllerAired
-aired-steady k Refused m = m
-aired-steady k (Goes rf l) m = let q = listed-pairs (k .pairs) l (m .pairs) (m .places) in record { given = m .given; pairs = q .0; places = q .1 }
-aired-steady k (Activates rf l) m = let q = listed-pairs (k .pairs) l (m .pairs) (m .places) in record { given = m .given; pairs = q .0; places = q .1 }
-aired-steady k (Ends rf) m = record { given = m .given; pairs = m .pairs; places = m .places }
-aired-steady k Speaks m = m
 
 -- ---- the bench
 

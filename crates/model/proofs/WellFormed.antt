@@ -25,7 +25,7 @@ use Rattle.model.specs.State.{State, isOpen, at, withConns, withDown, wi
 use Rattle.model.specs.Effects.{Call, fresh, power, command, send, push, down, consume, credit, air, reply, up, report, Effect, taken}
 use Rattle.model.specs.Refusals.{first, noConn, isNil, isHeld}
 use Rattle.model.specs.Runs.{runAfter, wholeBy}
-use Rattle.model.specs.Changes.{changeBy, changeAired, changeHeard}
+use Rattle.ends.specs.Changes.{changeBy, changeAired, changeHeard}
 use Rattle.model.specs.calls.Push.{pushing}
 use Rattle.model.specs.calls.Down.{answers, deciding, answering, arriving, taking}
 use Rattle.model.specs.calls.Consume.{isLoop, echo, segmentIn, joinedRun, consuming}
@@ -36,7 +36,7 @@ use Rattle.model.specs.Bench.{rules, act}
 use Rattle.model.specs.Observer.{Ledger}
 use Rattle.model.specs.Reachable.{Always, WellFormed, GoesDown, GoesUp, Each, Wires}
 use Rattle.model.proofs.Link.{clash}
-use Rattle.model.proofs.Verdicts.{event-within}
+use Rattle.air.proofs.Taken.{event-within}
 use Rattle.model.proofs.Order.{each, need, way-low, way-small}
 use Rattle.model.proofs.Fine.{Fine, StoredIn, StoredFor}
 use Rattle.model.proofs.Always.{always}

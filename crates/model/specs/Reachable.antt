@@ -19,7 +19,7 @@ use Rattle.wires.specs.Meaning.{Meaning, datum, control, junk, meaning}
 use Rattle.model.specs.State.{State, cold}
 use Rattle.model.specs.Effects.{Call, refused}
 use Rattle.model.specs.Refusals.{noConn}
-use Rattle.model.specs.Changes.{Change, stays, opens, closes, gives}
+use Rattle.ends.specs.Changes.{Change, stays, opens, closes, gives}
 use Rattle.model.specs.Bench.{step}
 use Rattle.model.specs.Observer.{after, changeIn}
 

@@ -1,1 +1,2 @@
 pub mod CommandTrips
+pub mod Verdicts

@@ -2,3 +2,5 @@ pub mod Progress
 pub mod Chains
 pub mod Places
 pub mod Limits
+pub mod Conns
+pub mod Steady

@@ -1,8 +1,8 @@
 -- Conn IDs and places undo one another.
 -- Assumes nothing.
-use Prim.Native.Nat.{ℕ, zero, suc, _+_, _<_}
+use Prim.Native.Nat.{ℕ, zero, suc, _+_, _≤_, _<_}
 use native.Mathlib.Omega.{arith}
-use mathlib.Core.Path.{_≡_, refl, sym, _∙_}
+use mathlib.Core.Path.{_≡_, refl, sym, ap, subst, _∙_}
 use mathlib.Core.Bool.{Bool, true, false}
 use lib.Dec.{eqb}
 use borrow.Author.Tests.{eqb-true}
@@ -29,6 +29,21 @@ on-place c n k {rest} e f h = go (eqb c n) refl h
 pub conn-place : (c : ℕ) → placeOf c < 5 → connOf (placeOf c) ≡ c
 unfolding placeOf connOf
 conn-place c h = on-place c 0 0 refl (on-place c 2 1 refl (on-place c 3 2 refl (on-place c 4 3 refl (on-place c 5 4 refl (λ l. absurd (omega arith)))))) h
+
+-- a dynamic connection has a place
+pub dynamic-place : (c : ℕ) → 2 ≤ c → c ≤ 5 → placeOf c < 5
+unfolding placeOf
+dynamic-place zero low high = absurd (omega arith)
+dynamic-place (suc zero) low high = absurd (omega arith)
+dynamic-place (suc (suc zero)) low high = omega arith
+dynamic-place (suc (suc (suc zero))) low high = omega arith
+dynamic-place (suc (suc (suc (suc zero)))) low high = omega arith
+dynamic-place (suc (suc (suc (suc (suc zero))))) low high = omega arith
+dynamic-place (suc (suc (suc (suc (suc (suc n)))))) low high = absurd (omega arith)
+
+-- two connections have two places
+pub places-differ : (c d : ℕ) → placeOf c < 5 → (c ≡ d → ⊥) → placeOf c ≡ placeOf d → ⊥
+places-differ c d h ne e = ne (sym (conn-place c h) ∙ ap connOf e ∙ conn-place d (subst (λ (p : ℕ). p < 5) e h))
 
 -- Conn IDs ascend with their places
 pub conn-suc : (p : ℕ) → p < 4 → connOf (suc p) ≡ 2 + p

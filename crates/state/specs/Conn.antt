@@ -122,3 +122,16 @@ joinedAt conns c t = withHost conns c (openedHost t)
 
 abbrev pub allLeft : List Counts → List Counts
 allLeft conns = leftAt (leftAt (leftAt (leftAt (leftAt conns 0) 2) 3) 4) 5
+
+-- ---- a credit notice
+
+-- all that a connection owes has been put in a notice; what a closed one, or one without flow control, has there is never owed, and stays
+abbrev pub noticedSide : ControllerSide → ControllerSide
+noticedSide k =
+    record { opened = k .opened; grant = k .grant; owed = pick (k .opened && flows (k .grant)) 0 (k .owed); store = k .store; run = k .run }
+
+abbrev pub noticedAt : List Counts → ℕ → List Counts
+noticedAt conns c = withController conns c (noticedSide (countsOf conns c .controller))
+
+abbrev pub allNoticed : List Counts → List Counts
+allNoticed conns = noticedAt (noticedAt (noticedAt (noticedAt (noticedAt conns 0) 2) 3) 4) 5

@@ -8,7 +8,7 @@ use crate::kinds::Progress;
 use crate::kinds::Ring;
 use crate::kinds::Terms;
 ghost use mathlib.Core.Path.{_≡_};
-ghost use Rattle.state.specs.Conn.{placeOf, connOf, termsOf, metered, creditSum, owing, countsOf, heldOpen, openAt, start, empty, handWith, handAfter, closedController, openedController, closedHost, openedHost, withController, withHost, shutAt, openedAt, allShut, leftAt, joinedAt, allLeft};
+ghost use Rattle.state.specs.Conn.{placeOf, connOf, termsOf, metered, creditSum, owing, countsOf, heldOpen, openAt, start, empty, handWith, handAfter, closedController, openedController, closedHost, openedHost, withController, withHost, shutAt, openedAt, allShut, leftAt, joinedAt, allLeft, noticedSide, noticedAt, allNoticed};
 
 // The credits octet for no flow control.
 pub const UNMETERED: u8 = 255;
@@ -309,4 +309,35 @@ pub fn all_left(conns: [Counts; 5]) -> [Counts; 5]
     let c = left_at(b, 3);
     let d = left_at(c, 4);
     left_at(d, 5)
+}
+
+// All that a connection owes has been put in a notice.
+fn noticed_side(k: ControllerSide) -> ControllerSide
+    ensures { λ r. ⌜ r ≡ noticedSide k ⌝ }
+{
+    let mut next = k;
+    if k.opened & (k.grant != UNMETERED) {
+        next.owed = 0;
+    }
+    next
+}
+
+// A connection's credits have been put in a notice.
+fn noticed_at(conns: [Counts; 5], conn: u8) -> [Counts; 5]
+    ensures { λ r. ⌜ r ≡ noticedAt conns conn ⌝ }
+{
+    let c = counts_of(conns, conn);
+    let side = noticed_side(c.controller);
+    with_controller(conns, conn, side)
+}
+
+// The credits of all connections have been put in a notice.
+pub fn all_noticed(conns: [Counts; 5]) -> [Counts; 5]
+    ensures { λ r. ⌜ r ≡ allNoticed conns ⌝ }
+{
+    let a = noticed_at(conns, 0);
+    let b = noticed_at(a, 2);
+    let c = noticed_at(b, 3);
+    let d = noticed_at(c, 4);
+    noticed_at(d, 5)
 }

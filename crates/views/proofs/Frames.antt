@@ -7,15 +7,16 @@ use mathlib.Core.Path.{_≡_, refl, sym, ap, _∙_, subst}
 use mathlib.Core.Logic.{_⊎_, inl, inr}
 use mathlib.Core.Bool.{Bool, true, false}
 use mathlib.Core.List.{List, []}
-use lib.ListN.{length, getD, set, List·getD-eq-default}
+use lib.ListN.{length, getD, set}
 use lib.Seq.{getD-set-same, getD-set-other}
 use lib.Dec.{eqb}
 use borrow.Author.Tests.{eqb-true, eqb-false}
 use Rattle.octets.specs.Octets.{Octets, pick, cut, splice}
 use Rattle.packets.specs.Segments.{Segment}
 use Rattle.views.specs.Kinds.{Hand, Counts}
-use Rattle.state.specs.Conn.{placeOf, connOf, closedCounts, countsOf}
-use Rattle.state.proofs.Places.{conn-place}
+use Rattle.state.specs.Conn.{placeOf, closedCounts, countsOf}
+use Rattle.state.proofs.Places.{places-differ}
+use Rattle.state.proofs.Conns.{past-five}
 use Rattle.record.specs.Fit.{FitCounts}
 use Rattle.area.specs.Map.{payloadSize, storeSlots, storeSize, messageSize, places, storeAt, handAt, endpointAt, hostRunAt, controllerRunAt}
 use Rattle.area.specs.Ring.{tab, packetsFrom}
@@ -80,15 +81,6 @@ connection-kept p a b k s f kept i =
 none-kept : (p : ℕ) (a b : Octets) (s : List Segment) → connectionOf p b closedCounts s ≡ connectionOf p a closedCounts s
 unfolding handOf runOf packetsFrom tab cut
 none-kept p a b s = refl
-
--- ---- Conn IDs and places
-
-past-five : (l : List Counts) (p : ℕ) → length l ≡ 5 → (p < places → ⊥) → getD l p closedCounts ≡ closedCounts
-past-five l p n h = let m : length l ≤ p = omega arith in List·getD-eq-default l closedCounts m
-
--- two connections have two places
-pub places-differ : (c d : ℕ) → placeOf c < places → (c ≡ d → ⊥) → placeOf c ≡ placeOf d → ⊥
-places-differ c d h ne e = ne (sym (conn-place c h) ∙ ap connOf e ∙ conn-place d (subst (λ (p : ℕ). p < places) e h))
 
 -- ---- all connections
 

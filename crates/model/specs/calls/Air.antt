@@ -16,7 +16,8 @@ use Rattle.messages.specs.Packets.{noticePackets}
 use Rattle.model.specs.State.{State, at, withConns, withControllerState}
 use Rattle.model.specs.Effects.{Effect, puttingUp}
 use Rattle.model.specs.Refusals.{Rule, rule, isNil, full}
-use Rattle.model.specs.Changes.{changeAired, atController}
+use Rattle.ends.specs.Changes.{changeAired}
+use Rattle.model.specs.Changes.{atController}
 
 abbrev pub airing : State → Octets → Aired
 airing s m = airedBy (s .controller .rf) (s .controller .pairs) (eventOf m)

@@ -17,7 +17,8 @@ use Rattle.model.specs.State.{State, isOpen, at, withConns, withDown, wi
 use Rattle.model.specs.Effects.{Effect, quiet, flaggedAs, puttingUp}
 use Rattle.model.specs.Refusals.{Rule, rule, isNil, full}
 use Rattle.model.specs.Runs.{runAfter, wholeBy, flagBy}
-use Rattle.model.specs.Changes.{changeBy, atController}
+use Rattle.ends.specs.Changes.{changeBy}
+use Rattle.model.specs.Changes.{atController}
 
 -- the last packet of a command needs two slots for its answer
 abbrev pub needsTwo : Meaning → Bool

@@ -18,7 +18,8 @@ use Rattle.model.specs.State.{State, at, withConns, withUp, withHostStat
 use Rattle.model.specs.Effects.{Effect, quiet, flaggedAs}
 use Rattle.model.specs.Refusals.{Rule, rule, isNil, ids, isHeld}
 use Rattle.model.specs.Runs.{runAfter, wholeBy, flagBy}
-use Rattle.model.specs.Changes.{changeHeard, atHost, creditsOf}
+use Rattle.ends.specs.Changes.{changeHeard, creditsOf}
+use Rattle.model.specs.Changes.{atHost}
 
 -- a finished data message is handed out; data for a connection not open at the host is dropped
 abbrev pub receiving : ℕ → Segment → State → Effect

@@ -4,7 +4,7 @@ use Prim.Native.Nat.{ℕ}
 use mathlib.Core.List.{List}
 use Rattle.dh.specs.Kinds.{Counts}
 use Rattle.dh.specs.Host.{creditedAt}
-use Rattle.dh.proofs.Hearing.{five}
+use Rattle.state.proofs.Conns.{five}
 use borrow.Author.Needs.{needs}
 use Rattle.dh.proofs.host.all_credited.Statement.{statement}
 use Rattle.dh.proofs.host.all_credited.Tie as tie

@@ -1,0 +1,54 @@
+// A whole command at the controller (document 01, "What the controller answers").
+use messages::layout;
+use messages::layout::Note;
+use nfcc::controller;
+use state::kinds::Ends;
+use state::runs::CONTROL_LIMIT;
+use state::verdict::Verdict;
+ghost use mathlib.Core.Path.{_≡_};
+ghost use Rattle.ends.specs.Steps.{decided, Answers};
+
+// The verdict on a command, and both ends' numbers after it.
+pub struct Decision {
+    pub verdict: Verdict,
+    pub next: Ends,
+}
+
+// The decision, the response, and the notification after it, where there is one.
+pub struct Answered {
+    pub decision: Decision,
+    pub response: Note,
+    pub notice: Note,
+}
+
+// What the controller decides on a command.
+pub fn decide(e: Ends, gid: u8, oid: u8, m: &[u8]) -> Decision
+    ensures { λ r. ⌜ r ≡ decided e gid oid (now (m .entry)) ⌝ }
+{
+    let conns = e.conns;
+    let v = controller::judge(e.profile, e.controller, conns, gid, oid, m);
+    let after = controller::conns_after(conns, v);
+    let mut next = e;
+    next.controller = controller::controller_after(e.controller, v);
+    next.endpoint = controller::endpoint_after(e.endpoint, v);
+    next.conns = after;
+    Decision {
+        verdict: v,
+        next: next,
+    }
+}
+
+// What the controller answers to a command: the response goes into the first buffer, the notification into the second.
+pub fn answer(e: Ends, gid: u8, oid: u8, m: &[u8], rsp: &mut [u8; CONTROL_LIMIT], ntf: &mut [u8; CONTROL_LIMIT]) -> Answered
+    ensures { λ r. ⌜ Answers e gid oid (decided e gid oid (now (m .entry))) r (now (rsp .entry)) (now (ntf .entry)) (now (rsp .exit)) (now (ntf .exit)) ⌝ }
+{
+    let d = decide(e, gid, oid, m);
+    let v = d.verdict;
+    let response = layout::response(rsp, gid, oid, e.profile, v);
+    let notice = layout::notice(ntf, v);
+    Answered {
+        decision: d,
+        response: response,
+        notice: notice,
+    }
+}
