@@ -2,12 +2,12 @@
 -- Assumes nothing.
 use Prim.Native.Nat.{ℕ, _+_, _≤_, _<_}
 use mathlib.Core.Path.{_≡_, refl, sym, ap, _∙_, subst}
-use mathlib.Core.Bool.{true, false, not, _&&_}
+use mathlib.Core.Bool.{false, not, _&&_}
 use mathlib.Core.List.{List, [], _∷_, _++_}
 use native.Mathlib.Omega.{arith}
 use lib.ListN.{length, length-set}
 use lib.Dec.{eqb, leb, ltb}
-use borrow.Author.Tests.{leb-false, ltb-true, ltb-false, not-false}
+use borrow.Author.Tests.{leb-false, ltb-true, not-false}
 use Rattle.octets.specs.Octets.{Octets, cut}
 use Rattle.octets.specs.Octal.{Octal}
 use Rattle.octets.proofs.Octets.{length-splice}

@@ -46,8 +46,8 @@ use Rattle.model.specs.Bench.{rules, act}
 use Rattle.model.specs.Observer.{Ledger}
 use Rattle.model.specs.Reachable.{Always, RunWithin, Sizes}
 use Rattle.model.proofs.Link.{clash, held-le, owed-le}
-use Rattle.nfcc.proofs.Verdicts.{Fits, judge-fits}
-use Rattle.air.proofs.Taken.{Within, event-within}
+use Rattle.nfcc.proofs.Verdicts.{Fits, judge-fits, after-steady}
+use Rattle.air.proofs.Taken.{Within, event-within, aired-steady}
 use Rattle.model.proofs.Meanings.{meaning-data}
 use Rattle.model.proofs.Messages.{Limits, profile-limits, notices-few}
 use Rattle.model.proofs.Order.{each, need, way-low, way-small}
@@ -58,8 +58,6 @@ use Rattle.model.proofs.Trace.{reachable}
 use Rattle.model.proofs.Always.{Stays, always}
 use Rattle.model.proofs.Never.{heard-whole}
 use Rattle.model.proofs.Said.{Bounded, Said, said-append, hear-bounded, terms-bounded, answers-said, air-said, credit-said, data-said, OpensWithin, heard-opens}
-use Rattle.nfcc.proofs.Verdicts.{after-steady}
-use Rattle.air.proofs.Taken.{aired-steady}
 use Rattle.model.proofs.Small.{HostSmall, ControllerSmall, ConnSmall, Small, cold-small, sent-octets, grown-within, more-none, at-small, change-controller, change-host, held-known, open-known}
 
 -- ---- down

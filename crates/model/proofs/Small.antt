@@ -14,7 +14,6 @@ use Rattle.octets.specs.Octets.{Octets, pick}
 use Rattle.packets.specs.Segments.{Segment, more, last, segmentsWithin, segments}
 use Rattle.packets.specs.Reassembly.{Run, run, lost, grown, finished}
 use Rattle.model.specs.Kinds.{Profile}
-use Rattle.model.specs.Kinds.answer.{Opens, Closes}
 use Rattle.state.specs.Runs.{dataLimit, controlLimit}
 use Rattle.state.specs.Profile.{TermsWithin}
 use Rattle.state.proofs.Chains.{on}
