@@ -1,0 +1,2 @@
+// The controller's calls on octets: for each what refuses it, and what it does where nothing does. What they come to is
+// defined in calls/specs.
