@@ -23,7 +23,7 @@ use Rattle.model.specs.Effects.{Call, Result, taken, refused}
 use Rattle.model.specs.Refusals.{first}
 use Rattle.model.specs.Bench.{rules, judged, step}
 use Rattle.calls.specs.Word.{answerIn, droppedIn, handedIn, lengthIn, downIn, upIn}
-use Rattle.calls.specs.Outcome.{Outcome, outcome, entryRules, called}
+use Rattle.calls.specs.Outcome.{Outcome, outcome, decided, called}
 use Rattle.calls.specs.Seen.{Puts, noPuts, restarts, putsAfter}
 use Rattle.calls.specs.Refines.{Good, Follows, Along, RefinesTo, Refines}
 use Rattle.calls.proofs.Rules.{small, numbered, refused-small}
@@ -118,21 +118,22 @@ module _ (c : Call) (o : Outcome) (p : Puts) (a out : Octets) (g : Good a) (room
         along = subst (λ (q : Puts). Along q a) (sym still) (record { down = omega (arith, al .down); up = omega (arith, al .up) });
       }
 
-  -- a call whose rules are the model's own, and which, taken, does what the model does
+  -- what the model's own rules decide, where a call that is taken does what the model does
+  pub decided-refines : numbered (rules c (viewOf a)) ≡ true
+      → (first (rules c (viewOf a)) ≡ taken → RefinesTo c p o (judged taken c (viewOf a)))
+      → Refines c p a (decided (first (rules c (viewOf a))) o a out)
+  unfolding step
+  decided-refines w done = go (first (rules c (viewOf a))) refl
+    where
+      go : (x : Result) → first (rules c (viewOf a)) ≡ x → RefinesTo c p (decided x o a out) (judged x c (viewOf a))
+      go taken e = done e
+      go (refused n) e = refusal-refines n (refused-small (rules c (viewOf a)) n w e)
+
+  -- so for a call that was entered
   pub called-refines : numbered (rules c (viewOf a)) ≡ true
       → (first (rules c (viewOf a)) ≡ taken → RefinesTo c p o (judged taken c (viewOf a)))
       → Refines c p a (called (rules c (viewOf a)) o a out)
-  unfolding step
-  called-refines w done = go (first (rules c (viewOf a))) refl
-    where
-      entry : first (entryRules a (length out)) ≡ taken
-      entry = enters a (length out) (g .long) (g .judged) room
-
-      go : (x : Result) → first (rules c (viewOf a)) ≡ x
-          → RefinesTo c p (called (rules c (viewOf a)) o a out) (judged (first (rules c (viewOf a))) c (viewOf a))
-      go taken e =
-          subst (λ (y : Outcome). RefinesTo c p y (judged (first (rules c (viewOf a))) c (viewOf a))) (called-own (rules c (viewOf a)) o a out taken entry e)
-          (subst (λ (x : Result). RefinesTo c p o (judged x c (viewOf a))) (sym e) (done e))
-      go (refused n) e =
-          subst (λ (y : Outcome). RefinesTo c p y (judged (first (rules c (viewOf a))) c (viewOf a))) (called-own (rules c (viewOf a)) o a out (refused n) entry e)
-          (subst (λ (x : Result). RefinesTo c p (outcome n a out) (judged x c (viewOf a))) (sym e) (refusal-refines n (refused-small (rules c (viewOf a)) n w e)))
+  called-refines w done =
+      subst (Refines c p a)
+      (called-own (rules c (viewOf a)) o a out (first (rules c (viewOf a))) (enters a (length out) (g .long) (g .judged) room) refl)
+      (decided-refines w done)

@@ -7,6 +7,7 @@ pub use Rattle.state.specs.declared.kinds.Counts.{Counts}
 pub use Rattle.state.specs.declared.kinds.Hand.{Hand}
 pub use Rattle.state.specs.declared.kinds.HostSide.{HostSide}
 pub use Rattle.state.specs.declared.kinds.ControllerSide.{ControllerSide}
+pub use Rattle.state.specs.declared.kinds.Profile.{Profile}
 pub use Rattle.state.specs.declared.kinds.Record.{Record}
 pub use Rattle.state.specs.declared.kinds.Ring.{Ring}
 pub use Rattle.record.specs.declared.load.Loaded.{Loaded}

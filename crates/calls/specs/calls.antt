@@ -1,1 +1,4 @@
+pub mod Fresh
+pub mod Power
 pub mod Push
+pub mod Report

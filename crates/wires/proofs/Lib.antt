@@ -3,3 +3,4 @@
 pub mod Slots
 pub mod Counting
 pub mod Saying
+pub mod Few

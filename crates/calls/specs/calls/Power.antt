@@ -1,0 +1,18 @@
+-- power on octets: the record of a cold bench is written with the profile that is there; both wires are empty by their counts.
+-- Assumes nothing.
+use Rattle.octets.specs.Octets.{Octets}
+use Rattle.calls.specs.Kinds.{Record}
+use Rattle.record.specs.Reading.{decodeOf}
+use Rattle.record.specs.Claims.{stored}
+use Rattle.record.specs.Plan.{coldRecord}
+use Rattle.views.specs.View.{viewOf}
+use Rattle.model.specs.Effects.{power}
+use Rattle.model.specs.Bench.{rules}
+use Rattle.calls.specs.Outcome.{Outcome, outcome, called}
+use Rattle.calls.specs.calls.Fresh.{quietWord}
+
+abbrev pub powered : Record → Octets → Octets → Outcome
+powered r a out = outcome quietWord (stored a (coldRecord (r .ends .profile))) out
+
+unfoldable pub powerCall : Octets → Octets → Outcome
+powerCall a out = called (rules power (viewOf a)) (powered (decodeOf a) a out) a out
