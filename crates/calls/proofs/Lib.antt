@@ -4,3 +4,4 @@ pub mod Refining
 pub mod Pushing
 pub mod Starting
 pub mod Reporting
+pub mod Entering

@@ -49,9 +49,11 @@ use Rattle.model.specs.Bench.{act, judged}
 use Rattle.model.specs.Observer.{eventOf}
 use Rattle.model.proofs.Order.{need}
 use Rattle.calls.specs.Word.{wordOf, answerIn, droppedIn, handedIn, lengthIn, downIn, upIn}
+use Rattle.calls.specs.Outcome.{lowest}
 use Rattle.calls.specs.Seen.{Puts, putsAfter, seenBy}
 use Rattle.calls.specs.Refines.{Good, Follows, Along, RefinesTo, Refines}
 use Rattle.calls.specs.calls.Push.{hostSide, pushedSide, pushedRecord, pushedSegment, pushedPacket, pushedSlot, pushedWord, pushed, pushCall, Pushable}
+use Rattle.calls.proofs.Rules.{first-taken}
 use Rattle.calls.proofs.Called.{sound-area}
 use Rattle.calls.proofs.Refining.{puts-seen, at-const, called-refines}
 
@@ -93,6 +95,9 @@ push-facts r c f t =
       payload = k .payload opened;
       hand = k .hand;
     }
+
+pub push-able : (a : Octets) (r : Record) (c : ℕ) → Fit r → 0 ≡ lowest (pushRules c (view a r)) → Pushable r c
+push-able a r c f e = push-facts r c f (first-taken (pushTests r c) refl (e ∙ ap lowest (push-tests a r c)))
 
 -- ---- the record after it is one that row 1 lets pass, of octets
 

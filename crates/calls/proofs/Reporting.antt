@@ -1,8 +1,8 @@
 -- report: its rules on numbers, its octets, and that it is the model's report.
 -- Assumes nothing.
 use Prim.Native.Nat.{ℕ, _≤_, _<_}
-use mathlib.Core.Path.{_≡_, refl, ap, _∙_}
-use mathlib.Core.Bool.{true, false, not}
+use mathlib.Core.Path.{_≡_, refl}
+use mathlib.Core.Bool.{false, not}
 use mathlib.Core.List.{List, [], _∷_}
 use native.Mathlib.Omega.{arith}
 use lib.ListN.{length}
@@ -27,9 +27,11 @@ use Rattle.model.specs.calls.Report.{reportOf, reportRules}
 use Rattle.model.specs.Bench.{judged}
 use Rattle.model.proofs.Order.{need}
 use Rattle.calls.specs.Word.{wordOf, answerIn, droppedIn, handedIn, lengthIn, downIn, upIn}
+use Rattle.calls.specs.Outcome.{lowest}
 use Rattle.calls.specs.Seen.{Puts}
 use Rattle.calls.specs.Refines.{Good, Along, RefinesTo, Refines}
 use Rattle.calls.specs.calls.Report.{reported, reportCall, Reportable}
+use Rattle.calls.proofs.Rules.{first-taken}
 use Rattle.calls.proofs.Refining.{called-refines}
 
 -- ---- the rules on numbers
@@ -46,6 +48,9 @@ pub report-facts : (r : Record) (c : ℕ) → Fit r → first (reportTests r c) 
 report-facts r c f t =
     let place : placeOf c < places = leb-false places (placeOf c) (need 3 (reportTests r c) t) in
     record { place = place; down = f .down; up = f .up; counts = f .conns (placeOf c) place }
+
+pub report-able : (a : Octets) (r : Record) (c : ℕ) → Fit r → 0 ≡ lowest (reportRules c (view a r)) → Reportable r c
+report-able a r c f e = report-facts r c f (first-taken (reportTests r c) refl e)
 
 -- what a wire of sixteen has fits an octet
 module _ (a : Octets) (r : Record) (c : ℕ) (p : Reportable r c) where

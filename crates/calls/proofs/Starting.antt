@@ -1,13 +1,13 @@
 -- fresh and power: the cold record is one that row 1 lets pass, of octets, and stands for the cold bench.
 -- Assumes nothing.
-use Prim.Native.Nat.{ℕ, zero, suc, _≤_, _<_}
+use Prim.Native.Nat.{ℕ, zero, suc, _≤_}
 use mathlib.Core.Path.{_≡_, refl, sym, ap, _∙_, subst}
 use mathlib.Core.Bool.{Bool, true, false, not, false≢true}
-use mathlib.Core.List.{List, [], _∷_, _++_}
+use mathlib.Core.List.{_++_}
 use native.Mathlib.Omega.{arith}
 use lib.ListN.{length}
 use lib.Dec.{ltb, eqb}
-use borrow.Author.Tests.{le-ltb, lt-ltb, not-false, eqb-true, eqb-false}
+use borrow.Author.Tests.{le-ltb, ltb-false, eqb-true, eqb-false}
 use Rattle.octets.specs.Octets.{Octets, pick, splice}
 use Rattle.octets.specs.Octal.{Octal, octal-nil, octal-cons}
 use Rattle.octets.proofs.Octets.{length-splice}
@@ -27,22 +27,21 @@ use Rattle.record.specs.Claims.{stored}
 use Rattle.record.specs.Fit.{Shape, Fit, FitCounts, Each}
 use Rattle.record.specs.Small.{SmallCounts, Small}
 use Rattle.record.specs.Plan.{coldRecord}
-use Rattle.record.proofs.Small.{small-decode}
 use Rattle.record.proofs.Stored.{stored-long, stored-record, stored-judged, stored-octal}
 use Rattle.views.specs.View.{viewOf}
 use Rattle.views.proofs.Stored.{stored-view}
 use Rattle.views.proofs.Others as views
 use Rattle.model.specs.State.{cold}
 use Rattle.model.specs.Effects.{fresh, power, Result, taken, refused}
-use Rattle.model.specs.Refusals.{Rule, first}
-use Rattle.model.specs.Bench.{rules, judged, step}
+use Rattle.model.specs.Refusals.{first}
+use Rattle.model.specs.Bench.{rules, judged}
 use Rattle.calls.specs.Word.{wordOf, answerIn, droppedIn, handedIn, lengthIn, downIn, upIn}
-use Rattle.calls.specs.Outcome.{Outcome, outcome, decided, lowest}
+use Rattle.calls.specs.Outcome.{outcome, decided, lowest}
 use Rattle.calls.specs.Seen.{Puts, noPuts}
 use Rattle.calls.specs.Refines.{Good, Follows, Along, RefinesTo, Refines}
 use Rattle.calls.specs.calls.Fresh.{roomRules, freshed, freshCall}
 use Rattle.calls.specs.calls.Power.{powered, powerCall}
-use Rattle.calls.proofs.Rules.{numbered, orElse, first-append, first-refused, first-taken}
+use Rattle.calls.proofs.Rules.{first-refused, first-taken}
 use Rattle.calls.proofs.Called.{sound-area}
 use Rattle.calls.proofs.Refining.{called-refines, decided-refines}
 
@@ -152,6 +151,15 @@ module _ (a out m : Octets) where
   -- the code's guard: the number of the first rule that applies
   pub fresh-refused : (n : ℕ) → n ≡ lowest (roomRules (length a) (length out) ++ rules (fresh m) (viewOf a)) → (n ≡ 0 → ⊥) → outcome n a out ≡ freshCall a out m
   fresh-refused n e ne = fresh-as (refused n) (first-refused (roomRules (length a) (length out) ++ rules (fresh m) (viewOf a)) n e ne)
+
+  -- what the guard leaves known of the area
+  pub fresh-long : 0 ≡ lowest (roomRules (length a) (length out) ++ rules (fresh m) (viewOf a)) → areaSize ≤ length a
+  unfolding lowest
+  fresh-long e = go (ltb (length a) areaSize) refl (ltb (length out) messageSize) e
+    where
+      go : (b : Bool) → ltb (length a) areaSize ≡ b → (s : Bool) → _≡_ {A = ℕ} 0 (pick b 2 (pick s 2 (lowest (rules (fresh m) (viewOf a))))) → areaSize ≤ length a
+      go true p s h = absurd (omega arith)
+      go false p s h = ltb-false (length a) areaSize p
 
   pub fresh-taken : 0 ≡ lowest (roomRules (length a) (length out) ++ rules (fresh m) (viewOf a)) → freshed m a out ≡ freshCall a out m
   fresh-taken e = fresh-as taken (first-taken (roomRules (length a) (length out) ++ rules (fresh m) (viewOf a)) refl e)

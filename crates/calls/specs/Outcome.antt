@@ -8,6 +8,8 @@ use lib.ListN.{length}
 use lib.Dec.{ltb}
 use Rattle.octets.specs.Octets.{Octets, pick}
 use Rattle.area.specs.Map.{areaSize, messageSize}
+use Rattle.calls.specs.Kinds.{Loaded}
+use Rattle.record.specs.Reading.{decodeOf}
 use Rattle.record.specs.Judge.{judgeOf}
 use Rattle.model.specs.Effects.{Result, taken, refused}
 use Rattle.model.specs.Refusals.{Rule, rule, first}
@@ -42,3 +44,8 @@ lowest (r ∷ rs) = pick (r .test) (r .number) (lowest rs)
 -- n is that number, whatever octets the area has: of rules that look at the record alone
 abbrev pub Lowest : (Octets → List Rule) → ℕ → Type 0
 Lowest rs n = (a : Octets) → n ≡ lowest (rs a)
+
+-- what every call does first, with a message buffer of so many octets: the number of the entry's rule that applies, or the area's record
+pub record Enters (a : Octets) (room : ℕ) (l : Loaded) : Type 0 where
+  pub answer : l .answer ≡ lowest (entryRules a room)
+  pub loads : l .answer ≡ 0 → l .«record» ≡ decodeOf a
