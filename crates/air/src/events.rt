@@ -272,7 +272,10 @@ fn failed_by(rf: Rf) -> Aired
         Rf::W4AllDiscoveries => Aired::Refused,
         Rf::W4HostSelect(s) => match s {
             Selection::Nothing => Aired::Refused,
-            Selection::Chosen(_) => Aired::Goes(Rf::W4HostSelect(Selection::Nothing), Listing::Keeps),
+            Selection::Chosen(_) => Aired::Goes(
+                Rf::W4HostSelect(Selection::Nothing),
+                Listing::Keeps,
+            ),
         },
         Rf::PollActive(_) => Aired::Refused,
         Rf::ListenActive(_) => Aired::Refused,

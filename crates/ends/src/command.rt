@@ -39,7 +39,14 @@ pub fn decide(e: Ends, gid: u8, oid: u8, m: &[u8]) -> Decision
 }
 
 // What the controller answers to a command: the response goes into the first buffer, the notification into the second.
-pub fn answer(e: Ends, gid: u8, oid: u8, m: &[u8], rsp: &mut [u8; CONTROL_LIMIT], ntf: &mut [u8; CONTROL_LIMIT]) -> Answered
+pub fn answer(
+    e: Ends,
+    gid: u8,
+    oid: u8,
+    m: &[u8],
+    rsp: &mut [u8; CONTROL_LIMIT],
+    ntf: &mut [u8; CONTROL_LIMIT],
+) -> Answered
     ensures { λ r. ⌜ Answers e gid oid (decided e gid oid (now (m .entry))) r (now (rsp .entry)) (now (ntf .entry)) (now (rsp .exit)) (now (ntf .exit)) ⌝ }
 {
     let d = decide(e, gid, oid, m);

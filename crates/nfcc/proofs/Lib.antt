@@ -1,2 +1,3 @@
 pub mod CommandTrips
 pub mod Verdicts
+pub mod Small

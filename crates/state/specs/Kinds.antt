@@ -24,6 +24,8 @@ pub use Rattle.state.specs.declared.kinds.Progress.{Progress}
 pub use Rattle.state.specs.declared.kinds.Rf.{Rf}
 pub use Rattle.state.specs.declared.kinds.Rf.the-variants as rf
 pub use Rattle.state.specs.declared.kinds.Ring.{Ring}
+pub use Rattle.state.specs.declared.kinds.Selection.{Selection}
+pub use Rattle.state.specs.declared.kinds.Selection.the-variants as selection
 pub use Rattle.state.specs.declared.kinds.Terms.{Terms}
 pub use Rattle.state.specs.declared.runs.ControlJoined.{ControlJoined}
 pub use Rattle.state.specs.declared.runs.Joined.{Joined}

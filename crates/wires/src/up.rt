@@ -38,7 +38,11 @@ fn said(mt: u8, gid: u8, oid: u8, m: &[u8]) -> Heard
 fn granted(id: u8, credits: u8, conn: u8) -> u8
     ensures { λ r. ⌜ r ≡ pick (eqb id conn) (metered credits) 0 ⌝ }
 {
-    if id == conn { conn::metered(credits) } else { 0 }
+    if id == conn {
+        conn::metered(credits)
+    } else {
+        0
+    }
 }
 
 // The credits that a response has for the connection.

@@ -1,8 +1,8 @@
 -- `ends::command::answer` meets its contract: both messages are those of the verdict that was decided.
 -- Assumes nothing.
+use mathlib.Core.Path.{subst}
 use Rattle.messages.specs.Layout.{Put, responseMessage, noticeMessage}
 use Rattle.ends.specs.Kinds.{Decision}
-use mathlib.Core.Path.{subst}
 use borrow.Author.Needs.{needs}
 use Rattle.ends.proofs.command.answer.Statement.{statement}
 use Rattle.ends.proofs.command.answer.Tie as tie

@@ -1,7 +1,7 @@
 -- `ends::command::decide` meets its contract: the numbers after the verdict, then the verdict itself.
 -- Assumes nothing.
-use Rattle.ends.specs.Steps.{endsAfter}
 use mathlib.Core.Path.{_∙_}
+use Rattle.ends.specs.Steps.{endsAfter}
 use borrow.Author.Needs.{needs}
 use Rattle.ends.proofs.command.decide.Statement.{statement}
 use Rattle.ends.proofs.command.decide.Tie as tie

@@ -1,12 +1,12 @@
 -- `ends::event::meet` meets its contract: the numbers after what the controller makes of the event, then that, then the event itself.
 -- Assumes nothing.
-use Rattle.ends.specs.Steps.{endsAired, airedIn}
-use Rattle.ends.specs.Kinds.{Event}
-use lib.ListN.{length}
+use Prim.Native.Nat.{_-_}
 use mathlib.Core.Logic.{⊎-elim}
 use mathlib.Core.Path.{_≡_, ap, _∙_}
 use native.Mathlib.Omega.{arith}
-use Prim.Native.Nat.{_-_}
+use lib.ListN.{length}
+use Rattle.ends.specs.Steps.{endsAired, airedIn}
+use Rattle.ends.specs.Kinds.{Event}
 use borrow.Author.Needs.{needs}
 use Rattle.ends.proofs.event.meet.Statement.{statement}
 use Rattle.ends.proofs.event.meet.Tie as tie

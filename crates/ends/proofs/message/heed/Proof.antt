@@ -1,9 +1,9 @@
 -- `ends::message::heed` meets its contract: the numbers after what was heard, then that itself.
 -- Assumes nothing.
-use Rattle.ends.specs.Steps.{endsHeard}
-use Rattle.dh.specs.Host.{dropHeard}
-use Rattle.state.specs.Conn.{heldOpen}
 use mathlib.Core.Path.{_∙_}
+use Rattle.state.specs.Conn.{heldOpen}
+use Rattle.dh.specs.Host.{dropHeard}
+use Rattle.ends.specs.Steps.{endsHeard}
 use borrow.Author.Needs.{needs}
 use Rattle.ends.proofs.message.heed.Statement.{statement}
 use Rattle.ends.proofs.message.heed.Tie as tie

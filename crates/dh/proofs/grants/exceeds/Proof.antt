@@ -1,13 +1,13 @@
--- `dh::host::exceeds` meets its contract: the difference is compared where the definition compares the sum.
+-- `dh::grants::exceeds` meets its contract: the difference is compared where the definition compares the sum.
 -- Assumes nothing.
-use Rattle.dh.proofs.Hearing.{ltb-from}
-use borrow.Author.Tests.{lt-ltb}
-use native.Mathlib.Omega.{arith}
-use mathlib.Core.Path.{sym}
 use Prim.Native.Nat.{_+_}
+use mathlib.Core.Path.{sym}
+use native.Mathlib.Omega.{arith}
+use Rattle.dh.proofs.Sums.{ltb-from}
+use borrow.Author.Tests.{lt-ltb}
 use borrow.Author.Needs.{needs}
-use Rattle.dh.proofs.host.exceeds.Statement.{statement}
-use Rattle.dh.proofs.host.exceeds.Tie as tie
+use Rattle.dh.proofs.grants.exceeds.Statement.{statement}
+use Rattle.dh.proofs.grants.exceeds.Tie as tie
 
 cast-result : tie.Need-cast-result
 cast-result c = search needs

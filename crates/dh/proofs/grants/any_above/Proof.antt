@@ -1,9 +1,9 @@
--- `dh::host::any_above` meets its contract: at each arm what was heard is told.
+-- `dh::grants::any_above` meets its contract: at each arm what was heard is told.
 -- Assumes nothing.
 use Rattle.dh.specs.Host.{anyAbove}
 use borrow.Author.Needs.{needs}
-use Rattle.dh.proofs.host.any_above.Statement.{statement}
-use Rattle.dh.proofs.host.any_above.Tie as tie
+use Rattle.dh.proofs.grants.any_above.Statement.{statement}
+use Rattle.dh.proofs.grants.any_above.Tie as tie
 
 enum-told : tie.Need-enum-told
 enum-told c = search needs

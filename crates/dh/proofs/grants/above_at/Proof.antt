@@ -1,8 +1,8 @@
--- `dh::host::above_at` meets its contract, by those of what it calls.
+-- `dh::grants::above_at` meets its contract, by those of what it calls.
 -- Assumes nothing.
 use borrow.Author.Needs.{needs}
-use Rattle.dh.proofs.host.above_at.Statement.{statement}
-use Rattle.dh.proofs.host.above_at.Tie as tie
+use Rattle.dh.proofs.grants.above_at.Statement.{statement}
+use Rattle.dh.proofs.grants.above_at.Tie as tie
 
 credits-for-requires : tie.Need-credits-for-requires
 credits-for-requires c κs = search needs

@@ -1,8 +1,8 @@
--- `dh::host::credits_above` meets its contract, by that of what it calls.
+-- `dh::grants::credits_above` meets its contract, by that of what it calls.
 -- Assumes nothing.
 use borrow.Author.Needs.{needs}
-use Rattle.dh.proofs.host.credits_above.Statement.{statement}
-use Rattle.dh.proofs.host.credits_above.Tie as tie
+use Rattle.dh.proofs.grants.credits_above.Statement.{statement}
+use Rattle.dh.proofs.grants.credits_above.Tie as tie
 
 above-at-requires : tie.Need-above-at-requires
 above-at-requires c κs = search needs

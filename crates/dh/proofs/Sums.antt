@@ -1,4 +1,4 @@
--- Laws of what the host hears.
+-- A sum that could pass its type is not made: the difference is compared instead.
 -- Assumes nothing.
 use Prim.Native.Nat.{ℕ, _+_, _-_, _≤_, _<_}
 use native.Mathlib.Omega.{arith}
@@ -7,9 +7,6 @@ use mathlib.Core.Path.{_≡_, sym, _∙_}
 use lib.Dec.{ltb}
 use borrow.Author.Tests.{lt-ltb, le-ltb}
 
--- ---- credits above the grant
-
--- the test without a sum, which could pass its type
 pub ltb-from : (grant held n : ℕ) → held ≤ grant → ltb (grant - held) n ≡ ltb grant (held + n)
 ltb-from grant held n h = go (decLt grant (held + n))
   where

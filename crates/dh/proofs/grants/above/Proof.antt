@@ -1,8 +1,8 @@
--- `dh::host::above` meets its contract, by that of what it calls.
+-- `dh::grants::above` meets its contract, by that of what it calls.
 -- Assumes nothing.
 use borrow.Author.Needs.{needs}
-use Rattle.dh.proofs.host.above.Statement.{statement}
-use Rattle.dh.proofs.host.above.Tie as tie
+use Rattle.dh.proofs.grants.above.Statement.{statement}
+use Rattle.dh.proofs.grants.above.Tie as tie
 
 exceeds-requires : tie.Need-exceeds-requires
 exceeds-requires c κs = search needs
