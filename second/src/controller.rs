@@ -175,9 +175,13 @@ impl Controller {
 
     // Opening and closing.
 
+    /// Opening begins the connection anew, with no message of the endpoint in hand.
     fn open(&mut self, conn: u8) {
         let place = place_of(conn).expect("the controller opens 0 and 2-5");
         self.connections[place] = Some(Connection::opened(self.profile.terms_of(conn)));
+        if conn == STATIC_RF {
+            self.endpoint_message = None;
+        }
     }
 
     /// Closing discards what this end holds of the connection; the endpoint's

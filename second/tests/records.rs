@@ -253,6 +253,17 @@ fn reply_sends_the_endpoint_s_message_also_while_0_is_closed() {
 }
 
 #[test]
+fn an_activation_begins_with_no_message_of_the_endpoint() {
+    let mut bench = ready(PROFILE);
+    taken(bench.command(1, 3, &[1, 0, 1]));
+    taken(bench.down());
+    taken(bench.up());
+    bench.forge_endpoint_message(&[7; 3], 0);
+    taken(bench.air(&[2, 1, 4, 0]));
+    refuses(&bench, 8, |bench| bench.reply());
+}
+
+#[test]
 fn an_endpoint_s_message_of_which_all_has_gone_is_one_bare_header() {
     for length in [1, 255, 256, 1024] {
         for mut bench in [ready(PROFILE), active(PROFILE, 0)] {
