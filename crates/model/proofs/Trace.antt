@@ -168,7 +168,9 @@ module _ (c : ℕ) (s : State) (aim : ℕ) (l : ℕ → Ledger) (f : Fine s aim 
         at-host-static = λ e h. to-host (open-there e) false h;
       }
 
+-- the claim follows from the invariant, whatever made it hold
+pub kept-claim : (c : ℕ) (s : State) (o : Account) → Kept s o → Claim c s o
+kept-claim c s o k = subst (Claim c s) (sym (same-account s o k)) (claim c s (o .aim) (o .ledger) (k .fine))
+
 pub demand : Demand
-demand profile ok calls c =
-    let k = reachable profile ok calls in
-    subst (Claim c (after calls (cold (profileIn profile)))) (sym (same-account _ _ k)) (claim c _ _ _ (k .fine))
+demand profile ok calls c = kept-claim c _ _ (reachable profile ok calls)
