@@ -21,9 +21,12 @@ use Rattle.wires.specs.Meaning.{meaning}
 use Rattle.ends.specs.Changes.{givenTo}
 use Rattle.model.specs.calls.Consume.{segmentIn}
 use Rattle.model.specs.Observer.{Ledger, pushedL, arrivedL, consumedL, sentL, spokenL}
-use Rattle.model.proofs.Items.{Load, Item, carry, credit, opened, closed, loaded, itemsBy, storeSegs, putK, putsK, readK, readsK, readMessages, putL, putsL, readL, readsL, upSegs, upReturned}
-use Rattle.model.proofs.Phases.{walk, start, walk-append, bad-walk, over-shut}
-use Rattle.model.proofs.Link.{Agreed, AllOpened, Good, Debts, below, clash, upSegs-append, upCredits-append, upReturned-append, opened-append, over-returned, phase-put, closed-ends, store-first, store-last, owed-room, small-sum}
+use Rattle.model.specs.invariant.Items.{Load, Item, carry, credit, opened, closed, loaded, itemsBy, storeSegs, putK, putsK, readK, readsK, readMessages, putL, putsL, readL, readsL, upSegs, upReturned}
+use Rattle.model.specs.invariant.Phases.{walk, start}
+use Rattle.model.specs.invariant.Link.{Agreed, AllOpened, Good, Debts, below}
+use Rattle.model.proofs.Cases.{clash}
+use Rattle.model.proofs.Phases.{walk-append, bad-walk, over-shut}
+use Rattle.model.proofs.Link.{upSegs-append, upCredits-append, upReturned-append, opened-append, over-returned, phase-put, closed-ends, store-first, store-last, owed-room, small-sum}
 
 -- ---- parts of the invariant, with an item more
 

@@ -18,13 +18,14 @@ use Rattle.model.specs.State.{State}
 use Rattle.ends.specs.Changes.{Change, stays, opens, closes, gives}
 use Rattle.model.specs.Observer.{Ledger, changeIn}
 use Rattle.model.specs.Reachable.{Always, openedBy, openAfter, isOpening, opensIn, DataOpen}
-use Rattle.model.proofs.Items.{Item, loaded, itemsBy, itemsIn, itemsOf}
-use Rattle.model.proofs.Phases.{Phase, shut, live, over, bad, walk, start, Ends, walk-append, bad-walk}
-use Rattle.model.proofs.Link.{clash}
+use Rattle.model.specs.invariant.Items.{Item, loaded, itemsBy, itemsIn, itemsOf}
+use Rattle.model.specs.invariant.Phases.{Phase, shut, live, over, bad, walk, start, Ends}
+use Rattle.model.specs.invariant.Commands.{heads, replies}
+use Rattle.model.specs.invariant.Bench.{Fine, Aimed}
+use Rattle.model.proofs.Cases.{clash, right-nil}
+use Rattle.model.proofs.Phases.{walk-append, bad-walk}
 use Rattle.model.proofs.Meanings.{itemsOf-append}
-use Rattle.model.proofs.Order.{right-nil, heads, replies}
 use Rattle.model.proofs.Closing.{items-aim}
-use Rattle.model.proofs.Fine.{Fine, Aimed}
 use Rattle.model.proofs.Trace.{reachable}
 
 -- ---- the phase is that of the host

@@ -33,14 +33,18 @@ use Rattle.ends.specs.Changes.{Change, stays, opens, closes, gives, changeHeard
 use Rattle.model.specs.calls.Up.{understanding, hearing, heard, coming, reading}
 use Rattle.model.specs.Bench.{rules}
 use Rattle.model.specs.Observer.{Ledger, Account, givenL, readBy, changeIn, heardAs, seen, eventOf}
-use Rattle.model.proofs.Items.{loaded, itemsBy, itemsOf, segsOf, readsK}
-use Rattle.model.proofs.Phases.{Ends, walk, start, bad-walk}
-use Rattle.model.proofs.Link.{clash}
+use Rattle.model.specs.invariant.Items.{loaded, itemsBy, itemsOf, segsOf, readsK}
+use Rattle.model.specs.invariant.Phases.{Ends, walk, start}
+use Rattle.model.specs.invariant.Commands.{Name, named, pendingName, replies, heads}
+use Rattle.model.specs.invariant.Bench.{Order, Fine, Kept, Keeps, GoodAt, Aimed, Sound, SoundIn, accountOf}
+use Rattle.model.proofs.Cases.{clash, each}
+use Rattle.model.proofs.Needs.{need}
+use Rattle.model.proofs.Phases.{bad-walk}
 use Rattle.model.proofs.Acts.{Reads, reads-good, read-good}
 use Rattle.model.proofs.Meanings.{hear-response, hear-notice}
 use Rattle.model.proofs.Granted.{GrantsOctet, says-octet}
-use Rattle.model.proofs.Order.{each, need, Name, named, pendingName, replies, heads, one-only}
-use Rattle.model.proofs.Fine.{Order, Fine, Kept, Keeps, GoodAt, Aimed, Sound, SoundIn, reads-change, readsL-change, standing-same, order-open, at-keeps, accountOf}
+use Rattle.model.proofs.Order.{one-only}
+use Rattle.model.proofs.Fine.{reads-change, readsL-change, standing-same, order-open, at-keeps}
 
 -- what is seen of a packet that the host takes
 abbrev counted : List Octets → State → ℕ → (ℕ → Ledger) → Meaning → List Octets → Account
@@ -52,7 +56,6 @@ module _ (s : State) (aim : ℕ) (l : ℕ → Ledger) (p : Octets) (w : List Oct
 
   -- what is left of the up wire is sound
   rest-sound : Sound w
-  unfolding Sound
   rest-sound = f .sound .1
 
   -- ---- a packet that is nothing to the host
@@ -274,7 +277,6 @@ module _ (s : State) (aim : ℕ) (l : ℕ → Ledger) (p : Octets) (w : List Oct
   coming-keeps junk means k = junk-keeps means
 
 pub up-keeps : (s : State) (aim : ℕ) (l : ℕ → Ledger) → Keeps up s aim l
-unfolding Sound
 up-keeps s aim l t f = go (s .up) (need 8 (rules up s) t) f
   where
     go : (w : List Octets) → isNil w ≡ false → Fine (withUp w s) aim l

@@ -11,7 +11,7 @@ use lib.ListN.{length, getD}
 use borrow.Author.Tests.{eq-eqb, ltb-false, not-false}
 use Rattle.octets.specs.Octets.{Octets, pick}
 use Rattle.packets.specs.Segments.{Segment, more, last, segments, segmentPacket, packetsOf}
-use Rattle.packets.specs.Reassembly.{run, grown, finished}
+use Rattle.packets.specs.Reassembly.{grown, finished}
 use Rattle.state.specs.Conn.{flows, owing}
 use Rattle.messages.specs.Layout.{creditsNtf, entriesFrom}
 use Rattle.state.specs.Runs.{dataLimit, controlLimit}
@@ -33,14 +33,18 @@ use Rattle.model.specs.calls.Credit.{owedBy, allZero}
 use Rattle.model.specs.calls.Reply.{replying}
 use Rattle.model.specs.Bench.{rules}
 use Rattle.model.specs.Observer.{Account, Ledger, sentL, pushedL, consumedL, seen, eventOf, shown}
-use Rattle.model.proofs.Items.{loaded, itemsBy, itemsOf, segsOf}
-use Rattle.model.proofs.Link.{clash, owed-le, credit-left}
+use Rattle.model.specs.invariant.Items.{loaded, itemsBy, itemsOf, segsOf}
+use Rattle.model.specs.invariant.Commands.{heads, replies}
+use Rattle.model.specs.invariant.Bench.{accountOf, Fine, Kept, Keeps, GoodAt, StoredFor, StoredIn}
+use Rattle.model.proofs.Cases.{clash, each, nil-of, left-nil, right-nil}
+use Rattle.model.proofs.Needs.{need}
+use Rattle.model.proofs.Link.{owed-le, credit-left}
 use Rattle.model.proofs.Acts.{send-good, push-good, consume-loop, consume-plain, reply-good, notice-good}
 use Rattle.model.proofs.Meanings.{meaning-notice, meaning-data, meaning-command, segsOf-append, itemsOf-append, segsOf-command, segsOf-data, itemsOf-data}
 use Rattle.model.proofs.Messages.{profile-limits, terms-within, items-credit, items-credit-other}
-use Rattle.model.proofs.Order.{replies-notice, replies-data, each, need, nil-of, left-nil, right-nil, heads, replies, heads-append, idle-pending, no-data-tidy, tidy-append, ordered-heads, ordered-no-data, command-way, data-way, heads-data}
+use Rattle.model.proofs.Order.{replies-notice, replies-data, heads-append, idle-pending, no-data-tidy, tidy-append, ordered-heads, ordered-no-data, command-way, data-way, heads-data}
 use Rattle.model.proofs.Closing.{no-close, free-right, free-pending, live-stays, items-aim}
-use Rattle.model.proofs.Fine.{sound-control, sound-data, put-data, accountOf, Fine, Kept, kept, Keeps, GoodAt, cold-fine, put-all, sound-append, StoredFor, StoredIn, conn-small, order-open, at-keeps, standing-same, standing-at}
+use Rattle.model.proofs.Fine.{sound-control, sound-data, put-data, kept, cold-fine, put-all, sound-append, conn-small, order-open, at-keeps, standing-same, standing-at}
 
 -- ---- what is owed is at most eight
 
@@ -73,7 +77,6 @@ module _ (s : State) (aim : ℕ) (l : ℕ → Ledger) (c : ℕ) (p : Octets) (st
   whole = finished dataLimit (s .conns c .controller .run) x
 
   rest-stored : StoredFor c st
-  unfolding StoredFor
   rest-stored = (rw first-stored at (f .standing .stores c)) .1
 
   one-segment : segmentIn (meaning p) ≡ x ∷ []
@@ -324,7 +327,6 @@ module _ (s : State) (aim : ℕ) (l : ℕ → Ledger) where
           no-head = heads-data p c x means
 
   pub consume-keeps : (c : ℕ) → Keeps (consume c) s aim l
-  unfolding StoredFor
   consume-keeps c t f = go (s .conns c .controller .store) refl
     where
       open-here : s .conns c .controller .opened ≡ true

@@ -1,4 +1,5 @@
-pub mod Items
+pub mod Cases
+pub mod Needs
 pub mod Phases
 pub mod Link
 pub mod Acts

@@ -34,11 +34,12 @@ use Rattle.model.specs.calls.Up.{above, anyOf, tooMany, firstTooMany}
 use Rattle.model.specs.Bench.{rules, judged, step}
 use Rattle.model.specs.Observer.{Ledger}
 use Rattle.model.specs.Reachable.{Always, Never13}
-use Rattle.model.proofs.Items.{itemsOf}
-use Rattle.model.proofs.Link.{clash, held-le, room-owed, room-by}
+use Rattle.model.specs.invariant.Items.{itemsOf}
+use Rattle.model.specs.invariant.Bench.{Fine, SoundIn}
+use Rattle.model.proofs.Cases.{clash}
+use Rattle.model.proofs.Needs.{need}
+use Rattle.model.proofs.Link.{held-le, room-owed, room-by}
 use Rattle.model.proofs.Meanings.{hear-notice}
-use Rattle.model.proofs.Order.{need}
-use Rattle.model.proofs.Fine.{Fine, SoundIn, Sound}
 use Rattle.model.proofs.Trace.{reachable}
 
 -- ---- rules
@@ -171,7 +172,6 @@ module _ (s : State) (aim : ℕ) (l : ℕ → Ledger) (p : Octets) (w : List Oct
   not-too-many junk means k = refl
 
 up-never : (s : State) (aim : ℕ) (l : ℕ → Ledger) → Fine s aim l → first (rules up s) ≡ refused 13 → ⊥
-unfolding Sound
 up-never s aim l f e =
     not-among 13 (rule 8 (isNil (s .up)) ∷ []) (omega arith) refl
     (sym (last-fails 13 (rule 8 (isNil (s .up)) ∷ []) (firstTooMany s (s .up)) (λ t. go (s .up) f)) ∙ e)

@@ -10,7 +10,7 @@ use lib.ListN.{length, getD, drop, length-append, length-map}
 use borrow.Author.Tests.{ltb-false, leb-false, not-false}
 use Rattle.octets.specs.Octets.{Octets, pick}
 use Rattle.packets.specs.Segments.{Segment, more, last, segments, segmentPacket}
-use Rattle.packets.specs.Reassembly.{Run, run}
+use Rattle.packets.specs.Reassembly.{Run}
 use Rattle.model.specs.Kinds.{Profile, Host, Verdict, Event, Aired, Heard}
 use Rattle.model.specs.Kinds.verdict as verdict
 use Rattle.model.specs.Kinds.event.{Bad, Found, Poll, Listen, Failed, Sleeps, LinkLost, Releases, Endpoint}
@@ -45,19 +45,21 @@ use Rattle.model.specs.calls.Up.{heard, hearing, coming, reading}
 use Rattle.model.specs.Bench.{rules, act}
 use Rattle.model.specs.Observer.{Ledger}
 use Rattle.model.specs.Reachable.{Always, RunWithin, Sizes}
-use Rattle.model.proofs.Link.{clash, held-le, owed-le}
+use Rattle.model.specs.invariant.Bench.{Fine, SoundIn, StoredIn}
+use Rattle.model.proofs.Cases.{clash, each}
+use Rattle.model.proofs.Needs.{need}
+use Rattle.model.proofs.Link.{held-le, owed-le}
 use Rattle.nfcc.proofs.Verdicts.{Fits, judge-fits, after-steady}
 use Rattle.air.proofs.Taken.{Within, event-within, aired-steady}
 use Rattle.model.proofs.Meanings.{meaning-data}
-use Rattle.model.proofs.Messages.{Limits, profile-limits, notices-few}
-use Rattle.model.proofs.Order.{each, need, way-low, way-small}
-use Rattle.model.proofs.Fine.{Fine, SoundIn, Sound, StoredIn, StoredFor}
+use Rattle.model.proofs.Messages.{profile-limits, notices-few, terms-bounded}
+use Rattle.model.proofs.Order.{way-low, way-small}
 use Rattle.model.proofs.Deciding.{dynamic-conn}
 use Rattle.model.proofs.Airing.{Suits, aired-suits, kind-eight, notifies}
 use Rattle.model.proofs.Trace.{reachable}
 use Rattle.model.proofs.Always.{Stays, always}
 use Rattle.model.proofs.Never.{heard-whole}
-use Rattle.model.proofs.Said.{Bounded, Said, said-append, hear-bounded, terms-bounded, answers-said, air-said, credit-said, data-said, OpensWithin, heard-opens}
+use Rattle.model.proofs.Said.{Bounded, Said, said-append, hear-bounded, answers-said, air-said, credit-said, data-said, OpensWithin, heard-opens}
 use Rattle.model.proofs.Small.{HostSmall, ControllerSmall, ConnSmall, Small, cold-small, sent-octets, grown-within, more-none, at-small, change-controller, change-host, held-known, open-known}
 
 -- ---- down
@@ -66,7 +68,7 @@ use Rattle.model.proofs.Small.{HostSmall, ControllerSmall, ConnSmall, S
 answers-few : (gid oid : ℕ) (p : Profile) (v : Verdict) → length (answers gid oid p v) ≤ 2
 answers-few gid oid p v = omega (arith, notices-few (noticeMessage v))
 
-verdict-opens : (gid oid aim : ℕ) (p : Profile) (v : Verdict) → Limits p → Fits gid oid aim p v → (d : ℕ) → OpensWithin d (changeBy v d)
+verdict-opens : (gid oid aim : ℕ) (p : Profile) (v : Verdict) → ProfileWithin p → Fits gid oid aim p v → (d : ℕ) → OpensWithin d (changeBy v d)
 verdict-opens gid oid aim p (verdict.Refuses status) l f d = tt
 verdict-opens gid oid aim p (verdict.Resets type) l f d = tt
 verdict-opens gid oid aim p verdict.Initialises l f d = tt
@@ -78,7 +80,7 @@ verdict-opens gid oid aim p (verdict.Selects pair) l f d = tt
 verdict-opens gid oid aim p (verdict.Deactivates type rf) l f d = on (OpensWithin d) (eqb 0 d) (λ e. tt) (λ e. tt)
 
 -- a whole command is answered
-deciding-small : (s : State) (gid oid aim : ℕ) (v : Verdict) → Limits (s .profile) → Fits gid oid aim (s .profile) v → gid < 16 → oid < 64
+deciding-small : (s : State) (gid oid aim : ℕ) (v : Verdict) → ProfileWithin (s .profile) → Fits gid oid aim (s .profile) v → gid < 16 → oid < 64
     → full 2 (s .up) ≡ false → Small s → Small (deciding gid oid v s .next)
 deciding-small s gid oid aim v l f low small fits m =
     record {
@@ -257,7 +259,7 @@ joined-within r [] h = h
 joined-within r (x ∷ xs) h = grown-within dataLimit r x
 
 consume-small : (s : State) (aim : ℕ) (l : ℕ → Ledger) (c : ℕ) → first (rules (consume c) s) ≡ taken → Fine s aim l → Small s → Small (act (consume c) s .next)
-unfolding StoredFor Said
+unfolding Said
 consume-small s aim l c t f m = go (s .conns c .controller .store) refl
   where
     room : (p : Octets) → length (s .up) + length (echo c p) ≤ 16
@@ -350,7 +352,7 @@ air-few p Releases o n h e = omega (arith, ltb-false 16 (n + 1) e, notices-few (
 air-few p Endpoint o n h e = omega arith
 
 -- the connections after it
-air-conns : (s : State) (o : Octets) (e : Event) (a : Aired) → Limits (s .profile) → Within o e → Suits e a → Small s
+air-conns : (s : State) (o : Octets) (e : Event) (a : Aired) → ProfileWithin (s .profile) → Within o e → Suits e a → Small s
     → (d : ℕ) → ConnSmall d (airedConns (termsOf (s .profile) 0) a o (s .conns) d)
 unfolding placeOf
 air-conns s o e Refused l w t m d = m .conns d
@@ -450,7 +452,6 @@ module _ (s : State) (aim : ℕ) (l : ℕ → Ledger) (p : Octets) (w : List Oct
   coming-small junk means k = gone
 
 up-small : (s : State) (aim : ℕ) (l : ℕ → Ledger) → first (rules up s) ≡ taken → Fine s aim l → Small s → Small (act up s .next)
-unfolding Sound
 up-small s aim l t f m = go (s .up) (need 8 (rules up s) t) f m
   where
     go : (w : List Octets) → isNil w ≡ false → Fine (withUp w s) aim l → Small (withUp w s) → Small (reading w s .next)
@@ -473,19 +474,10 @@ act-small reply s aim l t f m = reply-small s t m
 act-small up s aim l t f m = up-small s aim l t f m
 act-small (report c) s aim l t f m = m
 
-profile-within : (p : Profile) → Limits p → ProfileWithin p
-profile-within p l =
-    record {
-      control-least = l .control;
-      control-most = l .control-most;
-      dynamic = record { least = l .dynamic .payload; most = l .dynamic-most; credits-ok = l .dynamic .credits };
-      fixed = record { least = l .fixed .payload; most = l .fixed-most; credits-ok = l .fixed .credits };
-    }
-
 sizes : (s : State) (aim : ℕ) (l : ℕ → Ledger) → Fine s aim l → Small s → Sizes s
 sizes s aim l f m =
     record {
-      profile = profile-within (s .profile) (f .limits);
+      profile = f .limits;
       down = m .downs;
       up = m .ups;
       host =

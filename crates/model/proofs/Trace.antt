@@ -20,11 +20,14 @@ use Rattle.model.specs.calls.Report.{heldBy, reportOf}
 use Rattle.model.specs.Bench.{rules, act, judged, step}
 use Rattle.model.specs.Observer.{Ledger, Account, opening, events, after, observed, observe, seen, eventOf}
 use Rattle.model.specs.Claim.{heldIn, owedIn, numbersOf, total, Claim, Demand}
-use Rattle.model.proofs.Items.{itemsOf, segsOf}
-use Rattle.model.proofs.Link.{Live, clash, held-counted, held-shown, stored-counted, owed-counted}
+use Rattle.model.specs.invariant.Items.{itemsOf, segsOf}
+use Rattle.model.specs.invariant.Link.{Live}
+use Rattle.model.specs.invariant.Bench.{Fine, Kept, Keeps, accountOf}
+use Rattle.model.proofs.Cases.{clash}
+use Rattle.model.proofs.Link.{held-counted, held-shown, stored-counted, owed-counted}
 use Rattle.model.proofs.Meanings.{dataCount-segs, creditsUp-items}
 use Rattle.model.proofs.Messages.{profile-limits}
-use Rattle.model.proofs.Fine.{Fine, Kept, Keeps, kept, accountOf, cold-fine}
+use Rattle.model.proofs.Fine.{kept, cold-fine}
 use Rattle.model.proofs.Keeping.{fresh-keeps, power-keeps, command-keeps, send-keeps, push-keeps, consume-keeps, credit-keeps, reply-keeps, report-keeps}
 use Rattle.model.proofs.Arriving.{down-keeps}
 use Rattle.model.proofs.Airing.{air-keeps}

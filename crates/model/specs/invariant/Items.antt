@@ -1,5 +1,5 @@
--- What one connection sees of the wires: segments going down, items going up. The proofs of the claim stand on these; a reader of
--- the claim does not need them.
+-- The invariant of demand 3, first part: what one connection sees of the wires, segments going down and items going up. A reader of the
+-- claim does not need it; the proofs stand on it.
 -- Assumes nothing.
 use Prim.Native.Nat.{ℕ, _+_, _-_}
 use mathlib.Core.List.{List, [], _∷_, _++_}
@@ -23,9 +23,13 @@ pub record Load : Type 0 where
 
 -- what a packet on the up wire is for one connection
 pub data Item : Type 0 where
+  -- it carries data
   carry : Load → Item
+  -- it gives credits back
   credit : ℕ → Item
+  -- it opens the connection, on these terms
   opened : Terms → Item
+  -- it closes it
   closed : Item
 
 abbrev pub loaded : Segment → Item
@@ -33,12 +37,14 @@ loaded x = carry (record { credits = 0; segment = x })
 
 -- ---- packets to items and segments
 
+-- a change of the connection, as an item
 abbrev pub itemsBy : Change → List Item
 itemsBy stays = []
 itemsBy (opens t) = opened t ∷ []
 itemsBy closes = closed ∷ []
 itemsBy (gives n) = credit n ∷ []
 
+-- the items of one packet, and of the packets on the up wire, for the connection d; `aim` is the one that the last command named
 abbrev pub itemsIn : ℕ → ℕ → Meaning → List Item
 itemsIn aim d (datum c x) = pick (eqb c d) (loaded x ∷ []) []
 itemsIn aim d (control mt gid oid x) = itemsBy (changeIn aim d (control mt gid oid x))
@@ -48,6 +54,7 @@ unfoldable pub itemsOf : ℕ → ℕ → List Octets → List Item
 itemsOf aim d [] = []
 itemsOf aim d (p ∷ w) = itemsIn aim d (meaning p) ++ itemsOf aim d w
 
+-- the segments of one packet, and of the packets on the down wire, for the connection d
 abbrev pub segsIn : ℕ → Meaning → List Segment
 segsIn d (datum c x) = pick (eqb c d) (x ∷ []) []
 segsIn d (control mt gid oid x) = []
@@ -116,6 +123,7 @@ readsL (i ∷ is) ms l = readsL is ms (readL i ms l)
 
 -- ---- counted on the up wire
 
+-- the segments carried
 abbrev pub upSegs : List Item → List Segment
 upSegs [] = []
 upSegs (carry l ∷ is) = l .segment ∷ upSegs is
@@ -123,6 +131,7 @@ upSegs (credit n ∷ is) = upSegs is
 upSegs (opened t ∷ is) = upSegs is
 upSegs (closed ∷ is) = upSegs is
 
+-- the credits on their way to the host, those of an opening too
 abbrev pub upCredits : List Item → ℕ
 upCredits [] = 0
 upCredits (carry l ∷ is) = upCredits is
@@ -130,7 +139,7 @@ upCredits (credit n ∷ is) = n + upCredits is
 upCredits (opened t ∷ is) = metered (t .credits) + upCredits is
 upCredits (closed ∷ is) = upCredits is
 
--- credits given back
+-- those that are given back
 abbrev pub upReturned : List Item → ℕ
 upReturned [] = 0
 upReturned (carry l ∷ is) = upReturned is
