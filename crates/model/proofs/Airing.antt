@@ -237,7 +237,7 @@ module _ (s : State) (aim : ℕ) (l : ℕ → Ledger) (m : Octets) (f : Fine s a
       each 0 (λ d b. MayPut (s .conns d) (segsOf d (s .down)) (itemsOf aim d (s .up)) (itemsBy (pick b (opens t) stays)))
       (let shut = sym (f .standing .air) ∙ idle in
       let items : itemsOf aim 0 (s .up) ≡ [] = rw (w .1) in
-      let q = shut-now (s .conns 0 .host .opened) (itemsOf aim 0 (s .up)) (rw items tt) (rw shut at (f .good 0 .phase)) in
+      let q = shut-now (s .conns 0 .host .opened) (itemsOf aim 0 (s .up)) (rw items tt) (rw shut at (f .good 0 .numbers .phase)) in
       (q .0, rw (w .0) refl, q .1))
       (λ d. tt) d
 

@@ -117,7 +117,7 @@ module _ (s : State) (aim : ℕ) (l : ℕ → Ledger) (f : Fine s aim l) where
   no-replies e = right-nil (heads (s .down)) (rw e at (f .order .single))
 
   phase-of : (c : ℕ) → Ends (walk (start (s .conns c .host .opened)) (itemsOf (aimOf (s .host .pending)) c (s .up))) (s .conns c .controller .opened)
-  phase-of c = rw (host-aim (s .host .pending) aim c (s .up) (f .aimed) no-replies) at (f .good c .phase)
+  phase-of c = rw (host-aim (s .host .pending) aim c (s .up) (f .aimed) no-replies) at (f .good c .numbers .phase)
 
   comes-open : (before : List Octets) (p : Octets) (behind : List Octets) (c : ℕ) (x : Segment) → s .up ≡ before ++ (p ∷ behind) → meaning p ≡ datum c x
       → openAfter (aimOf (s .host .pending)) c (s .conns c .host .opened) before ≡ true

@@ -134,7 +134,7 @@ module _ (s : State) (aim : ℕ) (l : ℕ → Ledger) (gid oid : ℕ) (b : Behin
   -- a dynamic connection that is not open at the controller is not open at the host either, and nothing of it is under way
   shut-there : (c : ℕ) → eqb 0 c ≡ false → s .conns c .controller .opened ≡ false
       → (s .conns c .host .opened ≡ false) × (itemsOf aim c (s .up) ≡ [])
-  shut-there c z e = shut-now (s .conns c .host .opened) (itemsOf aim c (s .up)) (no-close c z aim (s .up) (rw no-replies tt)) (rw e at (b .good c .phase))
+  shut-there c z e = shut-now (s .conns c .host .opened) (itemsOf aim c (s .up)) (no-close c z aim (s .up) (rw no-replies tt)) (rw e at (b .good c .numbers .phase))
 
   not-zero : (c : ℕ) → 2 ≤ c → eqb 0 c ≡ false
   not-zero c h = ne-eqb 0 c (λ (z : 0 ≡ c). omega arith)

@@ -28,7 +28,7 @@ use Rattle.model.specs.invariant.Items.{Item, itemsBy, itemsIn, itemsOf,
 use Rattle.model.specs.invariant.Commands.{heads, replies, Tidy, Name}
 use Rattle.model.specs.invariant.Bench.{Order, SoundIn, Sound, StoredIn, StoredFor, Standing, Fine, Kept, accountOf}
 use Rattle.model.proofs.Cases.{clash, each, each-append}
-use Rattle.model.proofs.Link.{cold-good}
+use Rattle.model.proofs.Acts.{cold-good}
 use Rattle.model.proofs.Order.{no-way}
 use Rattle.state.specs.Profile.{ProfileWithin}
 

@@ -34,12 +34,11 @@ use Rattle.model.specs.calls.Up.{understanding, hearing, heard, coming, 
 use Rattle.model.specs.Bench.{rules}
 use Rattle.model.specs.Observer.{Ledger, Account, givenL, readBy, changeIn, heardAs, seen, eventOf}
 use Rattle.model.specs.invariant.Items.{loaded, itemsBy, itemsOf, segsOf, readsK}
-use Rattle.model.specs.invariant.Phases.{Ends, walk, start}
 use Rattle.model.specs.invariant.Commands.{Name, named, pendingName, replies, heads}
 use Rattle.model.specs.invariant.Bench.{Order, Fine, Kept, Keeps, GoodAt, Aimed, Sound, SoundIn, accountOf}
 use Rattle.model.proofs.Cases.{clash, each}
 use Rattle.model.proofs.Needs.{need}
-use Rattle.model.proofs.Phases.{bad-walk}
+use Rattle.model.proofs.Phases.{carry-first}
 use Rattle.model.proofs.Acts.{Reads, reads-good, read-good}
 use Rattle.model.proofs.Meanings.{hear-response, hear-notice}
 use Rattle.model.proofs.Granted.{GrantsOctet, says-octet}
@@ -92,11 +91,7 @@ module _ (s : State) (aim : ℕ) (l : ℕ → Ledger) (p : Octets) (w : List Oct
 
     -- data under way is for a connection that is open at the host when it comes
     held-open : s .conns c .host .opened ≡ true
-    held-open = go (s .conns c .host .opened) (rw (eq-eqb c c refl) at (data-good c) .phase)
-      where
-        go : (b : Bool) → Ends (walk (start b) (loaded x ∷ itemsOf aim c w)) (s .conns c .controller .opened) → b ≡ true
-        go true e = refl
-        go false e = bad-walk (s .conns c .controller .opened) (itemsOf aim c w) e
+    held-open = carry-first (s .conns c .host .opened) (s .conns c .controller .opened) _ (itemsOf aim c w) (rw (eq-eqb c c refl) at (data-good c) .numbers .phase) .0
 
     data-keeps : Kept (withConns (at c (λ k. withHost (heardData x (k .host)) k) (s .conns)) (withUp w s))
         (counted w s aim l (datum c x) (finished dataLimit (s .conns c .host .run) x))

@@ -57,12 +57,12 @@ module _ (s : State) (aim : ℕ) (l : ℕ → Ledger) (f : Fine s aim l) where
   few-owed d = go (s .conns d .controller .opened) refl (flows (s .conns d .controller .grant)) refl
     where
       go : (o : Bool) → s .conns d .controller .opened ≡ o → (b : Bool) → flows (s .conns d .controller .grant) ≡ b → s .conns d .controller .owed ≤ 8
-      go false e b h = let z = f .good d .debts .asleep e in omega arith
-      go true e false h = let z = f .good d .debts .spare h in omega arith
+      go false e b h = let z = f .good d .numbers .debts .asleep e in omega arith
+      go true e false h = let z = f .good d .numbers .debts .spare h in omega arith
       go true e true h =
           let same = f .standing .granted d e in
           let most = few-credits (s .conns d .controller .grant) (rw same (terms-within (s .profile) d (f .limits) .credits)) h in
-          omega (arith, owed-le (f .good d))
+          omega (arith, owed-le (f .good d .numbers))
 
 -- ---- consume
 
@@ -279,7 +279,7 @@ module _ (s : State) (aim : ℕ) (l : ℕ → Ledger) where
       open-there z e =
           live-stays (itemsOf aim c (s .up))
           (no-close c z aim (s .up) (free-right (heads (s .down)) (replies (s .up)) (rw (f .order .single) (free-pending (s .host .pending) free))))
-          (rw (held-open, e) at (f .good c .phase))
+          (rw (held-open, e) at (f .good c .numbers .phase))
 
       go : (h : List Segment) → s .conns c .host .hand ≡ h
           → Kept (pushing c h s .next) (seen (push c) (eventOf (push c) (record { answer = taken; effect = pushing c h s })) (accountOf s aim l))
@@ -377,7 +377,7 @@ module _ (s : State) (aim : ℕ) (l : ℕ → Ledger) where
     where
       open-here : (x : Segment) (h : List Segment) → s .conns 0 .controller .speech ≡ x ∷ h → (b : Bool) → s .conns 0 .controller .opened ≡ b → b ≡ true
       open-here x h e true z = refl
-      open-here x h e false z = absurd (cons≢nil (sym e ∙ f .good 0 .rest z))
+      open-here x h e false z = absurd (cons≢nil (sym e ∙ f .good 0 .pipes .speech z))
 
       go : (h : List Segment) → s .conns 0 .controller .speech ≡ h
           → Kept (replying h s .next) (seen reply (eventOf reply (record { answer = taken; effect = replying h s })) (accountOf s aim l))

@@ -1,7 +1,10 @@
 pub mod Cases
 pub mod Needs
+pub mod Items
 pub mod Phases
 pub mod Link
+pub mod Numbers
+pub mod Pipes
 pub mod Acts
 pub mod Granted
 pub mod Meanings

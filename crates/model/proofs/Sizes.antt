@@ -485,7 +485,7 @@ sizes s aim l f m =
           record {
             hand = m .conns d .host .hand;
             reassembly = m .conns d .host .reassembly;
-            credits = held-le (f .good d);
+            credits = held-le (f .good d .numbers);
             terms = m .conns d .host .terms;
           };
       controller =
@@ -494,7 +494,7 @@ sizes s aim l f m =
             stored = m .conns d .controller .stored;
             speech = m .conns d .controller .speech;
             reassembly = m .conns d .controller .reassembly;
-            credits = owed-le (f .good d);
+            credits = owed-le (f .good d .numbers);
             terms = λ o. rw (f .standing .granted d o) (terms-bounded (s .profile) d (f .limits) .credits-ok);
           };
       others = λ d. m .conns d .other;
