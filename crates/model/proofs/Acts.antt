@@ -13,17 +13,16 @@ use Rattle.packets.specs.Reassembly.{grown, finished}
 use Rattle.state.specs.Conn.{flows}
 use Rattle.state.specs.Runs.{dataLimit}
 use Rattle.state.proofs.Chains.{and-left}
-use Rattle.model.specs.Connection.{Connection, withHost, withController, closed as coldConnection, sent, pushed, stored, consumed, owedOn, noticed, spoken, heardData}
+use Rattle.model.specs.Connection.{Connection, withHost, withController, closed as coldConnection, sent, pushed, stored, consumed, owedOn, noticed, spoken}
 use Rattle.wires.specs.Meaning.{meaning}
 use Rattle.ends.specs.Changes.{givenTo}
 use Rattle.model.specs.calls.Consume.{segmentIn}
-use Rattle.model.specs.Observer.{Ledger, blank, pushedL, arrivedL, consumedL, sentL, spokenL, givenL}
-use Rattle.model.specs.invariant.Items.{Item, carry, credit, opened, closed, loaded, itemsBy, putK, putsK, readK, readsK, readMessages, putL, putsL, readL, readsL}
+use Rattle.model.specs.Observer.{Ledger, blank, pushedL, arrivedL, consumedL, sentL, spokenL}
+use Rattle.model.specs.invariant.Items.{Item, credit, opened, loaded, itemsBy, putK, putsK, readK, readsK, putL, putsL, readL, readsL}
 use Rattle.model.specs.invariant.Link.{Good}
 use Rattle.model.proofs.Cases.{clash}
-use Rattle.model.proofs.Phases.{carry-first, opened-first}
-use Rattle.model.proofs.Numbers.{carried, read-carried, push-numbers, deliver-numbers, drop-numbers, consume-numbers, opened-numbers, credit-numbers, closed-numbers, read-credit-numbers, read-opened-numbers, read-closed-numbers}
-use Rattle.model.proofs.Pipes.{still, send-pipes, push-pipes, deliver-pipes, opened-pipes, credit-pipes, closed-pipes, read-carry-pipes, read-opened-pipes, read-closed-pipes, consume-loop-pipes, consume-plain-pipes, reply-pipes, air-pipes}
+use Rattle.model.proofs.Numbers.{Allowed, Handed, carried, push-numbers, deliver-numbers, drop-numbers, consume-numbers, put-numbers, read-numbers}
+use Rattle.model.proofs.Pipes.{still, send-pipes, push-pipes, deliver-pipes, consume-pipes, echoed, reply-pipes, air-pipes, put-pipes, read-pipes}
 
 -- ---- both ends cold
 
@@ -73,14 +72,14 @@ module _ {k : Connection} {d : List Segment} {u : List Item} {l : Ledger} where
       → Good true (withController (consumed rest (grown dataLimit (k .controller .run) x) (k .controller)) k) d (u ++ (loaded x ∷ []))
       (consumedL (finished dataLimit (k .controller .run) x) l)
   consume-loop p rest x m c e small g =
-      record { numbers = carried _ c (consume-numbers k d u l p rest x c e small (g .numbers)); pipes = consume-loop-pipes k d u l p rest x m e (g .pipes) }
+      record { numbers = carried _ c (consume-numbers k d u l p rest x c e small (g .numbers)); pipes = consume-pipes k d u l p rest x m e (u ++ (loaded x ∷ [])) (echoed k d u l p rest x m e) (g .pipes) }
 
   pub consume-plain : (p : Octets) (rest : List Octets) (x : Segment) → segmentIn (meaning p) ≡ x ∷ [] → k .controller .opened ≡ true
       → k .controller .store ≡ p ∷ rest → (flows (k .controller .grant) ≡ true → k .controller .owed < 255) → Good false k d u l
       → Good false (withController (consumed rest (grown dataLimit (k .controller .run) x) (k .controller)) k) d u
       (consumedL (finished dataLimit (k .controller .run) x) l)
   consume-plain p rest x m c e small g =
-      record { numbers = consume-numbers k d u l p rest x c e small (g .numbers); pipes = consume-plain-pipes k d u l p rest x m e (g .pipes) }
+      record { numbers = consume-numbers k d u l p rest x c e small (g .numbers); pipes = consume-pipes k d u l p rest x m e u refl (g .pipes) }
 
   -- ---- the endpoint speaks, where there is no loopback
 
@@ -92,14 +91,7 @@ module _ {k : Connection} {d : List Segment} {u : List Item} {l : Ledger} where
       → Good false (withController (spoken (segments 255 m) (k .controller)) k) d u (spokenL m l)
   air-good m fit c e g = record { numbers = g .numbers; pipes = air-pipes k d u l m fit c e (g .pipes) }
 
--- ---- items that the controller puts
-
--- an item that the controller may put now; what carries data is put by consume and reply
-abbrev pub Allowed : Connection → List Segment → List Item → Item → Type 0
-Allowed k d u (carry x) = ⊥
-Allowed k d u (credit n) = (k .controller .opened ≡ true) × (n ≡ k .controller .owed)
-Allowed k d u (opened t) = (k .host .opened ≡ false) × (d ≡ []) × (u ≡ [])
-Allowed k d u closed = Unit {0}
+-- ---- items that the controller puts, and those that the host reads
 
 -- a call puts at most one for a connection
 abbrev pub MayPut : Connection → List Segment → List Item → List Item → Type 0
@@ -107,74 +99,45 @@ MayPut k d u [] = Unit {0}
 MayPut k d u (i ∷ []) = Allowed k d u i
 MayPut k d u (i ∷ (j ∷ is)) = ⊥
 
-pub put-good : {loop : Bool} {k : Connection} {d : List Segment} {u : List Item} {l : Ledger} (i : Item) → Allowed k d u i → Good loop k d u l
-    → Good loop (putK i k) d (u ++ (i ∷ [])) (putL i l)
-put-good (carry x) a g = absurd a
-put-good {loop} {k} {d} {u} {l} (credit n) a g =
-    record { numbers = credit-numbers k d u l n (a .0) (a .1) (g .numbers); pipes = credit-pipes k d u l n (g .pipes) }
-put-good {loop} {k} {d} {u} {l} (opened t) a g =
-    record { numbers = opened-numbers k d u l t (a .0) (a .1) (a .2) (g .numbers); pipes = opened-pipes k d u l t (a .0) (a .1) (a .2) (g .pipes) }
-put-good {loop} {k} {d} {u} {l} closed a g = record { numbers = closed-numbers k d u l (g .numbers); pipes = closed-pipes k d u l (g .pipes) }
-
-pub puts-good : {loop : Bool} {k : Connection} {d : List Segment} {u : List Item} {l : Ledger} (is : List Item) → MayPut k d u is → Good loop k d u l
-    → Good loop (putsK is k) d (u ++ is) (putsL is l)
-puts-good [] a g = rw append-nil g
-puts-good (i ∷ []) a g = put-good i a g
-puts-good (i ∷ (j ∷ is)) a g = absurd a
-
--- a notice: all that is owed is put, where anything is
-abbrev owingOnly : ℕ → Connection → Connection
-owingOnly n k = let c = k .controller in withController (record { opened = c .opened; grant = c .grant; owed = n; store = c .store; run = c .run; speech = c .speech }) k
-
-pub notice-good : {loop : Bool} {k : Connection} {d : List Segment} {u : List Item} {l : Ledger} → Good loop k d u l
-    → Good loop (withController (noticed (k .controller)) k) d (u ++ itemsBy (givenTo (owedOn (k .controller)))) (putsL (itemsBy (givenTo (owedOn (k .controller)))) l)
-notice-good {loop} {k} {d} {u} {l} g = go (k .controller .opened && flows (k .controller .grant)) refl
-  where
-    paid : (n : ℕ) → k .controller .owed ≡ n → k .controller .opened ≡ true
-        → Good loop (owingOnly 0 k) d (u ++ itemsBy (givenTo n)) (putsL (itemsBy (givenTo n)) l)
-    paid zero e o = rw append-nil (subst (λ (n : ℕ). Good loop (owingOnly n k) d u l) e g)
-    paid (suc n) e o =
-        let none : k .controller .owed - suc n ≡ 0 = omega arith in
-        rw (ne-eqb (suc n) 0 (λ q. omega arith))
-        (subst (λ (w : ℕ). Good loop (owingOnly w k) d (u ++ (credit (suc n) ∷ [])) (putL (credit (suc n)) l)) none
-        (put-good (credit (suc n)) (o, sym e) g))
-
-    Paid : Bool → Type 0
-    Paid b =
-        Good loop (owingOnly (pick b 0 (k .controller .owed)) k) d (u ++ itemsBy (givenTo (pick b (k .controller .owed) 0)))
-        (putsL (itemsBy (givenTo (pick b (k .controller .owed) 0))) l)
-
-    go : (b : Bool) → (k .controller .opened && flows (k .controller .grant)) ≡ b → Paid b
-    go true e = paid (k .controller .owed) refl (and-left (k .controller .opened) (flows (k .controller .grant)) e)
-    go false e = rw append-nil g
-
--- ---- items that the host reads
-
--- the messages handed out with an item: those that the segment it carries finishes; an opening grants an octet of credits
-abbrev pub Handed : Connection → Item → List Octets → Type 0
-Handed k (carry x) ms = ms ≡ readMessages (carry x) k
-Handed k (credit n) ms = Unit {0}
-Handed k (opened t) ms = t .credits ≤ 255
-Handed k closed ms = Unit {0}
-
--- items read one after the other
+-- the host reads one after the other
 abbrev pub Reads : Connection → List Item → List Octets → Type 0
 Reads k [] ms = Unit {0}
 Reads k (i ∷ is) ms = Handed k i ms × Reads (readK i k) is ms
 
-pub read-good : {loop : Bool} {k : Connection} {d : List Segment} {u : List Item} {l : Ledger} (i : Item) (ms : List Octets) → Handed k i ms → Good loop k d (i ∷ u) l
-    → Good loop (readK i k) d u (readL i ms l)
-read-good {loop} {k} {d} {u} {l} (carry x) ms h g =
-    let o = carry-first (k .host .opened) (k .controller .opened) x u (g .numbers .phase) .0 in
-    rw h
-    (subst (λ (b : Bool). Good loop (pick b (withHost (heardData (x .segment) (k .host)) k) k) d u (givenL (pick b (finished dataLimit (k .host .run) (x .segment)) []) l)) (sym o)
-    record { numbers = read-carried x (g .numbers); pipes = read-carry-pipes k d u l x o (g .pipes) })
-read-good {loop} {k} {d} {u} {l} (credit n) ms h g = record { numbers = read-credit-numbers k d u l n (g .numbers); pipes = g .pipes }
-read-good {loop} {k} {d} {u} {l} (opened t) ms h g =
-    let o = opened-first (k .host .opened) (k .controller .opened) t u (g .numbers .phase) .0 in
-    record { numbers = read-opened-numbers k d u l t h (g .numbers); pipes = read-opened-pipes k d u l t o (g .pipes) }
-read-good {loop} {k} {d} {u} {l} closed ms h g =
-    record { numbers = read-closed-numbers k d u l (g .numbers); pipes = read-closed-pipes k d u l (g .numbers .phase) (g .pipes) }
+-- a connection that owes n
+abbrev owingOnly : ℕ → Connection → Connection
+owingOnly n k = let c = k .controller in withController (record { opened = c .opened; grant = c .grant; owed = n; store = c .store; run = c .run; speech = c .speech }) k
+
+module _ {loop : Bool} {k : Connection} {d : List Segment} {u : List Item} {l : Ledger} where
+  pub put-good : (i : Item) → Allowed k d u i → Good loop k d u l → Good loop (putK i k) d (u ++ (i ∷ [])) (putL i l)
+  put-good i a g = record { numbers = put-numbers k d u l i a (g .numbers); pipes = put-pipes k d u l i a (g .pipes) }
+
+  pub puts-good : (is : List Item) → MayPut k d u is → Good loop k d u l → Good loop (putsK is k) d (u ++ is) (putsL is l)
+  puts-good [] a g = rw append-nil g
+  puts-good (i ∷ []) a g = put-good i a g
+  puts-good (i ∷ (j ∷ is)) a g = absurd a
+
+  -- a notice: all that is owed is put, where anything is
+  pub notice-good : Good loop k d u l
+      → Good loop (withController (noticed (k .controller)) k) d (u ++ itemsBy (givenTo (owedOn (k .controller)))) (putsL (itemsBy (givenTo (owedOn (k .controller)))) l)
+  notice-good g = go (k .controller .opened && flows (k .controller .grant)) refl
+    where
+      paid : (n : ℕ) → k .controller .owed ≡ n → k .controller .opened ≡ true
+          → Good loop (owingOnly 0 k) d (u ++ itemsBy (givenTo n)) (putsL (itemsBy (givenTo n)) l)
+      paid zero e o = rw append-nil (subst (λ (n : ℕ). Good loop (owingOnly n k) d u l) e g)
+      paid (suc n) e o =
+          let none : k .controller .owed - suc n ≡ 0 = omega arith in
+          rw (ne-eqb (suc n) 0 (λ q. omega arith))
+          (subst (λ (w : ℕ). Good loop (owingOnly w k) d (u ++ (credit (suc n) ∷ [])) (putL (credit (suc n)) l)) none
+          (put-good (credit (suc n)) (o, sym e) g))
+
+      go : (b : Bool) → (k .controller .opened && flows (k .controller .grant)) ≡ b
+          → Good loop (owingOnly (pick b 0 (k .controller .owed)) k) d (u ++ itemsBy (givenTo (pick b (k .controller .owed) 0))) (putsL (itemsBy (givenTo (pick b (k .controller .owed) 0))) l)
+      go true e = paid (k .controller .owed) refl (and-left (k .controller .opened) (flows (k .controller .grant)) e)
+      go false e = rw append-nil g
+
+  pub read-good : (i : Item) (ms : List Octets) → Handed k i ms → Good loop k d (i ∷ u) l → Good loop (readK i k) d u (readL i ms l)
+  read-good i ms h g = record { numbers = read-numbers k d u l i ms h (g .numbers); pipes = read-pipes k d u l i ms h (g .numbers .phase) (g .pipes) }
 
 pub reads-good : {loop : Bool} {k : Connection} {d : List Segment} {u : List Item} {l : Ledger} (is : List Item) (ms : List Octets) → Reads k is ms → Good loop k d (is ++ u) l
     → Good loop (readsK is k) d u (readsL is ms l)

@@ -3,7 +3,7 @@
 use Prim.Native.Nat.{ℕ, _≤_}
 use mathlib.Core.Path.{_≡_, refl, sym, ap, _∙_, subst}
 use mathlib.Core.Logic.{_⊎_, inl, inr}
-use mathlib.Core.Bool.{Bool, true, false}
+use mathlib.Core.Bool.{true, false}
 use mathlib.Core.List.{List, [], _∷_, _++_, cons≢nil, head-eq-of-cons-eq}
 use lib.Dec.{eqb}
 use lib.ListN.{length}
@@ -107,9 +107,7 @@ module _ (s : State) (aim : ℕ) (l : ℕ → Ledger) (p : Octets) (w : List Oct
                     (λ d b.
                     GoodAt d (s .conns d) (segsOf d (s .down)) (pick b (loaded x ∷ []) [] ++ itemsOf aim d w) (l d)
                     → GoodAt d (pick b (withHost (heardData x (s .conns d .host)) (s .conns d)) (s .conns d)) (segsOf d (s .down)) (itemsOf aim d w) (pick b (givenL (finished dataLimit (s .conns c .host .run) x) (l d)) (l d)))
-                    (λ g. subst (λ (b : Bool). GoodAt c (pick b (withHost (heardData x (s .conns c .host)) (s .conns c)) (s .conns c)) (segsOf c (s .down)) (itemsOf aim c w) (givenL (finished dataLimit (s .conns c .host .run) x) (l c)))
-                    held-open
-                    (read-good (loaded x) (finished dataLimit (s .conns c .host .run) x) (rw held-open refl) g))
+                    (λ g. read-good (loaded x) (finished dataLimit (s .conns c .host .run) x) refl g)
                     (λ d g. g) d (data-good d);
                 order = order-open (λ d z. at-keeps c (λ k. withHost (heardData x (k .host)) k) (s .conns) (λ k. k .controller .opened) (λ k. refl) d) data-order;
                 way = f .way;

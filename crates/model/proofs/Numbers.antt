@@ -10,17 +10,16 @@ use lib.ListN.{length-append}
 use Rattle.octets.specs.Octets.{Octets, pick}
 use Rattle.packets.specs.Segments.{Segment}
 use Rattle.packets.specs.Reassembly.{grown, finished}
-use Rattle.model.specs.Kinds.{Terms}
 use Rattle.state.specs.Conn.{flows, creditSum}
 use Rattle.state.specs.Runs.{dataLimit}
 use Rattle.model.specs.Connection.{Connection, withHost, withController, pushed, stored, consumed}
 use Rattle.model.specs.Observer.{Ledger, pushedL, arrivedL, consumedL}
 use Rattle.model.specs.invariant.Items.{Load, Item, carry, credit, opened, closed, putK, readK, putL, readL, upReturned}
-use Rattle.model.specs.invariant.Phases.{shut, walk, start, Ends}
-use Rattle.model.specs.invariant.Link.{Figures, figures, AllOpened, Agreed, Debts, Balance, Numbers}
+use Rattle.model.specs.invariant.Phases.{walk, start}
+use Rattle.model.specs.invariant.Link.{Figures, figures, AllOpened, Agreed, Debts, Numbers}
 use Rattle.model.proofs.Cases.{clash}
 use Rattle.model.proofs.Items.{upCredits-append, upReturned-append, opened-append}
-use Rattle.model.proofs.Phases.{walk-append, over-shut, carry-first, credit-first, opened-first, phase-put, closed-ends}
+use Rattle.model.proofs.Phases.{walk-append, carry-first, credit-first, opened-first, closed-first, phase-put, closed-ends}
 use Rattle.model.proofs.Link.{held-none, owed-room}
 
 -- ---- parts
@@ -51,9 +50,8 @@ pick-sum : (b : Bool) (m n : ℕ) → m + n ≤ 255 → pick b (creditSum m n) m
 pick-sum true m n h = omega (arith, small-sum m n h)
 pick-sum false m n h = omega arith
 
--- ---- segments on the up wire
+-- ---- a segment more on the up wire leaves the numbers
 
--- a segment more, or one less, leaves the numbers
 pub carried : {n : Figures} {u : List Item} (x : Load) → n .here ≡ true → Numbers n u → Numbers n (u ++ (carry x ∷ []))
 carried {n} {u} x c g =
     record {
@@ -66,19 +64,25 @@ carried {n} {u} x c g =
           record { sum = (λ y. rw upCredits-append (omega (arith, v .sum y))); terms = terms-put (carry x) tt (v .terms); counts = v .counts });
     }
 
-pub read-carried : {n : Figures} {u : List Item} (x : Load) → Numbers n (carry x ∷ u) → Numbers n u
-read-carried {n} {u} x g =
-    record {
-      opened = g .opened;
-      counts = g .counts;
-      phase = carry-first (n .there) (n .here) x u (g .phase) .1;
-      debts = within-grant (g .debts) (g .debts .bound);
-      live = (λ a. let v = g .live a in record { sum = v .sum; terms = record { same = v .terms .same; under-way = v .terms .under-way }; counts = v .counts });
-    }
+-- ---- what may be put and read
 
--- ---- the host pushes
+-- an item that the controller may put now; what carries data is put by consume and reply
+abbrev pub Allowed : Connection → List Segment → List Item → Item → Type 0
+Allowed k d u (carry x) = ⊥
+Allowed k d u (credit n) = (k .controller .opened ≡ true) × (n ≡ k .controller .owed)
+Allowed k d u (opened t) = (k .host .opened ≡ false) × (d ≡ []) × (u ≡ [])
+Allowed k d u closed = Unit {0}
+
+-- the messages ms are those that a segment read finishes; an opening read grants an octet of credits
+abbrev pub Handed : Connection → Item → List Octets → Type 0
+Handed k (carry x) ms = ms ≡ finished dataLimit (k .host .run) (x .segment)
+Handed k (credit n) ms = Unit {0}
+Handed k (opened t) ms = t .credits ≤ 255
+Handed k closed ms = Unit {0}
 
 module _ (k : Connection) (d : List Segment) (u : List Item) (l : Ledger) where
+  -- ---- the host pushes
+
   pub push-numbers : (x : Segment) (rest : List Segment) → k .host .opened ≡ true → (flows (k .host .grant) ≡ true → 0 < k .host .held)
       → Numbers (figures k d l) u → Numbers (figures (withHost (pushed rest (k .host)) k) (d ++ (x ∷ [])) (pushedL l)) u
   push-numbers x rest h c g =
@@ -143,49 +147,38 @@ module _ (k : Connection) (d : List Segment) (u : List Item) (l : Ledger) where
             });
       }
 
-  -- ---- the controller puts an item up: an opening, what it owes, a closing
+  -- ---- the controller puts an item up: what it owes, an opening, a closing
 
-  pub opened-numbers : (t : Terms) → k .host .opened ≡ false → d ≡ [] → u ≡ [] → Numbers (figures k d l) u
-      → Numbers (figures (putK (opened t) k) d (putL (opened t) l)) (u ++ (opened t ∷ []))
-  opened-numbers t h e f g =
-      record {
-        opened = refl;
-        counts = g .counts;
-        phase = rw (h, f) refl;
-        debts = paid-off (opened t) refl (g .debts);
-        live = (λ a.
-            record {
-              sum = (λ y. rw (e, f, y) (omega (arith, held-none (g .debts) h)));
-              terms = record { same = (λ b. clash b h); under-way = rw f (refl, tt) };
-              counts = record { granted = refl; stored = refl; owed = (λ y. refl) };
-            });
-      }
-
-  pub credit-numbers : (n : ℕ) → k .controller .opened ≡ true → n ≡ k .controller .owed → Numbers (figures k d l) u
-      → Numbers (figures (putK (credit n) k) d (putL (credit n) l)) (u ++ (credit n ∷ []))
-  credit-numbers n c e g =
+  pub put-numbers : (i : Item) → Allowed k d u i → Numbers (figures k d l) u → Numbers (figures (putK i k) d (putL i l)) (u ++ (i ∷ []))
+  put-numbers (carry x) a g = absurd a
+  put-numbers (credit n) m g =
       record {
         opened = g .opened;
         counts = g .counts;
-        phase = phase-put (k .host .opened) u (credit n) (k .controller .opened) (rw c at (g .phase)) c;
-        debts = record {
-          bound = rw upReturned-append (omega (arith, owed-room g c));
-          granted = g .debts .granted;
-          octet = g .debts .octet;
-          spare = (λ y. omega arith);
-          asleep = (λ a. omega arith);
-        };
+        phase = phase-put (k .host .opened) u (credit n) (k .controller .opened) (rw (m .0) at (g .phase)) (m .0);
+        debts = let q = g .debts in record { bound = rw upReturned-append (omega (arith, owed-room g (m .0), m .1)); granted = q .granted; octet = q .octet; spare = (λ y. omega (arith, m .1)); asleep = (λ a. omega (arith, m .1)) };
         live = (λ a.
             let v = g .live a in
             record {
-              sum = (λ y. rw upCredits-append (omega (arith, v .sum y)));
+              sum = (λ y. rw upCredits-append (omega (arith, m .1, v .sum y)));
               terms = terms-put (credit n) tt (v .terms);
-              counts = record { granted = v .counts .granted; stored = v .counts .stored; owed = (λ y. omega (arith, v .counts .owed y)) };
+              counts = record { granted = v .counts .granted; stored = v .counts .stored; owed = (λ y. omega (arith, m .1, v .counts .owed y)) };
             });
       }
-
-  pub closed-numbers : Numbers (figures k d l) u → Numbers (figures (putK closed k) d (putL closed l)) (u ++ (closed ∷ []))
-  closed-numbers g =
+  put-numbers (opened t) m g =
+      record {
+        opened = refl;
+        counts = g .counts;
+        phase = rw (m .0, m .2) refl;
+        debts = paid-off (opened t) refl (g .debts);
+        live = (λ a.
+            record {
+              sum = (λ y. rw (m .1, m .2, y) (omega (arith, held-none (g .debts) (m .0))));
+              terms = record { same = (λ b. clash b (m .0)); under-way = rw (m .2) (refl, tt) };
+              counts = record { granted = refl; stored = refl; owed = (λ y. refl) };
+            });
+      }
+  put-numbers closed m g =
       record {
         opened = refl;
         counts = g .counts;
@@ -194,10 +187,18 @@ module _ (k : Connection) (d : List Segment) (u : List Item) (l : Ledger) where
         live = (λ a. clash a refl);
       }
 
-  -- ---- the host reads an item: credits, an opening, a closing
+  -- ---- the host reads an item
 
-  pub read-credit-numbers : (n : ℕ) → Numbers (figures k d l) (credit n ∷ u) → Numbers (figures (readK (credit n) k) d (readL (credit n) [] l)) u
-  read-credit-numbers n g =
+  pub read-numbers : (i : Item) (ms : List Octets) → Handed k i ms → Numbers (figures k d l) (i ∷ u) → Numbers (figures (readK i k) d (readL i ms l)) u
+  read-numbers (carry x) ms h g =
+      record {
+        opened = g .opened;
+        counts = g .counts;
+        phase = carry-first (k .host .opened) (k .controller .opened) x u (g .phase) .1;
+        debts = within-grant (g .debts) (g .debts .bound);
+        live = (λ a. let v = g .live a in record { sum = v .sum; terms = record { same = v .terms .same; under-way = v .terms .under-way }; counts = v .counts });
+      }
+  read-numbers (credit n) ms h g =
       let p = credit-first (k .host .opened) (k .controller .opened) n u (g .phase) in
       let octet : k .host .held + n ≤ 255 = omega (arith, g .debts .bound, g .debts .octet) in
       let more = small-sum (k .host .held) n octet in
@@ -214,21 +215,13 @@ module _ (k : Connection) (d : List Segment) (u : List Item) (l : Ledger) where
               counts = v .counts;
             });
       }
-
-  pub read-opened-numbers : (t : Terms) → t .credits ≤ 255 → Numbers (figures k d l) (opened t ∷ u) → Numbers (figures (readK (opened t) k) d (readL (opened t) [] l)) u
-  read-opened-numbers t small g =
+  read-numbers (opened t) ms h g =
       let p = opened-first (k .host .opened) (k .controller .opened) t u (g .phase) in
       record {
         opened = g .opened;
         counts = record { opened = refl; granted = (λ a. refl); flow = (λ a y. refl) };
         phase = p .1;
-        debts = record {
-          bound = omega (arith, g .debts .bound, g .debts .granted (p .0));
-          granted = (λ a. clash refl a);
-          octet = small;
-          spare = g .debts .spare;
-          asleep = g .debts .asleep;
-        };
+        debts = let q = g .debts in record { bound = omega (arith, q .bound, q .granted (p .0)); granted = (λ a. clash refl a); octet = h; spare = q .spare; asleep = q .asleep };
         live = (λ a.
             let v = g .live a in
             record {
@@ -237,32 +230,22 @@ module _ (k : Connection) (d : List Segment) (u : List Item) (l : Ledger) where
               counts = v .counts;
             });
       }
-
-  pub read-closed-numbers : Numbers (figures k d l) (closed ∷ u) → Numbers (figures (readK closed k) d (readL closed [] l)) u
-  read-closed-numbers g = go (k .host .opened) refl
+  read-numbers closed ms h g =
+      let p = closed-first (k .host .opened) (k .controller .opened) u (g .phase) in
+      record {
+        opened = g .opened;
+        counts = record { opened = refl; granted = (λ a. clash a refl); flow = (λ a y. clash a refl) };
+        phase = p .0;
+        debts = record { bound = none (k .host .opened) refl (p .2); granted = (λ a. refl); octet = omega arith; spare = g .debts .spare; asleep = g .debts .asleep };
+        live = (λ a.
+            let v = g .live a in
+            record {
+              sum = (λ y. omega (arith, v .sum y, held-none (g .debts) (p .1 a)));
+              terms = record { same = (λ b. clash b refl); under-way = v .terms .under-way };
+              counts = v .counts;
+            });
+      }
     where
-      After : Type 0
-      After = Numbers (figures (readK closed k) d (readL closed [] l)) u
-
-      shut-there : Ends (walk shut u) (k .controller .opened) → upReturned u ≡ 0
-          → (k .controller .opened ≡ true → Balance (figures (readK closed k) d (readL closed [] l)) u) → After
-      shut-there p r v =
-          record {
-            opened = g .opened;
-            counts = record { opened = refl; granted = (λ a. clash a refl); flow = (λ a y. clash a refl) };
-            phase = p;
-            debts = record { bound = omega (arith, r); granted = (λ a. refl); octet = omega arith; spare = g .debts .spare; asleep = g .debts .asleep };
-            live = v;
-          }
-
-      go : (b : Bool) → k .host .opened ≡ b → After
-      go true e = let p = over-shut (k .controller .opened) u (rw e at (g .phase)) in shut-there (p .0) (p .2) (λ a. clash a (p .1))
-      go false e =
-          shut-there (rw e at (g .phase)) (omega (arith, g .debts .bound, g .debts .granted e))
-          (λ a.
-          let v = g .live a in
-          record {
-            sum = (λ y. omega (arith, v .sum y, held-none (g .debts) e));
-            terms = record { same = (λ b. clash b refl); under-way = v .terms .under-way };
-            counts = v .counts;
-          })
+      none : (b : Bool) → k .host .opened ≡ b → (k .host .opened ≡ true → upReturned u ≡ 0) → 0 + upReturned u ≤ 0
+      none true e r = omega (arith, r e)
+      none false e r = omega (arith, g .debts .bound, g .debts .granted e)

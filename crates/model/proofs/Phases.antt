@@ -28,7 +28,7 @@ pub bad-walk : {A : Type 0} (b : Bool) (is : List Item) → Ends (walk bad is) b
 bad-walk b is e = absurd (subst (λ p. Ends p b) (walk-bad is) e)
 
 -- past a closing nothing but closings follows
-pub over-shut : (b : Bool) (is : List Item) → Ends (walk over is) b → Ends (walk shut is) b × (b ≡ false) × (upReturned is ≡ 0)
+over-shut : (b : Bool) (is : List Item) → Ends (walk over is) b → Ends (walk shut is) b × (b ≡ false) × (upReturned is ≡ 0)
 over-shut b [] e = (e, e, refl)
 over-shut b (carry x ∷ is) e = bad-walk b is e
 over-shut b (credit n ∷ is) e = bad-walk b is e
@@ -50,6 +50,11 @@ credit-first false c n u e = bad-walk c u e
 pub opened-first : (b c : Bool) (t : Terms) (u : List Item) → Ends (walk (start b) (opened t ∷ u)) c → (b ≡ false) × Ends (walk live u) c
 opened-first true c t u e = bad-walk c u e
 opened-first false c t u e = (refl, e)
+
+-- a closing: it has not, unless the controller has closed it too, and then nothing comes back
+pub closed-first : (b c : Bool) (u : List Item) → Ends (walk (start b) (closed ∷ u)) c → Ends (walk shut u) c × (c ≡ true → b ≡ false) × (b ≡ true → upReturned u ≡ 0)
+closed-first true c u e = let p = over-shut c u e in (p .0, (λ a. clash a (p .1)), (λ a. p .2))
+closed-first false c u e = (e, (λ a. refl), (λ a. clash a refl))
 
 -- while the host has yet to read of the opening, the whole grant is under way
 pub has-grant : (g : ℕ) (u : List Item) → flows g ≡ true → Ends (walk shut u) true → AllOpened g u → g + upReturned u ≤ upCredits u

@@ -10,18 +10,18 @@ use Rattle.octets.specs.Octets.{Octets, pick}
 use Rattle.packets.specs.Segments.{Segment, segments}
 use Rattle.packets.specs.Reassembly.{Run, run, grown, finished, Flow}
 use Rattle.packets.proofs.Reassembly.{flow-start, flow-same, flow-send, flow-read}
-use Rattle.model.specs.Kinds.{Terms}
 use Rattle.state.specs.Runs.{dataLimit}
-use Rattle.model.specs.Connection.{Connection, withHost, withController, sent, pushed, stored, consumed, spoken, heardData}
+use Rattle.model.specs.Connection.{Connection, withHost, withController, sent, pushed, stored, consumed, spoken}
 use Rattle.wires.specs.Meaning.{meaning}
 use Rattle.model.specs.calls.Consume.{segmentIn}
-use Rattle.model.specs.Observer.{Ledger, pushedL, arrivedL, consumedL, sentL, spokenL, givenL}
-use Rattle.model.specs.invariant.Items.{Load, Item, carry, credit, opened, closed, loaded, storeSegs, putK, putL, readK, readL, upSegs}
+use Rattle.model.specs.Observer.{Ledger, pushedL, arrivedL, consumedL, sentL, spokenL}
+use Rattle.model.specs.invariant.Items.{Item, carry, credit, opened, closed, loaded, storeSegs, putK, putL, readK, readL, upSegs}
 use Rattle.model.specs.invariant.Phases.{walk, start, Ends}
-use Rattle.model.specs.invariant.Link.{Ways, ways, below, Pipes}
+use Rattle.model.specs.invariant.Link.{Ways, ways, below, source, Pipes}
 use Rattle.model.proofs.Cases.{clash}
 use Rattle.model.proofs.Items.{upSegs-append, store-first, store-last}
-use Rattle.model.proofs.Phases.{over-shut}
+use Rattle.model.proofs.Phases.{carry-first, opened-first, closed-first}
+use Rattle.model.proofs.Numbers.{Allowed, Handed}
 
 -- ---- flows
 
@@ -45,18 +45,7 @@ still c h r s = record { hand = h; reassembly = r; speech = (λ a. s); toControl
 -- segments in hand, on the down wire and stored: h, d, s
 abbrev spread : List Segment → List Segment → List Segment → Ways → Ways
 spread h d s w =
-    record {
-      there = w .there;
-      hand = h;
-      hostRun = w .hostRun;
-      down = d;
-      here = w .here;
-      stored = s;
-      controllerRun = w .controllerRun;
-      speech = w .speech;
-      up = w .up;
-      talk = w .talk;
-    }
+    record { there = w .there; hand = h; hostRun = w .hostRun; down = d; here = w .here; stored = s; controllerRun = w .controllerRun; speech = w .speech; up = w .up; talk = w .talk }
 
 -- the same segments, further on their way down
 further : {loop : Bool} {w : Ways} (h d s : List Segment) → (w .there ≡ false → h ≡ []) → below w ≡ s ++ (d ++ h) → Pipes loop w → Pipes loop (spread h d s w)
@@ -97,95 +86,68 @@ module _ {loop : Bool} (k : Connection) (d : List Segment) (u : List Item) (l : 
   deliver-pipes p x e g =
       further (k .host .hand) d (storeSegs (k .controller .store ++ (p ∷ []))) (g .hand) (rw (store-last (k .controller .store) p x e, append-assoc)) g
 
-  -- ---- the controller puts an item up: an opening, what it owes, a closing
+  -- ---- the controller puts an item up: what it owes, an opening, a closing
 
-  pub opened-pipes : (t : Terms) → k .host .opened ≡ false → d ≡ [] → u ≡ [] → Pipes loop (ways k d u l)
-      → Pipes loop (ways (putK (opened t) k) d (u ++ (opened t ∷ [])) (putL (opened t) l))
+  pub put-pipes : (i : Item) → Allowed k d u i → Pipes loop (ways k d u l) → Pipes loop (ways (putK i k) d (u ++ (i ∷ [])) (putL i l))
   unfolding storeSegs
-  opened-pipes t h e f g =
+  put-pipes (carry x) m g = absurd m
+  put-pipes (credit n) m g = rw (upSegs-append, append-nil (upSegs u)) g
+  put-pipes (opened t) m g =
       record {
         hand = g .hand;
         reassembly = g .reassembly;
         speech = (λ a. refl);
-        toController = (λ a. rw (e, g .hand h) (flow-start dataLimit));
-        toHost = (λ a. rw (e, f, g .hand h, g .reassembly h) (none-yet loop));
+        toController = (λ a. rw (m .1, g .hand (m .0)) (flow-start dataLimit));
+        toHost = (λ a. rw (m .1, m .2, g .hand (m .0), g .reassembly (m .0)) (none-yet loop));
       }
+  put-pipes closed m g = still refl (g .hand) (g .reassembly) refl
 
-  pub credit-pipes : (n : ℕ) → Pipes loop (ways k d u l) → Pipes loop (ways (putK (credit n) k) d (u ++ (credit n ∷ [])) (putL (credit n) l))
-  credit-pipes n g = rw (upSegs-append, append-nil (upSegs u)) g
-
-  pub closed-pipes : Pipes loop (ways k d u l) → Pipes loop (ways (putK closed k) d (u ++ (closed ∷ [])) (putL closed l))
-  closed-pipes g = still refl (g .hand) (g .reassembly) refl
-
-  -- ---- the host reads an item: a segment, an opening, a closing
-
-  pub read-carry-pipes : (x : Load) → k .host .opened ≡ true → Pipes loop (ways k d (carry x ∷ u) l)
-      → Pipes loop (ways (withHost (heardData (x .segment) (k .host)) k) d u (givenL (finished dataLimit (k .host .run) (x .segment)) l))
-  read-carry-pipes x h g =
-      record {
-        hand = g .hand;
-        reassembly = (λ a. clash h a);
-        speech = g .speech;
-        toController = g .toController;
-        toHost = (λ a. flow-read (x .segment) (g .toHost a));
-      }
+  -- ---- the host reads an item
 
   -- where nothing was in hand, nothing is lost
-  emptied : (b : Bool) (p n m : ℕ) → k .host .opened ≡ false → Pipes loop (ways k d u l)
+  emptied : (b : Bool) (p n m : ℕ) → (k .controller .opened ≡ true → k .host .opened ≡ false) → Pipes loop (ways k d u l)
       → Pipes loop (ways (withHost (record { opened = b; payload = p; grant = n; held = m; hand = []; run = run [] }) k) d u l)
   emptied b p n m h g =
       record {
         hand = (λ a. refl);
         reassembly = (λ a. refl);
         speech = g .speech;
-        toController = (λ a. rw (g .hand h) at (g .toController a));
-        toHost = (λ a. rw (g .hand h, g .reassembly h) at (g .toHost a));
+        toController = (λ a. rw (g .hand (h a)) at (g .toController a));
+        toHost = (λ a. rw (g .hand (h a), g .reassembly (h a)) at (g .toHost a));
       }
 
-  pub read-opened-pipes : (t : Terms) → k .host .opened ≡ false → Pipes loop (ways k d (opened t ∷ u) l)
-      → Pipes loop (ways (readK (opened t) k) d u (readL (opened t) [] l))
-  read-opened-pipes t h = emptied true (t .payload) (t .credits) (t .credits) h
+  pub read-pipes : (i : Item) (ms : List Octets) → Handed k i ms → Ends (walk (start (k .host .opened)) (i ∷ u)) (k .controller .opened)
+      → Pipes loop (ways k d (i ∷ u) l) → Pipes loop (ways (readK i k) d u (readL i ms l))
+  read-pipes (carry x) ms h e g =
+      record {
+        hand = g .hand;
+        reassembly = (λ a. clash (carry-first (k .host .opened) (k .controller .opened) x u e .0) a);
+        speech = g .speech;
+        toController = g .toController;
+        toHost = (λ a. rw h (flow-read (x .segment) (g .toHost a)));
+      }
+  read-pipes (credit n) ms h e g = g
+  read-pipes (opened t) ms h e g = emptied true (t .payload) (t .credits) (t .credits) (λ a. opened-first (k .host .opened) (k .controller .opened) t u e .0) g
+  read-pipes closed ms h e g = emptied false 0 0 0 (closed-first (k .host .opened) (k .controller .opened) u e .1) g
 
-  -- the connection was closed there, or is so at the controller
-  pub read-closed-pipes : Ends (walk (start (k .host .opened)) (closed ∷ u)) (k .controller .opened) → Pipes loop (ways k d (closed ∷ u) l)
-      → Pipes loop (ways (readK closed k) d u (readL closed [] l))
-  read-closed-pipes e g = go (k .host .opened) refl e
-    where
-      go : (b : Bool) → k .host .opened ≡ b → Ends (walk (start b) (closed ∷ u)) (k .controller .opened) → Pipes loop (ways (readK closed k) d u (readL closed [] l))
-      go true h p = let c = over-shut (k .controller .opened) u p .1 in still c (λ a. refl) (λ a. refl) (g .speech c)
-      go false h p = emptied false 0 0 0 h g
+  -- ---- the controller consumes a stored packet, and the items going up are v; on a loopback the packet is put up again
+
+  pub consume-pipes : (p : Octets) (rest : List Octets) (x : Segment) → segmentIn (meaning p) ≡ x ∷ [] → k .controller .store ≡ p ∷ rest → (v : List Item)
+      → upSegs u ++ source loop (ways k d u l) ≡ upSegs v ++ pick loop (storeSegs rest ++ (d ++ k .host .hand)) (k .controller .speech) → Pipes loop (ways k d u l)
+      → Pipes loop (ways (withController (consumed rest (grown dataLimit (k .controller .run) x) (k .controller)) k) d v (consumedL (finished dataLimit (k .controller .run) x) l))
+  consume-pipes p rest x m e v same g =
+      record {
+        hand = g .hand;
+        reassembly = g .reassembly;
+        speech = g .speech;
+        toController = (λ a. flow-read x (rw (e, store-first p rest x m) at (g .toController a)));
+        toHost = (λ a. flow-same same (g .toHost a));
+      }
 
 module _ (k : Connection) (d : List Segment) (u : List Item) (l : Ledger) where
-  -- ---- the controller consumes a stored packet; on a loopback it is put up again
-
-  pub consume-loop-pipes : (p : Octets) (rest : List Octets) (x : Segment) → segmentIn (meaning p) ≡ x ∷ [] → k .controller .store ≡ p ∷ rest
-      → Pipes true (ways k d u l)
-      → Pipes true (ways (withController (consumed rest (grown dataLimit (k .controller .run) x) (k .controller)) k) d (u ++ (loaded x ∷ []))
-      (consumedL (finished dataLimit (k .controller .run) x) l))
-  consume-loop-pipes p rest x m e g =
-      record {
-        hand = g .hand;
-        reassembly = g .reassembly;
-        speech = g .speech;
-        toController = (λ a. flow-read x (rw (e, store-first p rest x m) at (g .toController a)));
-        toHost = (λ a. flow-same same-list (g .toHost a));
-      }
-    where
-      same-list : upSegs u ++ below (ways k d u l) ≡ upSegs (u ++ (loaded x ∷ [])) ++ (storeSegs rest ++ (d ++ k .host .hand))
-      same-list = rw (e, store-first p rest x m, upSegs-append) (simp append-assoc)
-
-  pub consume-plain-pipes : (p : Octets) (rest : List Octets) (x : Segment) → segmentIn (meaning p) ≡ x ∷ [] → k .controller .store ≡ p ∷ rest
-      → Pipes false (ways k d u l)
-      → Pipes false (ways (withController (consumed rest (grown dataLimit (k .controller .run) x) (k .controller)) k) d u
-      (consumedL (finished dataLimit (k .controller .run) x) l))
-  consume-plain-pipes p rest x m e g =
-      record {
-        hand = g .hand;
-        reassembly = g .reassembly;
-        speech = g .speech;
-        toController = (λ a. flow-read x (rw (e, store-first p rest x m) at (g .toController a)));
-        toHost = g .toHost;
-      }
+  pub echoed : (p : Octets) (rest : List Octets) (x : Segment) → segmentIn (meaning p) ≡ x ∷ [] → k .controller .store ≡ p ∷ rest
+      → upSegs u ++ below (ways k d u l) ≡ upSegs (u ++ (loaded x ∷ [])) ++ (storeSegs rest ++ (d ++ k .host .hand))
+  echoed p rest x m e = rw (e, store-first p rest x m, upSegs-append) (simp append-assoc)
 
   -- ---- the endpoint speaks, where there is no loopback
 

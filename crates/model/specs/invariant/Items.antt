@@ -6,10 +6,8 @@ use mathlib.Core.List.{List, [], _∷_, _++_}
 use lib.Dec.{eqb}
 use Rattle.octets.specs.Octets.{Octets, pick}
 use Rattle.packets.specs.Segments.{Segment}
-use Rattle.packets.specs.Reassembly.{finished}
 use Rattle.model.specs.Kinds.{Terms}
 use Rattle.state.specs.Conn.{metered}
-use Rattle.state.specs.Runs.{dataLimit}
 use Rattle.model.specs.Connection.{Connection, ControllerEnd, withHost, withController, closedHost, openedHost, closedController, openedController, heardData, credited}
 use Rattle.wires.specs.Meaning.{Meaning, datum, control, junk, meaning}
 use Rattle.ends.specs.Changes.{Change, stays, opens, closes, gives}
@@ -85,7 +83,7 @@ putsK [] k = k
 putsK (i ∷ is) k = putsK is (putK i k)
 
 abbrev pub readK : Item → Connection → Connection
-readK (carry l) k = pick (k .host .opened) (withHost (heardData (l .segment) (k .host)) k) k
+readK (carry l) k = withHost (heardData (l .segment) (k .host)) k
 readK (credit n) k = withHost (credited n (k .host)) k
 readK (opened t) k = withHost (openedHost t) k
 readK closed k = withHost closedHost k
@@ -93,13 +91,6 @@ readK closed k = withHost closedHost k
 abbrev pub readsK : List Item → Connection → Connection
 readsK [] k = k
 readsK (i ∷ is) k = readsK is (readK i k)
-
--- the message that the host hands out on reading an item
-abbrev pub readMessages : Item → Connection → List Octets
-readMessages (carry l) k = pick (k .host .opened) (finished dataLimit (k .host .run) (l .segment)) []
-readMessages (credit n) k = []
-readMessages (opened t) k = []
-readMessages closed k = []
 
 abbrev pub putL : Item → Ledger → Ledger
 putL (carry x) l = l
