@@ -17,7 +17,7 @@ use Rattle.wires.specs.Meaning.{Meaning, datum, control, junk, meaning}
 use Rattle.model.specs.State.{State, isOpen, at, withDown, withConns, withAsking}
 use Rattle.model.specs.Effects.{Effect, taken, down}
 use Rattle.model.specs.Refusals.{isNil}
-use Rattle.model.specs.calls.Down.{answering, asked, arriving, taking}
+use Rattle.model.specs.calls.Down.{answering, asked, arriving, taking, needsTwo}
 use Rattle.model.specs.Bench.{rules}
 use Rattle.model.specs.Observer.{Ledger, Account, arrivedL, arrival, shown, seen, eventOf}
 use Rattle.model.specs.invariant.Items.{itemsOf, segsIn, segsOf}
@@ -25,7 +25,6 @@ use Rattle.model.specs.invariant.Commands.{named, headsIn, heads, orders
 use Rattle.model.specs.invariant.Bench.{Order, Fine, Kept, Keeps, GoodAt, accountOf}
 use Rattle.model.proofs.Cases.{clash, each, right-nil}
 use Rattle.model.proofs.Needs.{need}
-use Rattle.model.specs.calls.Down.{needsTwo}
 use Rattle.model.proofs.Acts.{deliver-good, drop-good}
 use Rattle.nfcc.proofs.Verdicts.{Fits, judge-fits, judge-legal}
 use Rattle.model.proofs.Order.{one-only, other-way, way-run, way-more, way-last, way-low, way-small}

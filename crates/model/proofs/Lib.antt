@@ -22,6 +22,7 @@ pub mod Always
 pub mod Never
 pub mod Said
 pub mod Small
+pub mod SizesDown
 pub mod Sizes
 pub mod Shaped
 pub mod WellFormed

@@ -20,7 +20,7 @@ use Rattle.model.specs.Kinds.answer.{Done, ClosesAll, Sized, Opens, Clos
 use Rattle.model.specs.Kinds.heard.{Nothing, Answered, Activated, Deactivated, Credits}
 use Rattle.state.specs.Conn.{placeOf, connOf, termsOf}
 use Rattle.state.specs.Commands.{commandOf}
-use Rattle.messages.specs.Layout.{Message, resetNtf, creditsNtf, genericErrorNtf, discoverNtf, activatedNtf, deactivateNtf, responseOf, responseMessage, noticeMessage}
+use Rattle.messages.specs.Layout.{Message, resetNtf, creditsNtf, entriesFrom, genericErrorNtf, discoverNtf, activatedNtf, deactivateNtf, responseOf, responseMessage, noticeMessage}
 use Rattle.state.specs.Radio.{isActive, isListening, isAsleep, polls}
 use Rattle.state.specs.Profile.{profileOk, profileIn, profileOctetsOk, ProfileWithin, TermsWithin}
 use Rattle.dh.specs.Contents.{written, noticeOf, entryId, entryCredits, entryOk, entriesOk, creditsWritten}
@@ -262,6 +262,14 @@ module _ (p : Profile) (limits : ProfileWithin p) (aim d : ℕ) where
   items-aired rf ps m Endpoint w = on (Heeded []) (isActive rf) (λ h e. refl) (λ h. refuse [])
 
 -- ---- the credit notice: for each connection it has what was owed
+
+-- two octets a connection at most
+pub entries-few : (p : ℕ) (ns : List ℕ) → length (entriesFrom p ns) ≤ length ns + length ns
+unfolding entriesFrom
+entries-few p [] = omega arith
+entries-few p (n ∷ ns) =
+    let more = entries-few (suc p) ns in
+    on (λ (x : Octets). length (x ++ entriesFrom (suc p) ns) ≤ suc (length ns) + suc (length ns)) (eqb n 0) (λ e. omega arith) (λ e. omega arith)
 
 -- a notice that the host takes for written has no credits for any other Conn ID
 other-id : (m : Octets) (c : ℕ) → noConn c ≡ true → (n : ℕ) → entriesOk m n ≡ true → creditsIn m n c ≡ 0

@@ -34,7 +34,7 @@ use Rattle.messages.proofs.Lengths.{response-short}
 use Rattle.air.proofs.Taken.{Within}
 use Rattle.model.proofs.Meanings.{meaning-data, meaning-command, meaning-response, meaning-notice}
 use Rattle.model.proofs.Fine.{conn-small}
-use Rattle.model.proofs.Keeping.{entries-few}
+use Rattle.model.proofs.Messages.{entries-few}
 
 -- ---- a packet as it was written
 
