@@ -47,7 +47,7 @@ use Rattle.model.specs.Refusals.{Rule, rule, first, noConn}
 use Rattle.model.specs.calls.Push.{pushing, pushRules}
 use Rattle.model.specs.Bench.{act, judged}
 use Rattle.model.specs.Observer.{eventOf}
-use Rattle.model.proofs.Order.{need}
+use Rattle.model.proofs.Needs.{need}
 use Rattle.calls.specs.Word.{wordOf, answerIn, droppedIn, handedIn, lengthIn, downIn, upIn}
 use Rattle.calls.specs.Outcome.{lowest}
 use Rattle.calls.specs.Seen.{Puts, putsAfter, seenBy}

@@ -29,15 +29,18 @@ use Rattle.model.specs.Changes.{atController}
 use Rattle.model.specs.calls.Air.{airingAs, airing}
 use Rattle.model.specs.Bench.{rules}
 use Rattle.model.specs.Observer.{Ledger, spokenL, airedL, shown}
-use Rattle.model.proofs.Items.{itemsBy, itemsOf, segsOf, putsL}
-use Rattle.model.proofs.Link.{clash}
+use Rattle.model.specs.invariant.Items.{itemsBy, itemsOf, segsOf, putsL}
+use Rattle.model.specs.invariant.Commands.{replies}
+use Rattle.model.specs.invariant.Bench.{Fine, Kept, Keeps, GoodAt, Sound, accountOf}
+use Rattle.model.proofs.Cases.{clash, each, nil-of}
+use Rattle.model.proofs.Needs.{need}
 use Rattle.model.proofs.Acts.{MayPut, puts-good, air-good}
 use Rattle.air.proofs.Taken.{Within, event-within, found-by, poll-by, listen-by, failed-by, AirLegal, aired-legal}
 use Rattle.model.proofs.Meanings.{itemsOf-append}
 use Rattle.model.proofs.Messages.{items-aired, Notices, notices-air}
-use Rattle.model.proofs.Order.{each, need, nil-of, replies, replies-append}
+use Rattle.model.proofs.Order.{replies-append}
 use Rattle.model.proofs.Closing.{shut-now}
-use Rattle.model.proofs.Fine.{Fine, Kept, kept, Keeps, GoodAt, Plain, puts-change, put-all, Sound, sound-append, ChangeOk, standing-change, standing-at, order-open, at-keeps, accountOf}
+use Rattle.model.proofs.Fine.{kept, Plain, puts-change, put-all, sound-append, ChangeOk, standing-change, standing-at, order-open, at-keeps}
 use Rattle.model.proofs.Deciding.{notices-replies, notice-sound}
 
 -- ---- the kinds that the rules name
@@ -101,7 +104,7 @@ kind-eight m Endpoint w n = w
 
 -- a notification of the air is one short packet
 air-sound : (p : Profile) (m : Octets) (e : Event) → Within m e → Sound (noticePackets (airMessage p e m))
-unfolding airMessage Sound
+unfolding airMessage
 air-sound p m Bad w = tt
 air-sound p m (Found a type) w = notice-sound 1 3 (discoverNtf a type (drop 5 m)) (omega arith) (omega arith) (simp length-append (omega (arith, w .4)))
 air-sound p m (Poll a) w = notice-sound 1 5 (activatedNtf a (termsOf p 0) (drop 4 m)) (omega arith) (omega arith) (simp length-append (omega (arith, w .3)))
@@ -234,7 +237,7 @@ module _ (s : State) (aim : ℕ) (l : ℕ → Ledger) (m : Octets) (f : Fine s a
       each 0 (λ d b. MayPut (s .conns d) (segsOf d (s .down)) (itemsOf aim d (s .up)) (itemsBy (pick b (opens t) stays)))
       (let shut = sym (f .standing .air) ∙ idle in
       let items : itemsOf aim 0 (s .up) ≡ [] = rw (w .1) in
-      let q = shut-now (s .conns 0 .host .opened) (itemsOf aim 0 (s .up)) (rw items tt) (rw shut at (f .good 0 .phase)) in
+      let q = shut-now (s .conns 0 .host .opened) (itemsOf aim 0 (s .up)) (rw items tt) (rw shut at (f .good 0 .numbers .phase)) in
       (q .0, rw (w .0) refl, q .1))
       (λ d. tt) d
 

@@ -5,14 +5,15 @@ use mathlib.Core.Path.{_≡_, refl}
 use mathlib.Core.List.{List, [], _∷_}
 use Rattle.model.specs.Kinds.{Profile}
 use Rattle.model.specs.State.{State, cold}
-use Rattle.state.specs.Profile.{profileIn}
+use Rattle.state.specs.Profile.{profileIn, ProfileWithin}
 use Rattle.model.specs.Effects.{Call, Result, taken, refused}
 use Rattle.model.specs.Refusals.{first}
 use Rattle.model.specs.Bench.{rules, act, judged, step}
 use Rattle.model.specs.Observer.{Ledger, Account, opening, observe, eventOf, after}
 use Rattle.model.specs.Reachable.{Always}
-use Rattle.model.proofs.Messages.{Limits, profile-limits}
-use Rattle.model.proofs.Fine.{Fine, Kept, kept, cold-fine}
+use Rattle.model.proofs.Messages.{profile-limits}
+use Rattle.model.specs.invariant.Bench.{Fine, Kept}
+use Rattle.model.proofs.Fine.{kept, cold-fine}
 use Rattle.model.proofs.Trace.{step-keeps}
 
 -- each call that is taken on a bench with demand 3's invariant keeps P
@@ -33,7 +34,7 @@ module _ (P : State → Type 0) (stays : Stays P) where
   after-stays [] s o k h = h
   after-stays (c ∷ cs) s o k h = after-stays cs (step c s .effect .next) (observe (eventOf c (step c s)) o) (step-keeps c s o k) (step-stays c s o k h)
 
-  pub always : ((p : Profile) → Limits p → P (cold p)) → Always P
+  pub always : ((p : Profile) → ProfileWithin p → P (cold p)) → Always P
   always start profile ok calls =
       let limits = profile-limits profile ok in
       after-stays calls (cold (profileIn profile)) opening (kept (cold-fine (profileIn profile) limits)) (start (profileIn profile) limits)

@@ -17,15 +17,18 @@ use Rattle.wires.specs.Meaning.{Meaning, datum, control, junk, meaning}
 use Rattle.model.specs.State.{State, isOpen, at, withDown, withConns, withAsking}
 use Rattle.model.specs.Effects.{Effect, taken, down}
 use Rattle.model.specs.Refusals.{isNil}
-use Rattle.model.specs.calls.Down.{answering, asked, arriving, taking}
+use Rattle.model.specs.calls.Down.{answering, asked, arriving, taking, needsTwo}
 use Rattle.model.specs.Bench.{rules}
 use Rattle.model.specs.Observer.{Ledger, Account, arrivedL, arrival, shown, seen, eventOf}
-use Rattle.model.proofs.Items.{itemsOf, segsIn, segsOf}
-use Rattle.model.proofs.Link.{clash}
+use Rattle.model.specs.invariant.Items.{itemsOf, segsIn, segsOf}
+use Rattle.model.specs.invariant.Commands.{named, headsIn, heads, ordersIn, replies, NoDatum, Tidy}
+use Rattle.model.specs.invariant.Bench.{Order, Fine, Kept, Keeps, GoodAt, accountOf}
+use Rattle.model.proofs.Cases.{clash, each, right-nil}
+use Rattle.model.proofs.Needs.{need}
 use Rattle.model.proofs.Acts.{deliver-good, drop-good}
 use Rattle.nfcc.proofs.Verdicts.{Fits, judge-fits, judge-legal}
-use Rattle.model.proofs.Order.{each, need, right-nil, named, headsIn, heads, ordersIn, replies, endsOrder, NoDatum, NoData, Tidy, one-only, other-way, way-run, way-more, way-last, way-low, way-small}
-use Rattle.model.proofs.Fine.{Order, Fine, Kept, Keeps, GoodAt, StoredFor, stored-append, order-open, at-keeps, standing-at, accountOf}
+use Rattle.model.proofs.Order.{one-only, other-way, way-run, way-more, way-last, way-low, way-small}
+use Rattle.model.proofs.Fine.{stored-append, order-open, at-keeps, standing-at}
 use Rattle.model.proofs.Deciding.{Behind, decided-keeps}
 
 -- what is seen of a packet that the controller takes
@@ -39,12 +42,12 @@ module _ (s : State) (aim : ℕ) (l : ℕ → Ledger) (p : Octets) (w : List Oct
     pub segs : (d : ℕ) → segsIn d q ≡ []
     pub head : headsIn q ≡ []
     pub order : ordersIn q ≡ []
-    pub ends : endsOrder q ≡ false
+    pub ends : needsTwo q ≡ false
     pub bare : NoDatum q
     pub counts : (d : ℕ) (x : Ledger) → arrival d q x ≡ x
 
   ignored-keeps : (q : Meaning) → meaning p ≡ q → Ignored q → Kept (withDown w s) (counted w s aim l q [])
-  unfolding segsOf heads Tidy NoData
+  unfolding segsOf heads Tidy
   ignored-keeps q means i =
       record {
         same-down = refl;
@@ -89,7 +92,7 @@ module _ (s : State) (aim : ℕ) (l : ℕ → Ledger) (p : Octets) (w : List Oct
     data-clear d z o = right-nil (segsIn d (meaning p)) (f .order .clear d z o)
 
     data-order : Order (s .conns) w (replies (s .up)) (s .host .pending)
-    unfolding heads Tidy NoData
+    unfolding heads Tidy
     data-order =
         record {
           clear = data-clear;
@@ -100,7 +103,6 @@ module _ (s : State) (aim : ℕ) (l : ℕ → Ledger) (p : Octets) (w : List Oct
 
     stored-keeps : s .conns c .controller .opened ≡ true
         → Kept (withConns (at c (λ k. withController (stored p (k .controller)) k) (s .conns)) (withDown w s)) (counted w s aim l (datum c x) [])
-    unfolding StoredFor
     stored-keeps here =
         record {
           same-down = refl;
@@ -159,7 +161,7 @@ module _ (s : State) (aim : ℕ) (l : ℕ → Ledger) (p : Octets) (w : List Oct
   module _ (mt gid oid : ℕ) (order : eqb mt 1 ≡ true) where
     more-keeps : (b : Octets) → meaning p ≡ control mt gid oid (more b)
         → Kept (askedAs (run (f .way .so-far)) gid oid (more b) .next) (counted w s aim l (control mt gid oid (more b)) [])
-    unfolding segsOf heads Tidy NoData
+    unfolding segsOf heads Tidy
     more-keeps b means =
         record {
           same-down = refl;

@@ -22,11 +22,12 @@ use Rattle.state.proofs.Chains.{on}
 use Rattle.wires.specs.Meaning.{Meaning, datum, control, junk, meaning}
 use Rattle.wires.specs.Tally.{says}
 use Rattle.ends.specs.Changes.{Change, stays, opens, changeHeard}
-use Rattle.model.proofs.Items.{Item, carry, credit, opened, closed, itemsBy, itemsIn, itemsOf}
-use Rattle.model.proofs.Phases.{walk, start, live, Ends, bad-walk}
-use Rattle.model.proofs.Link.{clash}
+use Rattle.model.specs.invariant.Items.{Item, carry, credit, opened, closed, itemsBy, itemsIn, itemsOf}
+use Rattle.model.specs.invariant.Phases.{walk, start, live, Ends}
+use Rattle.model.specs.invariant.Commands.{Name, named, pendingName, repliesIn, replies}
+use Rattle.model.proofs.Cases.{clash, left-nil, right-nil}
+use Rattle.model.proofs.Phases.{bad-walk}
 use Rattle.nfcc.proofs.Verdicts.{Named, command-named}
-use Rattle.model.proofs.Order.{Name, named, pendingName, repliesIn, replies, left-nil, right-nil}
 
 -- ---- items that do not close
 

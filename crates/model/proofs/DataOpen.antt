@@ -18,13 +18,14 @@ use Rattle.model.specs.State.{State}
 use Rattle.ends.specs.Changes.{Change, stays, opens, closes, gives}
 use Rattle.model.specs.Observer.{Ledger, changeIn}
 use Rattle.model.specs.Reachable.{Always, openedBy, openAfter, isOpening, opensIn, DataOpen}
-use Rattle.model.proofs.Items.{Item, loaded, itemsBy, itemsIn, itemsOf}
-use Rattle.model.proofs.Phases.{Phase, shut, live, over, bad, walk, start, Ends, walk-append, bad-walk}
-use Rattle.model.proofs.Link.{clash}
+use Rattle.model.specs.invariant.Items.{Item, loaded, itemsBy, itemsIn, itemsOf}
+use Rattle.model.specs.invariant.Phases.{Phase, shut, live, over, bad, walk, start, Ends}
+use Rattle.model.specs.invariant.Commands.{heads, replies}
+use Rattle.model.specs.invariant.Bench.{Fine, Aimed}
+use Rattle.model.proofs.Cases.{clash, right-nil}
+use Rattle.model.proofs.Phases.{walk-append, bad-walk}
 use Rattle.model.proofs.Meanings.{itemsOf-append}
-use Rattle.model.proofs.Order.{right-nil, heads, replies}
 use Rattle.model.proofs.Closing.{items-aim}
-use Rattle.model.proofs.Fine.{Fine, Aimed}
 use Rattle.model.proofs.Trace.{reachable}
 
 -- ---- the phase is that of the host
@@ -116,7 +117,7 @@ module _ (s : State) (aim : ℕ) (l : ℕ → Ledger) (f : Fine s aim l) where
   no-replies e = right-nil (heads (s .down)) (rw e at (f .order .single))
 
   phase-of : (c : ℕ) → Ends (walk (start (s .conns c .host .opened)) (itemsOf (aimOf (s .host .pending)) c (s .up))) (s .conns c .controller .opened)
-  phase-of c = rw (host-aim (s .host .pending) aim c (s .up) (f .aimed) no-replies) at (f .good c .phase)
+  phase-of c = rw (host-aim (s .host .pending) aim c (s .up) (f .aimed) no-replies) at (f .good c .numbers .phase)
 
   comes-open : (before : List Octets) (p : Octets) (behind : List Octets) (c : ℕ) (x : Segment) → s .up ≡ before ++ (p ∷ behind) → meaning p ≡ datum c x
       → openAfter (aimOf (s .host .pending)) c (s .conns c .host .opened) before ≡ true

@@ -33,15 +33,18 @@ use Rattle.ends.specs.Changes.{Change, stays, opens, closes, changeBy}
 use Rattle.model.specs.Changes.{atController}
 use Rattle.model.specs.calls.Down.{answers, deciding}
 use Rattle.model.specs.Observer.{Ledger, shown}
-use Rattle.model.proofs.Items.{putsL, Item, opened, itemsBy, itemsOf, segsOf}
-use Rattle.model.proofs.Link.{clash}
+use Rattle.model.specs.invariant.Items.{putsL, Item, itemsBy, itemsOf, segsOf}
+use Rattle.model.specs.invariant.Commands.{OnItsWay, Name, named, heads, replies, pendingName, NoData}
+use Rattle.model.specs.invariant.Bench.{Aimed, Kept, GoodAt, Sound, Standing, accountOf}
+use Rattle.model.proofs.Cases.{clash, each, right-nil}
 use Rattle.model.proofs.Acts.{MayPut, puts-good}
 use Rattle.nfcc.proofs.Verdicts.{Fits, Legal}
 use Rattle.model.proofs.Meanings.{itemsOf-append, meaning-notice}
-use Rattle.model.proofs.Messages.{answeredBy, says-response, Limits, items-answers, Notices, notices-verdict, meaning-answer}
-use Rattle.model.proofs.Order.{OnItsWay, each, Name, named, heads, replies, replies-append, pendingName, NoData, no-segs, no-data-tidy, right-nil}
+use Rattle.model.proofs.Messages.{answeredBy, says-response, items-answers, Notices, notices-verdict, meaning-answer}
+use Rattle.model.proofs.Order.{replies-append, no-segs, no-data-tidy}
 use Rattle.model.proofs.Closing.{closing-reset, closing-close, closing, closing-pending, no-close, shut-now}
-use Rattle.model.proofs.Fine.{Aimed, ChangeOk, standing-change, sound-control, Kept, kept, GoodAt, Plain, puts-change, put-all, Sound, sound-append, Standing, accountOf}
+use Rattle.model.proofs.Fine.{ChangeOk, standing-change, sound-control, kept, Plain, puts-change, put-all, sound-append}
+use Rattle.state.specs.Profile.{ProfileWithin}
 
 -- every verdict opens or closes, or does nothing
 verdict-plain : (v : Verdict) (d : ℕ) → Plain (changeBy v d)
@@ -72,12 +75,11 @@ answers-replies gid oid p v low small =
 
 pub notice-sound : (gid oid : ℕ) (m : Octets) → gid < 16 → oid < 64 → length m ≤ controlLimit
     → Sound (noticePackets (record { gid = gid; oid = oid; payload = m }))
-unfolding Sound
 notice-sound gid oid m low small short =
     on Sound (eqb (length m) 0) (λ e. tt) (λ e. sound-control (noticePacket (record { gid = gid; oid = oid; payload = m })) 3 gid oid m (meaning-notice gid oid low small m) (inr refl) short)
 
 verdict-sound : (v : Verdict) → Sound (noticePackets (noticeMessage v))
-unfolding noticeMessage Sound
+unfolding noticeMessage
 verdict-sound (verdict.Refuses status) = tt
 verdict-sound (verdict.Resets type) = notice-sound 0 0 (resetNtf type) (omega arith) (omega arith) (omega arith)
 verdict-sound verdict.Initialises = tt
@@ -95,7 +97,7 @@ answered-written aim gid oid m a e = go (written 2 gid oid m) refl e
     go true w h = w
     go false w h = absurd (let z : _≡_ {A = ℕ} 0 1 = cc in omega arith)
 
-answers-sound : (aim gid oid : ℕ) (p : Profile) (v : Verdict) → Limits p → Fits gid oid aim p v → gid < 16 → oid < 64 → Sound (answers gid oid p v)
+answers-sound : (aim gid oid : ℕ) (p : Profile) (v : Verdict) → ProfileWithin p → Fits gid oid aim p v → gid < 16 → oid < 64 → Sound (answers gid oid p v)
 answers-sound aim gid oid p v limits f low small =
     sound-append (responsePacket (responseMessage gid oid p v) ∷ []) (noticePackets (noticeMessage v))
     (sound-control (responsePacket (responseMessage gid oid p v)) 2 gid oid (responseOf p v) (meaning-answer gid oid p v low small)
@@ -110,7 +112,7 @@ pub record Behind (s : State) (aim : ℕ) (l : ℕ → Ledger) (gid oid : ℕ) :
   pub asked : pendingName (s .host .pending) ≡ named gid oid ∷ []
   pub bare : isClosing (s .host .pending) ≡ true → NoData (s .down)
   pub standing : Standing (s .conns) (isActive (s .controller .rf)) (s .profile)
-  pub limits : Limits (s .profile)
+  pub limits : ProfileWithin (s .profile)
   pub way : OnItsWay aim (s .asking) (s .down)
   pub aimed : Aimed (s .host .pending) aim
   pub sound : Sound (s .up)
@@ -132,7 +134,7 @@ module _ (s : State) (aim : ℕ) (l : ℕ → Ledger) (gid oid : ℕ) (b : Behin
   -- a dynamic connection that is not open at the controller is not open at the host either, and nothing of it is under way
   shut-there : (c : ℕ) → eqb 0 c ≡ false → s .conns c .controller .opened ≡ false
       → (s .conns c .host .opened ≡ false) × (itemsOf aim c (s .up) ≡ [])
-  shut-there c z e = shut-now (s .conns c .host .opened) (itemsOf aim c (s .up)) (no-close c z aim (s .up) (rw no-replies tt)) (rw e at (b .good c .phase))
+  shut-there c z e = shut-now (s .conns c .host .opened) (itemsOf aim c (s .up)) (no-close c z aim (s .up) (rw no-replies tt)) (rw e at (b .good c .numbers .phase))
 
   not-zero : (c : ℕ) → 2 ≤ c → eqb 0 c ≡ false
   not-zero c h = ne-eqb 0 c (λ (z : 0 ≡ c). omega arith)

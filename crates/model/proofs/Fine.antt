@@ -10,111 +10,31 @@ use lib.Dec.{eqb}
 use lib.ListN.{length}
 use borrow.Author.Tests.{eqb-true, leb-false}
 use Rattle.octets.specs.Octets.{Octets, pick}
-use Rattle.packets.specs.Segments.{Segment, more, last}
-use Rattle.packets.specs.Reassembly.{run}
+use Rattle.packets.specs.Segments.{Segment, last}
 use Rattle.model.specs.Kinds.{Profile, Pending}
-use Rattle.model.specs.Kinds.pending as pending
 use Rattle.state.specs.Conn.{placeOf, termsOf}
-use Rattle.state.specs.Radio.{isActive}
 use Rattle.state.specs.Runs.{controlLimit}
 use Rattle.dh.specs.Contents.{written}
 use Rattle.state.proofs.Chains.{on}
 use Rattle.model.specs.Connection.{Connection, ControllerEnd, withHost, withController}
 use Rattle.wires.specs.Meaning.{Meaning, datum, control, junk, meaning}
 use Rattle.model.specs.State.{State, cold, at}
-use Rattle.model.specs.Effects.{Call, taken}
-use Rattle.dh.specs.Host.{isClosing}
-use Rattle.model.specs.Refusals.{noConn, first}
+use Rattle.model.specs.Refusals.{noConn}
 use Rattle.ends.specs.Changes.{Change, stays, opens, closes, gives}
 use Rattle.model.specs.Changes.{atController, atHost}
 use Rattle.model.specs.calls.Consume.{isLoop}
-use Rattle.model.specs.Bench.{rules, act, judged}
-use Rattle.model.specs.Observer.{Ledger, Account, blank, putBy, readBy, putAll, changeIn, seen, eventOf}
-use Rattle.model.proofs.Items.{Item, itemsBy, itemsIn, itemsOf, segsOf, putsK, readsK, putsL, readsL}
-use Rattle.model.proofs.Link.{Good, clash, cold-good}
-use Rattle.model.proofs.Messages.{Limits}
-use Rattle.model.proofs.Order.{each, heads, replies, pendingName, NoData, Tidy, OnItsWay, no-way, Name}
-
--- ---- the parts of the invariant
-
--- the order of commands, data and answers
-pub record Order (g : ℕ → Connection) (w : List Octets) (ks : List Name) (p : Pending) : Type 0 where
-  -- a dynamic connection that the controller has closed has no data on the down wire
-  pub clear : (d : ℕ) → eqb 0 d ≡ false → g d .controller .opened ≡ false → segsOf d w ≡ []
-  -- at most one command is under way: on the down wire, or its answer on the up wire
-  pub single : heads w ++ ks ≡ pendingName p
-  -- no data is pushed behind a RESET or a CONN_CLOSE
-  pub tidy : isClosing p ≡ true → Tidy w
-  pub empty : isClosing p ≡ true → heads w ≡ [] → NoData w
-
--- the host remembers the connection that its command named
-abbrev pub Aimed : Pending → ℕ → Type 0
-Aimed pending.Nothing aim = Unit {0}
-Aimed (pending.Command a) aim = a .aim ≡ aim
-
--- a packet on the up wire is data, or a whole response or notification; a response is one that the host understands
-abbrev pub SoundIn : Meaning → Type 0
-SoundIn (datum c x) = Unit {0}
-SoundIn (control mt gid oid (more b)) = ⊥
-SoundIn (control mt gid oid (last m)) = (((mt ≡ 2) × (written 2 gid oid m ≡ true)) ⊎ (mt ≡ 3)) × (length m ≤ controlLimit)
-SoundIn junk = Unit {0}
-
-unfoldable pub Sound : List Octets → Type 0
-Sound [] = Unit {0}
-Sound (p ∷ w) = SoundIn (meaning p) × Sound w
-
--- a stored packet is data of its connection
-abbrev pub StoredIn : ℕ → Meaning → Type 0
-StoredIn d (datum c x) = c ≡ d
-StoredIn d (control mt gid oid x) = ⊥
-StoredIn d junk = ⊥
-
-unfoldable pub StoredFor : ℕ → List Octets → Type 0
-StoredFor d [] = Unit {0}
-StoredFor d (p ∷ w) = StoredIn d (meaning p) × StoredFor d w
-
--- what the controller holds for its connections; `active` is whether RF is in an active state
-pub record Standing (g : ℕ → Connection) (active : Bool) (p : Profile) : Type 0 where
-  pub stores : (d : ℕ) → StoredFor d (g d .controller .store)
-  -- connection 0 is open in the active states
-  pub air : active ≡ g 0 .controller .opened
-  -- no connection but the five is ever open
-  pub known : (d : ℕ) → noConn d ≡ true → g d .controller .opened ≡ false
-  -- a grant is the profile's
-  pub granted : (d : ℕ) → g d .controller .opened ≡ true → g d .controller .grant ≡ termsOf p d .credits
-
-abbrev pub GoodAt : ℕ → Connection → List Segment → List Item → Ledger → Type 0
-GoodAt d k ss is l = Good (isLoop d) k ss is l
-
-pub record Fine (s : State) (aim : ℕ) (l : ℕ → Ledger) : Type 0 where
-  pub good : (d : ℕ) → GoodAt d (s .conns d) (segsOf d (s .down)) (itemsOf aim d (s .up)) (l d)
-  pub order : Order (s .conns) (s .down) (replies (s .up)) (s .host .pending)
-  pub way : OnItsWay aim (s .asking) (s .down)
-  pub aimed : Aimed (s .host .pending) aim
-  pub sound : Sound (s .up)
-  -- a control message going up is one packet, so the host's run is always at its start
-  pub heard : s .hearing .run ≡ run []
-  pub standing : Standing (s .conns) (isActive (s .controller .rf)) (s .profile)
-  pub limits : Limits (s .profile)
-
--- what an observer has, where its wires are those of the bench
-pub record Kept (s : State) (o : Account) : Type 0 where
-  pub same-down : o .down ≡ s .down
-  pub same-up : o .up ≡ s .up
-  pub fine : Fine s (o .aim) (o .ledger)
-
-abbrev pub accountOf : State → ℕ → (ℕ → Ledger) → Account
-accountOf s aim l = record { down = s .down; up = s .up; aim = aim; ledger = l }
+use Rattle.model.specs.Observer.{Ledger, blank, putBy, readBy, putAll, changeIn}
+use Rattle.model.specs.invariant.Items.{Item, itemsBy, itemsIn, itemsOf, segsOf, putsK, readsK, putsL, readsL}
+use Rattle.model.specs.invariant.Commands.{heads, replies, Tidy, Name}
+use Rattle.model.specs.invariant.Bench.{Order, SoundIn, Sound, StoredIn, StoredFor, Standing, Fine, Kept, accountOf}
+use Rattle.model.proofs.Cases.{clash, each, each-append}
+use Rattle.model.proofs.Acts.{cold-good}
+use Rattle.model.proofs.Order.{no-way}
+use Rattle.state.specs.Profile.{ProfileWithin}
 
 -- where the wires are the same by computation
 pub kept : {s : State} {aim : ℕ} {l : ℕ → Ledger} → Fine s aim l → Kept s (accountOf s aim l)
 kept f = record { same-down = refl; same-up = refl; fine = f }
-
--- the statement for one call
-abbrev pub Keeps : Call → State → ℕ → (ℕ → Ledger) → Type 0
-Keeps c s aim l =
-    first (rules c s) ≡ taken → Fine s aim l
-    → Kept (act c s .next) (seen c (eventOf c (judged taken c s)) (accountOf s aim l))
 
 -- ---- changes and items
 
@@ -170,17 +90,13 @@ put-all aim d (p ∷ ps) l =
 -- ---- small laws
 
 pub sound-append : (a b : List Octets) → Sound a → Sound b → Sound (a ++ b)
-unfolding Sound
-sound-append [] b p q = q
-sound-append (x ∷ a) b p q = (p .0, sound-append a b (p .1) q)
+sound-append = each-append (λ p. SoundIn (meaning p))
 
 pub sound-data : (w : List Octets) (p : Octets) (c : ℕ) (x : Segment) → meaning p ≡ datum c x → Sound w → Sound (w ++ (p ∷ []))
-unfolding Sound
 sound-data w p c x means h = sound-append w (p ∷ []) h (rw means (tt, tt))
 
 pub sound-control : (p : Octets) (mt gid oid : ℕ) (m : Octets) → meaning p ≡ control mt gid oid (last m)
     → ((mt ≡ 2) × (written 2 gid oid m ≡ true)) ⊎ (mt ≡ 3) → length m ≤ controlLimit → Sound (p ∷ [])
-unfolding Sound
 sound-control p mt gid oid m means e h = rw means ((e, h), tt)
 
 -- the observer counts nothing of a data packet put up
@@ -188,9 +104,7 @@ pub put-data : (aim d : ℕ) (p : Octets) (c : ℕ) (x : Segment) (l : Ledger) �
 put-data aim d p c x l means = rw means refl
 
 pub stored-append : (d : ℕ) (a b : List Octets) → StoredFor d a → StoredFor d b → StoredFor d (a ++ b)
-unfolding StoredFor
-stored-append d [] b p q = q
-stored-append d (x ∷ a) b p q = (p .0, stored-append d a b (p .1) q)
+stored-append d = each-append (λ p. StoredIn d (meaning p))
 
 -- a Conn ID of the five is small
 pub conn-small : (c : ℕ) → noConn c ≡ false → c < 16
@@ -258,7 +172,6 @@ ChangeOk p d (gives n) = Unit {0}
 pub standing-change : {g : ℕ → Connection} {active : Bool} {p : Profile} (change : ℕ → Change) (active′ : Bool)
     → ((d : ℕ) → ChangeOk p d (change d)) → active′ ≡ atController (change 0) (g 0 .controller) .opened
     → Standing g active p → Standing (λ d. withController (atController (change d) (g d .controller)) (g d)) active′ p
-unfolding StoredFor
 standing-change {g} {active} {p} change active′ ok air h =
     record {
       stores = λ d. stored d (change d);
@@ -288,8 +201,8 @@ standing-change {g} {active} {p} change active′ ok air h =
 
 -- ---- fresh and power
 
-pub cold-fine : (p : Profile) → Limits p → Fine (cold p) 0 (λ d. blank)
-unfolding segsOf itemsOf heads replies NoData Tidy Sound StoredFor
+pub cold-fine : (p : Profile) → ProfileWithin p → Fine (cold p) 0 (λ d. blank)
+unfolding segsOf itemsOf heads replies Tidy
 cold-fine p h =
     record {
       good = λ d. cold-good (isLoop d);

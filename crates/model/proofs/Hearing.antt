@@ -3,7 +3,7 @@
 use Prim.Native.Nat.{ℕ, _≤_}
 use mathlib.Core.Path.{_≡_, refl, sym, ap, _∙_, subst}
 use mathlib.Core.Logic.{_⊎_, inl, inr}
-use mathlib.Core.Bool.{Bool, true, false}
+use mathlib.Core.Bool.{true, false}
 use mathlib.Core.List.{List, [], _∷_, _++_, cons≢nil, head-eq-of-cons-eq}
 use lib.Dec.{eqb}
 use lib.ListN.{length}
@@ -33,14 +33,17 @@ use Rattle.ends.specs.Changes.{Change, stays, opens, closes, gives, changeHeard
 use Rattle.model.specs.calls.Up.{understanding, hearing, heard, coming, reading}
 use Rattle.model.specs.Bench.{rules}
 use Rattle.model.specs.Observer.{Ledger, Account, givenL, readBy, changeIn, heardAs, seen, eventOf}
-use Rattle.model.proofs.Items.{loaded, itemsBy, itemsOf, segsOf, readsK}
-use Rattle.model.proofs.Phases.{Ends, walk, start, bad-walk}
-use Rattle.model.proofs.Link.{clash}
+use Rattle.model.specs.invariant.Items.{loaded, itemsBy, itemsOf, segsOf, readsK}
+use Rattle.model.specs.invariant.Commands.{Name, named, pendingName, replies, heads}
+use Rattle.model.specs.invariant.Bench.{Order, Fine, Kept, Keeps, GoodAt, Aimed, Sound, SoundIn, accountOf}
+use Rattle.model.proofs.Cases.{clash, each}
+use Rattle.model.proofs.Needs.{need}
+use Rattle.model.proofs.Phases.{carry-first}
 use Rattle.model.proofs.Acts.{Reads, reads-good, read-good}
 use Rattle.model.proofs.Meanings.{hear-response, hear-notice}
 use Rattle.model.proofs.Granted.{GrantsOctet, says-octet}
-use Rattle.model.proofs.Order.{each, need, Name, named, pendingName, replies, heads, one-only}
-use Rattle.model.proofs.Fine.{Order, Fine, Kept, Keeps, GoodAt, Aimed, Sound, SoundIn, reads-change, readsL-change, standing-same, order-open, at-keeps, accountOf}
+use Rattle.model.proofs.Order.{one-only}
+use Rattle.model.proofs.Fine.{reads-change, readsL-change, standing-same, order-open, at-keeps}
 
 -- what is seen of a packet that the host takes
 abbrev counted : List Octets → State → ℕ → (ℕ → Ledger) → Meaning → List Octets → Account
@@ -52,7 +55,6 @@ module _ (s : State) (aim : ℕ) (l : ℕ → Ledger) (p : Octets) (w : List Oct
 
   -- what is left of the up wire is sound
   rest-sound : Sound w
-  unfolding Sound
   rest-sound = f .sound .1
 
   -- ---- a packet that is nothing to the host
@@ -89,11 +91,7 @@ module _ (s : State) (aim : ℕ) (l : ℕ → Ledger) (p : Octets) (w : List Oct
 
     -- data under way is for a connection that is open at the host when it comes
     held-open : s .conns c .host .opened ≡ true
-    held-open = go (s .conns c .host .opened) (rw (eq-eqb c c refl) at (data-good c) .phase)
-      where
-        go : (b : Bool) → Ends (walk (start b) (loaded x ∷ itemsOf aim c w)) (s .conns c .controller .opened) → b ≡ true
-        go true e = refl
-        go false e = bad-walk (s .conns c .controller .opened) (itemsOf aim c w) e
+    held-open = carry-first (s .conns c .host .opened) (s .conns c .controller .opened) _ (itemsOf aim c w) (rw (eq-eqb c c refl) at (data-good c) .numbers .phase) .0
 
     data-keeps : Kept (withConns (at c (λ k. withHost (heardData x (k .host)) k) (s .conns)) (withUp w s))
         (counted w s aim l (datum c x) (finished dataLimit (s .conns c .host .run) x))
@@ -109,9 +107,7 @@ module _ (s : State) (aim : ℕ) (l : ℕ → Ledger) (p : Octets) (w : List Oct
                     (λ d b.
                     GoodAt d (s .conns d) (segsOf d (s .down)) (pick b (loaded x ∷ []) [] ++ itemsOf aim d w) (l d)
                     → GoodAt d (pick b (withHost (heardData x (s .conns d .host)) (s .conns d)) (s .conns d)) (segsOf d (s .down)) (itemsOf aim d w) (pick b (givenL (finished dataLimit (s .conns c .host .run) x) (l d)) (l d)))
-                    (λ g. subst (λ (b : Bool). GoodAt c (pick b (withHost (heardData x (s .conns c .host)) (s .conns c)) (s .conns c)) (segsOf c (s .down)) (itemsOf aim c w) (givenL (finished dataLimit (s .conns c .host .run) x) (l c)))
-                    held-open
-                    (read-good (loaded x) (finished dataLimit (s .conns c .host .run) x) (rw held-open refl) g))
+                    (λ g. read-good (loaded x) (finished dataLimit (s .conns c .host .run) x) refl g)
                     (λ d g. g) d (data-good d);
                 order = order-open (λ d z. at-keeps c (λ k. withHost (heardData x (k .host)) k) (s .conns) (λ k. k .controller .opened) (λ k. refl) d) data-order;
                 way = f .way;
@@ -274,7 +270,6 @@ module _ (s : State) (aim : ℕ) (l : ℕ → Ledger) (p : Octets) (w : List Oct
   coming-keeps junk means k = junk-keeps means
 
 pub up-keeps : (s : State) (aim : ℕ) (l : ℕ → Ledger) → Keeps up s aim l
-unfolding Sound
 up-keeps s aim l t f = go (s .up) (need 8 (rules up s) t) f
   where
     go : (w : List Octets) → isNil w ≡ false → Fine (withUp w s) aim l

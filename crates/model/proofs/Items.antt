@@ -1,139 +1,60 @@
--- What one connection sees of the wires: segments going down, items going up. The proofs of the claim stand on these; a reader of
--- the claim does not need them.
+-- The laws of `specs/invariant/Items.antt`: items counted one after the other, and the segments of stored packets.
 -- Assumes nothing.
-use Prim.Native.Nat.{ℕ, _+_, _-_}
-use mathlib.Core.List.{List, [], _∷_, _++_}
-use lib.Dec.{eqb}
-use Rattle.octets.specs.Octets.{Octets, pick}
+use Prim.Native.Nat.{ℕ, _+_, _≤_}
+use native.Mathlib.Omega.{arith}
+use mathlib.Core.List.{List, [], _∷_, _++_, append-assoc}
+use mathlib.Core.Path.{_≡_, refl, ap}
+use Rattle.octets.specs.Octets.{Octets}
 use Rattle.packets.specs.Segments.{Segment}
-use Rattle.packets.specs.Reassembly.{finished}
-use Rattle.model.specs.Kinds.{Terms}
-use Rattle.state.specs.Conn.{metered}
-use Rattle.state.specs.Runs.{dataLimit}
-use Rattle.model.specs.Connection.{Connection, ControllerEnd, withHost, withController, closedHost, openedHost, closedController, openedController, heardData, credited}
-use Rattle.wires.specs.Meaning.{Meaning, datum, control, junk, meaning}
-use Rattle.ends.specs.Changes.{Change, stays, opens, closes, gives}
+use Rattle.wires.specs.Meaning.{meaning}
 use Rattle.model.specs.calls.Consume.{segmentIn}
-use Rattle.model.specs.Observer.{Ledger, putBy, readBy, givenL, changeIn}
+use Rattle.model.specs.invariant.Items.{Item, carry, credit, opened, closed, storeSegs, upSegs, upCredits, upReturned}
+use Rattle.model.specs.invariant.Link.{AllOpened}
 
--- what a data packet carries: a segment, and the credits inside the packet, which are 0 today
-pub record Load : Type 0 where
-  pub credits : ℕ
-  pub segment : Segment
+-- ---- items counted
 
--- what a packet on the up wire is for one connection
-pub data Item : Type 0 where
-  carry : Load → Item
-  credit : ℕ → Item
-  opened : Terms → Item
-  closed : Item
+pub upSegs-append : (a b : List Item) → upSegs (a ++ b) ≡ upSegs a ++ upSegs b
+upSegs-append [] b = refl
+upSegs-append (carry x ∷ a) b = ap (λ (ss : List Segment). x .segment ∷ ss) (upSegs-append a b)
+upSegs-append (credit n ∷ a) b = upSegs-append a b
+upSegs-append (opened t ∷ a) b = upSegs-append a b
+upSegs-append (closed ∷ a) b = upSegs-append a b
 
-abbrev pub loaded : Segment → Item
-loaded x = carry (record { credits = 0; segment = x })
+pub upCredits-append : (a b : List Item) → upCredits (a ++ b) ≡ upCredits a + upCredits b
+upCredits-append [] b = omega arith
+upCredits-append (carry x ∷ a) b = upCredits-append a b
+upCredits-append (credit n ∷ a) b = omega (arith, upCredits-append a b)
+upCredits-append (opened t ∷ a) b = omega (arith, upCredits-append a b)
+upCredits-append (closed ∷ a) b = upCredits-append a b
 
--- ---- packets to items and segments
+pub upReturned-append : (a b : List Item) → upReturned (a ++ b) ≡ upReturned a + upReturned b
+upReturned-append [] b = omega arith
+upReturned-append (carry x ∷ a) b = upReturned-append a b
+upReturned-append (credit n ∷ a) b = omega (arith, upReturned-append a b)
+upReturned-append (opened t ∷ a) b = upReturned-append a b
+upReturned-append (closed ∷ a) b = upReturned-append a b
 
-abbrev pub itemsBy : Change → List Item
-itemsBy stays = []
-itemsBy (opens t) = opened t ∷ []
-itemsBy closes = closed ∷ []
-itemsBy (gives n) = credit n ∷ []
+pub returned-le : (u : List Item) → upReturned u ≤ upCredits u
+returned-le [] = omega arith
+returned-le (carry x ∷ u) = returned-le u
+returned-le (credit n ∷ u) = omega (arith, returned-le u)
+returned-le (opened t ∷ u) = omega (arith, returned-le u)
+returned-le (closed ∷ u) = returned-le u
 
-abbrev pub itemsIn : ℕ → ℕ → Meaning → List Item
-itemsIn aim d (datum c x) = pick (eqb c d) (loaded x ∷ []) []
-itemsIn aim d (control mt gid oid x) = itemsBy (changeIn aim d (control mt gid oid x))
-itemsIn aim d junk = []
+pub opened-append : (g : ℕ) (a b : List Item) → AllOpened g a → AllOpened g b → AllOpened g (a ++ b)
+opened-append g [] b p q = q
+opened-append g (carry x ∷ a) b p q = opened-append g a b p q
+opened-append g (credit n ∷ a) b p q = opened-append g a b p q
+opened-append g (opened t ∷ a) b p q = (p .0, opened-append g a b (p .1) q)
+opened-append g (closed ∷ a) b p q = opened-append g a b p q
 
-unfoldable pub itemsOf : ℕ → ℕ → List Octets → List Item
-itemsOf aim d [] = []
-itemsOf aim d (p ∷ w) = itemsIn aim d (meaning p) ++ itemsOf aim d w
+-- ---- stored packets
 
-abbrev pub segsIn : ℕ → Meaning → List Segment
-segsIn d (datum c x) = pick (eqb c d) (x ∷ []) []
-segsIn d (control mt gid oid x) = []
-segsIn d junk = []
+pub store-first : (p : Octets) (rest : List Octets) (x : Segment) → segmentIn (meaning p) ≡ x ∷ [] → storeSegs (p ∷ rest) ≡ x ∷ storeSegs rest
+unfolding storeSegs
+store-first p rest x e = rw e
 
-unfoldable pub segsOf : ℕ → List Octets → List Segment
-segsOf d [] = []
-segsOf d (p ∷ w) = segsIn d (meaning p) ++ segsOf d w
-
--- the segments of stored packets
-unfoldable pub storeSegs : List Octets → List Segment
-storeSegs [] = []
-storeSegs (p ∷ ps) = segmentIn (meaning p) ++ storeSegs ps
-
--- ---- what putting and reading an item does: to the connection, and to its ledger
-
-abbrev pub lessOwed : ℕ → ControllerEnd → ControllerEnd
-lessOwed n c = record { opened = c .opened; grant = c .grant; owed = c .owed - n; store = c .store; run = c .run; speech = c .speech }
-
-abbrev pub putK : Item → Connection → Connection
-putK (carry l) k = k
-putK (credit n) k = withController (lessOwed n (k .controller)) k
-putK (opened t) k = withController (openedController t) k
-putK closed k = withController closedController k
-
-abbrev pub putsK : List Item → Connection → Connection
-putsK [] k = k
-putsK (i ∷ is) k = putsK is (putK i k)
-
-abbrev pub readK : Item → Connection → Connection
-readK (carry l) k = pick (k .host .opened) (withHost (heardData (l .segment) (k .host)) k) k
-readK (credit n) k = withHost (credited n (k .host)) k
-readK (opened t) k = withHost (openedHost t) k
-readK closed k = withHost closedHost k
-
-abbrev pub readsK : List Item → Connection → Connection
-readsK [] k = k
-readsK (i ∷ is) k = readsK is (readK i k)
-
--- the message that the host hands out on reading an item
-abbrev pub readMessages : Item → Connection → List Octets
-readMessages (carry l) k = pick (k .host .opened) (finished dataLimit (k .host .run) (l .segment)) []
-readMessages (credit n) k = []
-readMessages (opened t) k = []
-readMessages closed k = []
-
-abbrev pub putL : Item → Ledger → Ledger
-putL (carry x) l = l
-putL (credit n) l = putBy (gives n) l
-putL (opened t) l = putBy (opens t) l
-putL closed l = putBy closes l
-
-abbrev pub putsL : List Item → Ledger → Ledger
-putsL [] l = l
-putsL (i ∷ is) l = putsL is (putL i l)
-
-abbrev pub readL : Item → List Octets → Ledger → Ledger
-readL (carry x) ms l = givenL ms l
-readL (credit n) ms l = readBy (gives n) l
-readL (opened t) ms l = readBy (opens t) l
-readL closed ms l = readBy closes l
-
-abbrev pub readsL : List Item → List Octets → Ledger → Ledger
-readsL [] ms l = l
-readsL (i ∷ is) ms l = readsL is ms (readL i ms l)
-
--- ---- counted on the up wire
-
-abbrev pub upSegs : List Item → List Segment
-upSegs [] = []
-upSegs (carry l ∷ is) = l .segment ∷ upSegs is
-upSegs (credit n ∷ is) = upSegs is
-upSegs (opened t ∷ is) = upSegs is
-upSegs (closed ∷ is) = upSegs is
-
-abbrev pub upCredits : List Item → ℕ
-upCredits [] = 0
-upCredits (carry l ∷ is) = upCredits is
-upCredits (credit n ∷ is) = n + upCredits is
-upCredits (opened t ∷ is) = metered (t .credits) + upCredits is
-upCredits (closed ∷ is) = upCredits is
-
--- credits given back
-abbrev pub upReturned : List Item → ℕ
-upReturned [] = 0
-upReturned (carry l ∷ is) = upReturned is
-upReturned (credit n ∷ is) = n + upReturned is
-upReturned (opened t ∷ is) = upReturned is
-upReturned (closed ∷ is) = upReturned is
+pub store-last : (ps : List Octets) (p : Octets) (x : Segment) → segmentIn (meaning p) ≡ x ∷ [] → storeSegs (ps ++ (p ∷ [])) ≡ storeSegs ps ++ (x ∷ [])
+unfolding storeSegs
+store-last [] p x e = rw e
+store-last (q ∷ ps) p x e = rw (store-last ps p x e, append-assoc)

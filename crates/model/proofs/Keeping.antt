@@ -1,6 +1,6 @@
 -- Each call that is taken keeps the invariant: those of the host, and consume, credit and reply.
 -- Assumes nothing.
-use Prim.Native.Nat.{ℕ, suc, _+_, _≤_, _<_, _%_}
+use Prim.Native.Nat.{ℕ, _+_, _≤_, _<_, _%_}
 use native.Mathlib.Omega.{arith}
 use mathlib.Core.Path.{_≡_, refl, sym, ap, _∙_}
 use mathlib.Core.Logic.{inr}
@@ -10,10 +10,10 @@ use lib.Dec.{eqb, ltb}
 use lib.ListN.{length, getD}
 use borrow.Author.Tests.{eq-eqb, ltb-false, not-false}
 use Rattle.octets.specs.Octets.{Octets, pick}
-use Rattle.packets.specs.Segments.{Segment, more, last, segments, segmentPacket, packetsOf}
-use Rattle.packets.specs.Reassembly.{run, grown, finished}
+use Rattle.packets.specs.Segments.{Segment, last, segments, segmentPacket, packetsOf}
+use Rattle.packets.specs.Reassembly.{grown, finished}
 use Rattle.state.specs.Conn.{flows, owing}
-use Rattle.messages.specs.Layout.{creditsNtf, entriesFrom}
+use Rattle.messages.specs.Layout.{creditsNtf}
 use Rattle.state.specs.Runs.{dataLimit, controlLimit}
 use Rattle.state.specs.Profile.{creditsOk, profileIn}
 use Rattle.state.proofs.Chains.{on, or-left, or-right}
@@ -33,14 +33,18 @@ use Rattle.model.specs.calls.Credit.{owedBy, allZero}
 use Rattle.model.specs.calls.Reply.{replying}
 use Rattle.model.specs.Bench.{rules}
 use Rattle.model.specs.Observer.{Account, Ledger, sentL, pushedL, consumedL, seen, eventOf, shown}
-use Rattle.model.proofs.Items.{loaded, itemsBy, itemsOf, segsOf}
-use Rattle.model.proofs.Link.{clash, owed-le, credit-left}
+use Rattle.model.specs.invariant.Items.{loaded, itemsBy, itemsOf, segsOf}
+use Rattle.model.specs.invariant.Commands.{heads, replies}
+use Rattle.model.specs.invariant.Bench.{accountOf, Fine, Kept, Keeps, GoodAt, StoredFor, StoredIn}
+use Rattle.model.proofs.Cases.{clash, each, nil-of, left-nil, right-nil}
+use Rattle.model.proofs.Needs.{need}
+use Rattle.model.proofs.Link.{owed-le, credit-left}
 use Rattle.model.proofs.Acts.{send-good, push-good, consume-loop, consume-plain, reply-good, notice-good}
 use Rattle.model.proofs.Meanings.{meaning-notice, meaning-data, meaning-command, segsOf-append, itemsOf-append, segsOf-command, segsOf-data, itemsOf-data}
-use Rattle.model.proofs.Messages.{profile-limits, terms-within, items-credit, items-credit-other}
-use Rattle.model.proofs.Order.{replies-notice, replies-data, each, need, nil-of, left-nil, right-nil, heads, replies, heads-append, idle-pending, no-data-tidy, tidy-append, ordered-heads, ordered-no-data, command-way, data-way, heads-data}
+use Rattle.model.proofs.Messages.{profile-limits, terms-within, entries-few, items-credit, items-credit-other}
+use Rattle.model.proofs.Order.{replies-notice, replies-data, heads-append, idle-pending, no-data-tidy, tidy-append, ordered-heads, ordered-no-data, command-way, data-way, heads-data}
 use Rattle.model.proofs.Closing.{no-close, free-right, free-pending, live-stays, items-aim}
-use Rattle.model.proofs.Fine.{sound-control, sound-data, put-data, accountOf, Fine, Kept, kept, Keeps, GoodAt, cold-fine, put-all, sound-append, StoredFor, StoredIn, conn-small, order-open, at-keeps, standing-same, standing-at}
+use Rattle.model.proofs.Fine.{sound-control, sound-data, put-data, kept, cold-fine, put-all, sound-append, conn-small, order-open, at-keeps, standing-same, standing-at}
 
 -- ---- what is owed is at most eight
 
@@ -53,12 +57,12 @@ module _ (s : State) (aim : ℕ) (l : ℕ → Ledger) (f : Fine s aim l) where
   few-owed d = go (s .conns d .controller .opened) refl (flows (s .conns d .controller .grant)) refl
     where
       go : (o : Bool) → s .conns d .controller .opened ≡ o → (b : Bool) → flows (s .conns d .controller .grant) ≡ b → s .conns d .controller .owed ≤ 8
-      go false e b h = let z = f .good d .debts .asleep e in omega arith
-      go true e false h = let z = f .good d .debts .spare h in omega arith
+      go false e b h = let z = f .good d .numbers .debts .asleep e in omega arith
+      go true e false h = let z = f .good d .numbers .debts .spare h in omega arith
       go true e true h =
           let same = f .standing .granted d e in
           let most = few-credits (s .conns d .controller .grant) (rw same (terms-within (s .profile) d (f .limits) .credits)) h in
-          omega (arith, owed-le (f .good d))
+          omega (arith, owed-le (f .good d .numbers))
 
 -- ---- consume
 
@@ -73,7 +77,6 @@ module _ (s : State) (aim : ℕ) (l : ℕ → Ledger) (c : ℕ) (p : Octets) (st
   whole = finished dataLimit (s .conns c .controller .run) x
 
   rest-stored : StoredFor c st
-  unfolding StoredFor
   rest-stored = (rw first-stored at (f .standing .stores c)) .1
 
   one-segment : segmentIn (meaning p) ≡ x ∷ []
@@ -112,27 +115,22 @@ module _ (s : State) (aim : ℕ) (l : ℕ → Ledger) (c : ℕ) (p : Octets) (st
   plain : isLoop c ≡ false → Kept (next []) (counted [])
   unfolding eaten whole next counted
   plain loop =
+      rw (append-nil (s .up))
+      (kept
       record {
-        same-down = refl;
-        same-up = refl;
-        fine =
-            record {
-              good =
-                  λ d.
-                  rw (append-nil (s .up))
-                  (each c
-                  (λ d b. GoodAt d (pick b (withController (eaten (s .conns d .controller)) (s .conns d)) (s .conns d)) (segsOf d (s .down)) (itemsOf aim d (s .up)) (pick b (consumedL whole (l d)) (l d)))
-                  (rw loop (consume-plain p st x one-segment open-here first-stored octet (rw loop at (f .good c))))
-                  (f .good) d);
-              order = rw (append-nil (s .up)) (order-open (λ d z. at-keeps c (λ k. withController (eaten (k .controller)) k) (s .conns) (λ k. k .controller .opened) (λ k. refl) d) (f .order));
-              way = f .way;
-              aimed = f .aimed;
-              sound = rw (append-nil (s .up)) (f .sound);
-              heard = f .heard;
-              standing = standing-at c eaten (λ k. refl) (λ k. refl) rest-stored (f .standing);
-              limits = f .limits;
-            };
-      }
+        good =
+            each c
+            (λ d b. GoodAt d (pick b (withController (eaten (s .conns d .controller)) (s .conns d)) (s .conns d)) (segsOf d (s .down)) (itemsOf aim d (s .up)) (pick b (consumedL whole (l d)) (l d)))
+            (rw loop (consume-plain p st x one-segment open-here first-stored octet (rw loop at (f .good c))))
+            (f .good);
+        order = order-open (λ d z. at-keeps c (λ k. withController (eaten (k .controller)) k) (s .conns) (λ k. k .controller .opened) (λ k. refl) d) (f .order);
+        way = f .way;
+        aimed = f .aimed;
+        sound = f .sound;
+        heard = f .heard;
+        standing = standing-at c eaten (λ k. refl) (λ k. refl) rest-stored (f .standing);
+        limits = f .limits;
+      })
 
   consumed-fine : Kept (consumedAs c (x ∷ []) p st s .next) (seen (consume c) (eventOf (consume c) (record { answer = taken; effect = consumedAs c (x ∷ []) p st s })) (accountOf s aim l))
   unfolding eaten whole next counted
@@ -143,13 +141,6 @@ module _ (s : State) (aim : ℕ) (l : ℕ → Ledger) (c : ℕ) (p : Octets) (st
       go false e = plain e
 
 -- ---- credit
-
-pub entries-few : (p : ℕ) (ns : List ℕ) → length (entriesFrom p ns) ≤ length ns + length ns
-unfolding entriesFrom
-entries-few p [] = omega arith
-entries-few p (n ∷ ns) =
-    let more = entries-few (suc p) ns in
-    on (λ (x : Octets). length (x ++ entriesFrom (suc p) ns) ≤ suc (length ns) + suc (length ns)) (eqb n 0) (λ e. omega arith) (λ e. omega arith)
 
 module _ (s : State) (aim : ℕ) (l : ℕ → Ledger) (f : Fine s aim l) where
   owed : ℕ → ℕ
@@ -276,7 +267,7 @@ module _ (s : State) (aim : ℕ) (l : ℕ → Ledger) where
       open-there z e =
           live-stays (itemsOf aim c (s .up))
           (no-close c z aim (s .up) (free-right (heads (s .down)) (replies (s .up)) (rw (f .order .single) (free-pending (s .host .pending) free))))
-          (rw (held-open, e) at (f .good c .phase))
+          (rw (held-open, e) at (f .good c .numbers .phase))
 
       go : (h : List Segment) → s .conns c .host .hand ≡ h
           → Kept (pushing c h s .next) (seen (push c) (eventOf (push c) (record { answer = taken; effect = pushing c h s })) (accountOf s aim l))
@@ -324,7 +315,6 @@ module _ (s : State) (aim : ℕ) (l : ℕ → Ledger) where
           no-head = heads-data p c x means
 
   pub consume-keeps : (c : ℕ) → Keeps (consume c) s aim l
-  unfolding StoredFor
   consume-keeps c t f = go (s .conns c .controller .store) refl
     where
       open-here : s .conns c .controller .opened ≡ true
@@ -375,7 +365,7 @@ module _ (s : State) (aim : ℕ) (l : ℕ → Ledger) where
     where
       open-here : (x : Segment) (h : List Segment) → s .conns 0 .controller .speech ≡ x ∷ h → (b : Bool) → s .conns 0 .controller .opened ≡ b → b ≡ true
       open-here x h e true z = refl
-      open-here x h e false z = absurd (cons≢nil (sym e ∙ f .good 0 .rest z))
+      open-here x h e false z = absurd (cons≢nil (sym e ∙ f .good 0 .pipes .speech z))
 
       go : (h : List Segment) → s .conns 0 .controller .speech ≡ h
           → Kept (replying h s .next) (seen reply (eventOf reply (record { answer = taken; effect = replying h s })) (accountOf s aim l))

@@ -1,6 +1,10 @@
+pub mod Cases
+pub mod Needs
 pub mod Items
 pub mod Phases
 pub mod Link
+pub mod Numbers
+pub mod Pipes
 pub mod Acts
 pub mod Granted
 pub mod Meanings
@@ -18,6 +22,7 @@ pub mod Always
 pub mod Never
 pub mod Said
 pub mod Small
+pub mod SizesDown
 pub mod Sizes
 pub mod Shaped
 pub mod WellFormed

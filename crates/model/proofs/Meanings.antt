@@ -27,7 +27,7 @@ use Rattle.messages.specs.Packets.{responsePacket, noticePacket}
 use Rattle.wires.specs.Meaning.{Meaning, datum, control, junk, meant, meaning}
 use Rattle.wires.specs.Tally.{isDataFor, dataCount, aimedAt, says, saysIn, contents, creditsSaid, creditsUp}
 use Rattle.ends.specs.Changes.{stays, opens, closes, gives, changeHeard}
-use Rattle.model.proofs.Items.{Item, carry, credit, opened, closed, loaded, itemsBy, itemsIn, itemsOf, segsIn, segsOf, storeSegs, upCredits}
+use Rattle.model.specs.invariant.Items.{Item, carry, credit, opened, closed, loaded, itemsBy, itemsIn, itemsOf, segsIn, segsOf, storeSegs, upCredits}
 
 -- ---- what a packet means that was written with a header in range
 

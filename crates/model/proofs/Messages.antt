@@ -20,9 +20,9 @@ use Rattle.model.specs.Kinds.answer.{Done, ClosesAll, Sized, Opens, Clos
 use Rattle.model.specs.Kinds.heard.{Nothing, Answered, Activated, Deactivated, Credits}
 use Rattle.state.specs.Conn.{placeOf, connOf, termsOf}
 use Rattle.state.specs.Commands.{commandOf}
-use Rattle.messages.specs.Layout.{Message, resetNtf, creditsNtf, genericErrorNtf, discoverNtf, activatedNtf, deactivateNtf, responseOf, responseMessage, noticeMessage}
+use Rattle.messages.specs.Layout.{Message, resetNtf, creditsNtf, entriesFrom, genericErrorNtf, discoverNtf, activatedNtf, deactivateNtf, responseOf, responseMessage, noticeMessage}
 use Rattle.state.specs.Radio.{isActive, isListening, isAsleep, polls}
-use Rattle.state.specs.Profile.{leastSize, profileOk, profileIn, profileOctetsOk}
+use Rattle.state.specs.Profile.{profileOk, profileIn, profileOctetsOk, ProfileWithin, TermsWithin}
 use Rattle.dh.specs.Contents.{written, noticeOf, entryId, entryCredits, entryOk, entriesOk, creditsWritten}
 use Rattle.dh.specs.Host.{answerOf, heardAlone, creditsFor, creditsIn}
 use Rattle.air.specs.Air.{airMessage, airedBy, isRefused}
@@ -37,37 +37,25 @@ use Rattle.model.specs.Refusals.{noConn, ids}
 use Rattle.ends.specs.Changes.{stays, opens, closes, changeBy, changeAired, changeHeard, changeAnswered, givenTo}
 use Rattle.model.specs.calls.Down.{answers}
 use Rattle.model.specs.calls.Credit.{allZero}
-use Rattle.model.proofs.Items.{Item, closed, itemsBy, itemsOf}
+use Rattle.model.specs.invariant.Items.{Item, closed, itemsBy, itemsOf}
 use Rattle.model.proofs.Meanings.{meaning-response, meaning-notice}
 use Rattle.nfcc.proofs.Verdicts.{Fits}
 use Rattle.air.proofs.Taken.{Within, found-by, poll-by, listen-by, failed-by}
 
--- ---- a profile within its limits: control payload 32-255, payloads 1-255, credits 1-8 or 255
-
-pub record Limits (p : Profile) : Type 0 where
-  pub control : leastSize ≤ p .control
-  pub control-most : p .control ≤ 255
-  pub dynamic : TermsOk (p .dynamic)
-  pub dynamic-most : p .dynamic .payload ≤ 255
-  pub fixed : TermsOk (p .fixed)
-  pub fixed-most : p .fixed .payload ≤ 255
+-- ---- a profile within its limits
 
 -- that of a profile which `fresh` takes
-pub profile-limits : (m : Octets) → profileOctetsOk m ≡ true → Limits (profileIn m)
-profile-limits m h =
-    let w = profile-within (profileIn m) (and-right (eqb (length m) 5) (profileOk (profileIn m)) h) in
-    record {
-      control = w .control-least;
-      control-most = w .control-most;
-      dynamic = record { payload = w .dynamic .least; credits = w .dynamic .credits-ok };
-      dynamic-most = w .dynamic .most;
-      fixed = record { payload = w .fixed .least; credits = w .fixed .credits-ok };
-      fixed-most = w .fixed .most;
-    }
+pub profile-limits : (m : Octets) → profileOctetsOk m ≡ true → ProfileWithin (profileIn m)
+profile-limits m h = profile-within (profileIn m) (and-right (eqb (length m) 5) (profileOk (profileIn m)) h)
 
-pub terms-within : (p : Profile) (c : ℕ) → Limits p → TermsOk (termsOf p c)
+-- terms that it gives
+pub terms-bounded : (p : Profile) (c : ℕ) → ProfileWithin p → TermsWithin (termsOf p c .payload) (termsOf p c .credits)
 unfolding termsOf
-terms-within p c l = on TermsOk (eqb c 0) (λ e. l .fixed) (λ e. l .dynamic)
+terms-bounded p c l = on (λ (t : Terms). TermsWithin (t .payload) (t .credits)) (eqb c 0) (λ e. l .fixed) (λ e. l .dynamic)
+
+-- as the other end reads them
+pub terms-within : (p : Profile) (c : ℕ) → ProfileWithin p → TermsOk (termsOf p c)
+terms-within p c l = let t = terms-bounded p c l in record { payload = t .least; credits = t .credits-ok }
 
 -- ---- what the answer to a verdict says
 
@@ -83,7 +71,7 @@ answeredBy p (verdict.Selects pair) = Done
 answeredBy p (verdict.Deactivates type rf) = Done
 
 -- the host makes of a response what the verdict was
-module _ (p : Profile) (limits : Limits p) (aim : ℕ) where
+module _ (p : Profile) (limits : ProfileWithin p) (aim : ℕ) where
   says-turn : (oid : ℕ) → (oid ≡ 3) ⊎ (oid ≡ 6) → says aim 2 1 oid (0x00 ∷ []) ≡ Answered Done
   unfolding heardAlone answerOf commandOf
   says-turn oid (inl e) = rw (e, round-trips .rf-written .0)
@@ -93,7 +81,7 @@ module _ (p : Profile) (limits : Limits p) (aim : ℕ) where
   unfolding responseOf heardAlone answerOf commandOf
   says-response gid oid (verdict.Refuses status) f = rw (round-trips .status-written gid oid status f, ne-eqb status 0 f)
   says-response gid oid (verdict.Resets type) f = rw (f .0, f .1, round-trips .reset-written)
-  says-response gid oid verdict.Initialises f = rw (f .0, f .1, round-trips .init-written (p .control) (limits .control))
+  says-response gid oid verdict.Initialises f = rw (f .0, f .1, round-trips .init-written (p .control) (limits .control-least))
   says-response gid oid (verdict.Opens c t) f =
       let ok : TermsOk t = rw (f .4) (terms-within p c limits) in
       rw (f .0, f .1, round-trips .create-written t c ok (f .2) (f .3))
@@ -142,7 +130,7 @@ unfolding itemsOf
 items-response aim d gid oid m ns low small = rw (meaning-response gid oid low small m)
 
 -- what the controller's answer is for a connection is what its verdict does to the connection
-module _ (p : Profile) (limits : Limits p) (aim d gid oid : ℕ) (low : gid < 16) (small : oid < 64) where
+module _ (p : Profile) (limits : ProfileWithin p) (aim d gid oid : ℕ) (low : gid < 16) (small : oid < 64) where
   after-response : (v : Verdict) → Fits gid oid aim p v
       → itemsOf aim d (answers gid oid p v) ≡ itemsBy (changeAnswered (answeredBy p v) d) ++ itemsOf aim d (noticePackets (noticeMessage v))
   after-response v f =
@@ -217,7 +205,7 @@ notice-one : (gid oid x : ℕ) (l : Octets)
     → noticePackets (record { gid = gid; oid = oid; payload = x ∷ l }) ≡ noticePacket (record { gid = gid; oid = oid; payload = x ∷ l }) ∷ []
 notice-one gid oid x l = rw (eqb·suc-zero (length l))
 
-module _ (p : Profile) (limits : Limits p) (aim d : ℕ) where
+module _ (p : Profile) (limits : ProfileWithin p) (aim d : ℕ) where
   -- the packets w say what an event does, unless it is refused
   abbrev Heeded : List Octets → Aired → Type 0
   Heeded w a = isRefused a ≡ false → itemsOf aim d w ≡ itemsBy (changeAired (termsOf p 0) a d)
@@ -274,6 +262,14 @@ module _ (p : Profile) (limits : Limits p) (aim d : ℕ) where
   items-aired rf ps m Endpoint w = on (Heeded []) (isActive rf) (λ h e. refl) (λ h. refuse [])
 
 -- ---- the credit notice: for each connection it has what was owed
+
+-- two octets a connection at most
+pub entries-few : (p : ℕ) (ns : List ℕ) → length (entriesFrom p ns) ≤ length ns + length ns
+unfolding entriesFrom
+entries-few p [] = omega arith
+entries-few p (n ∷ ns) =
+    let more = entries-few (suc p) ns in
+    on (λ (x : Octets). length (x ++ entriesFrom (suc p) ns) ≤ suc (length ns) + suc (length ns)) (eqb n 0) (λ e. omega arith) (λ e. omega arith)
 
 -- a notice that the host takes for written has no credits for any other Conn ID
 other-id : (m : Octets) (c : ℕ) → noConn c ≡ true → (n : ℕ) → entriesOk m n ≡ true → creditsIn m n c ≡ 0

@@ -34,11 +34,12 @@ use Rattle.model.specs.calls.Up.{above, anyOf, tooMany, firstTooMany}
 use Rattle.model.specs.Bench.{rules, judged, step}
 use Rattle.model.specs.Observer.{Ledger}
 use Rattle.model.specs.Reachable.{Always, Never13}
-use Rattle.model.proofs.Items.{itemsOf}
-use Rattle.model.proofs.Link.{clash, held-le, room-owed, room-by}
+use Rattle.model.specs.invariant.Items.{itemsOf}
+use Rattle.model.specs.invariant.Bench.{Fine, SoundIn}
+use Rattle.model.proofs.Cases.{clash}
+use Rattle.model.proofs.Needs.{need}
+use Rattle.model.proofs.Link.{held-le, room-owed, room-by}
 use Rattle.model.proofs.Meanings.{hear-notice}
-use Rattle.model.proofs.Order.{need}
-use Rattle.model.proofs.Fine.{Fine, SoundIn, Sound}
 use Rattle.model.proofs.Trace.{reachable}
 
 -- ---- rules
@@ -90,7 +91,7 @@ module _ (s : State) (aim : ℕ) (l : ℕ → Ledger) (f : Fine s aim l) where
     not-all-owed (p ∷ st) e n o = go (flows (s .conns c .controller .grant)) refl
       where
         go : (b : Bool) → flows (s .conns c .controller .grant) ≡ b → (b && leb (s .conns c .controller .grant) (s .conns c .controller .owed)) ≡ false
-        go true y = lt-leb (s .conns c .controller .grant) (s .conns c .controller .owed) (room-owed p st o y e (f .good c))
+        go true y = lt-leb (s .conns c .controller .grant) (s .conns c .controller .owed) (room-owed o y (omega (arith, ap length e)) (f .good c .numbers))
         go false y = refl
 
     consume-never : first (rules (consume c) s) ≡ refused 13 → ⊥
@@ -137,13 +138,13 @@ module _ (s : State) (aim : ℕ) (l : ℕ → Ledger) (p : Octets) (w : List Oct
   Room mt gid oid m = (d : ℕ) → s .conns d .host .held + creditsOf (changeHeard (hearOf (s .host .pending) mt gid oid m) m d) ≤ s .conns d .host .grant
 
   response-room : (gid oid : ℕ) (m : Octets) → Room 2 gid oid m
-  response-room gid oid m d = omega (arith, response-none (s .host .pending) gid oid m d, held-le (f .good d))
+  response-room gid oid m d = omega (arith, response-none (s .host .pending) gid oid m d, held-le (f .good d .numbers))
 
   notice-room : (gid oid : ℕ) (m : Octets) → meaning p ≡ control 3 gid oid (last m) → Room 3 gid oid m
   unfolding itemsOf
   notice-room gid oid m means d =
       rw (hear-notice (s .host .pending) aim gid oid m)
-      (room-by (changeHeard (says aim 3 gid oid m) m d) (itemsOf aim d w) (rw means at (f .good d)))
+      (room-by (changeHeard (says aim 3 gid oid m) m d) (itemsOf aim d w) (rw means at (f .good d .numbers)))
 
   -- the host's run is at its start, so a packet of a whole message finishes it
   pub heard-whole : (mt gid oid : ℕ) (m : Octets) → length m ≤ controlLimit → wholeBy (s .hearing) mt gid oid (last m) ≡ m ∷ []
@@ -171,7 +172,6 @@ module _ (s : State) (aim : ℕ) (l : ℕ → Ledger) (p : Octets) (w : List Oct
   not-too-many junk means k = refl
 
 up-never : (s : State) (aim : ℕ) (l : ℕ → Ledger) → Fine s aim l → first (rules up s) ≡ refused 13 → ⊥
-unfolding Sound
 up-never s aim l f e =
     not-among 13 (rule 8 (isNil (s .up)) ∷ []) (omega arith) refl
     (sym (last-fails 13 (rule 8 (isNil (s .up)) ∷ []) (firstTooMany s (s .up)) (λ t. go (s .up) f)) ∙ e)

@@ -7,7 +7,7 @@ use mathlib.Core.Bool.{Bool, true, false}
 use mathlib.Core.List.{List, [], _∷_, _++_, map, append-assoc, append-nil, cons≢nil, tail-eq-of-cons-eq}
 use lib.Dec.{eqb, ltb}
 use lib.ListN.{length, getD, take, drop}
-use borrow.Author.Tests.{eqb-true, eq-eqb}
+use borrow.Author.Tests.{eq-eqb}
 use Rattle.octets.specs.Octets.{Octets, pick}
 use Rattle.packets.specs.Segments.{Segment, more, last, segmentsWithin, segments, parse, left, segmentPacket}
 use Rattle.packets.specs.Reassembly.{Run, run, grown, Fit}
@@ -19,102 +19,16 @@ use Rattle.state.specs.Runs.{controlLimit}
 use Rattle.packets.specs.Headers.{controlHeader}
 use Rattle.wires.specs.Meaning.{Meaning, datum, control, junk, meaning}
 use Rattle.model.specs.State.{noRun, ControlRun}
-use Rattle.model.specs.Effects.{taken}
-use Rattle.model.specs.Refusals.{Rule, first, isNil}
 use Rattle.dh.specs.Host.{isBusy}
 use Rattle.model.specs.Runs.{runFor, sameRun}
-use Rattle.model.proofs.Items.{segsIn, segsOf}
-use Rattle.model.proofs.Link.{clash}
-
--- ---- tests and cases
-
--- a statement over all connections, where a call treats one of them, c, apart
-pub each : (c : ℕ) (P : ℕ → Bool → Type 0) → P c true → ((d : ℕ) → P d false) → (d : ℕ) → P d (eqb c d)
-each c P t f d = go (eqb c d) refl
-  where
-    go : (b : Bool) → eqb c d ≡ b → P d b
-    go true e = subst (λ x. P x true) (eqb-true c d e) t
-    go false e = f d
-
--- the same, where the others are known to be others
-pub each-other : (c : ℕ) (P : ℕ → Bool → Type 0) → P c true → ((d : ℕ) → eqb c d ≡ false → P d false) → (d : ℕ) → P d (eqb c d)
-each-other c P t f d = go (eqb c d) refl
-  where
-    go : (b : Bool) → eqb c d ≡ b → P d b
-    go true e = subst (λ x. P x true) (eqb-true c d e) t
-    go false e = f d e
-
--- ---- refusals
-
--- whether the refusal of number n applies
-abbrev pub applies : ℕ → List Rule → Bool
-applies n [] = false
-applies n (r ∷ rs) = pick (eqb (r .number) n) (r .test) (applies n rs)
-
--- a call that is taken meets none of its refusals
-pub need : (n : ℕ) (rs : List Rule) → first rs ≡ taken → applies n rs ≡ false
-unfolding first
-need n [] e = refl
-need n (r ∷ rs) e = go (need n rs) (r .test) refl
-  where
-    go : (first rs ≡ taken → applies n rs ≡ false) → (b : Bool) → r .test ≡ b → applies n (r ∷ rs) ≡ false
-    go ih true t = cc (rw t at e)
-    go ih false t = elim (eqb (r .number) n) as (λ b. pick b (r .test) (applies n rs) ≡ false) [ true ↦ t | false ↦ ih (rw t at e) ]
-
--- ---- lists
-
-pub right-nil : {A : Type 0} (a : List A) {b : List A} → a ++ b ≡ [] → b ≡ []
-right-nil [] e = e
-right-nil (x ∷ a) e = absurd (cons≢nil e)
-
-pub left-nil : {A : Type 0} (a b : List A) → a ++ b ≡ [] → a ≡ []
-left-nil [] b e = refl
-left-nil (x ∷ a) b e = absurd (cons≢nil e)
-
-pub nil-of : {A : Type 0} (l : List A) → isNil l ≡ true → l ≡ []
-nil-of [] e = refl
-nil-of (x ∷ l) e = clash e refl
+use Rattle.model.specs.invariant.Items.{segsIn, segsOf}
+use Rattle.model.specs.invariant.Commands.{Name, named, headsIn, heads, repliesIn, replies, pendingName, Which, NoDatum, NoData, Tidy, ordersIn, orders, NonEmpty, Complete, NamedIn, AllNamed, OnItsWay}
+use Rattle.model.specs.calls.Down.{needsTwo}
+-- `need` can be named from here too
+pub use Rattle.model.proofs.Needs.{need}
+use Rattle.model.proofs.Cases.{clash, left-nil, right-nil, each-append}
 
 -- ---- commands under way
-
--- a command by its GID and OID
-pub record Name : Type 0 where
-  pub gid : ℕ
-  pub oid : ℕ
-
-abbrev pub named : ℕ → ℕ → Name
-named gid oid = record { gid = gid; oid = oid }
-
--- the last packets of commands on the down wire
-abbrev pub headsIn : Meaning → List Name
-headsIn (datum c x) = []
-headsIn (control mt gid oid (more b)) = []
-headsIn (control mt gid oid (last b)) = pick (eqb mt 1) (named gid oid ∷ []) []
-headsIn junk = []
-
-unfoldable pub heads : List Octets → List Name
-heads [] = []
-heads (p ∷ w) = headsIn (meaning p) ++ heads w
-
--- the segments of commands on the down wire
-abbrev pub ordersIn : Meaning → List Segment
-ordersIn (datum c x) = []
-ordersIn (control mt gid oid x) = pick (eqb mt 1) (x ∷ []) []
-ordersIn junk = []
-
-unfoldable pub orders : List Octets → List Segment
-orders [] = []
-orders (p ∷ w) = ordersIn (meaning p) ++ orders w
-
--- the responses on the up wire
-abbrev pub repliesIn : Meaning → List Name
-repliesIn (datum c x) = []
-repliesIn (control mt gid oid x) = pick (eqb mt 2) (named gid oid ∷ []) []
-repliesIn junk = []
-
-unfoldable pub replies : List Octets → List Name
-replies [] = []
-replies (p ∷ w) = repliesIn (meaning p) ++ replies w
 
 pub heads-append : (a b : List Octets) → heads (a ++ b) ≡ heads a ++ heads b
 unfolding heads
@@ -130,11 +44,6 @@ pub replies-append : (a b : List Octets) → replies (a ++ b) ≡ replies a ++ r
 unfolding replies
 replies-append [] b = refl
 replies-append (p ∷ a) b = ap (λ l. repliesIn (meaning p) ++ l) (replies-append a b) ∙ sym (append-assoc (repliesIn (meaning p)) (replies a) (replies b))
-
--- the unanswered command
-abbrev pub pendingName : Pending → List Name
-pendingName pending.Nothing = []
-pendingName (pending.Command a) = named (a .gid) (a .oid) ∷ []
 
 no-middle : {A : Type 0} (a b : List Name) (k : Name) → a ++ (k ∷ b) ≡ [] → A
 no-middle [] b k e = absurd (cons≢nil e)
@@ -157,50 +66,26 @@ idle-pending (pending.Command k) e = clash refl e
 
 -- ---- no data behind a command that closes
 
--- one of two statements, by a test
-abbrev pub Which : Bool → Type 0 → Type 0 → Type 0
-Which true A B = A
-Which false A B = B
-
-abbrev pub endsOrder : Meaning → Bool
-endsOrder (datum c x) = false
-endsOrder (control mt gid oid (more b)) = false
-endsOrder (control mt gid oid (last b)) = eqb mt 1
-endsOrder junk = false
-
-abbrev pub NoDatum : Meaning → Type 0
-NoDatum (datum c x) = ⊥
-NoDatum (control mt gid oid x) = Unit {0}
-NoDatum junk = Unit {0}
-
-unfoldable pub NoData : List Octets → Type 0
-NoData [] = Unit {0}
-NoData (p ∷ w) = NoDatum (meaning p) × NoData w
-
-unfoldable pub Tidy : List Octets → Type 0
-Tidy [] = Unit {0}
-Tidy (p ∷ w) = Which (endsOrder (meaning p)) (NoData w) (Tidy w)
-
 no-segsIn : (d : ℕ) (q : Meaning) → NoDatum q → segsIn d q ≡ []
 no-segsIn d (datum c x) n = absurd n
 no-segsIn d (control mt gid oid x) n = refl
 no-segsIn d junk n = refl
 
 pub no-segs : (d : ℕ) (w : List Octets) → NoData w → segsOf d w ≡ []
-unfolding NoData segsOf
+unfolding segsOf
 no-segs d [] n = refl
 no-segs d (p ∷ w) n = rw (no-segsIn d (meaning p) (n .0)) (no-segs d w (n .1))
 
 pub no-data-tidy : (w : List Octets) → NoData w → Tidy w
-unfolding NoData Tidy
+unfolding Tidy
 no-data-tidy [] n = tt
-no-data-tidy (p ∷ w) n = go (endsOrder (meaning p)) (no-data-tidy w (n .1))
+no-data-tidy (p ∷ w) n = go (needsTwo (meaning p)) (no-data-tidy w (n .1))
   where
     go : (b : Bool) → Tidy w → Which b (NoData w) (Tidy w)
     go true t = n .1
     go false t = t
 
-no-head-end : (q : Meaning) → headsIn q ≡ [] → endsOrder q ≡ false
+no-head-end : (q : Meaning) → headsIn q ≡ [] → needsTwo q ≡ false
 no-head-end (datum c x) e = refl
 no-head-end (control mt gid oid (more b)) e = refl
 no-head-end (control mt gid oid (last b)) e = go (eqb mt 1) e
@@ -218,16 +103,6 @@ tidy-append (p ∷ w) x e t =
     (tidy-append w x (right-nil (headsIn (meaning p)) e) t)
 
 -- ---- segments of commands
-
-abbrev pub NonEmpty : List Segment → Type 0
-NonEmpty [] = ⊥
-NonEmpty (x ∷ xs) = Unit {0}
-
--- each message among the segments has its last
-abbrev pub Complete : List Segment → Type 0
-Complete [] = Unit {0}
-Complete (more b ∷ ss) = NonEmpty ss × Complete ss
-Complete (last b ∷ ss) = Complete ss
 
 abbrev NoLast : List Segment → Type 0
 NoLast [] = Unit {0}
@@ -293,20 +168,8 @@ within-names n (suc f) size m =
     elim (ltb size (length m)) as (λ b. namesOf n (pick b (more (take size m) ∷ segmentsWithin f size (drop size m)) (last m ∷ [])) ≡ n ∷ [])
     [ true ↦ within-names n f size (drop size m) | false ↦ refl ]
 
--- every command packet on the wire is of one command
-abbrev pub NamedIn : Name → Meaning → Type 0
-NamedIn n (datum c x) = Unit {0}
-NamedIn n (control mt gid oid x) = eqb mt 1 ≡ true → named gid oid ≡ n
-NamedIn n junk = Unit {0}
-
-unfoldable pub AllNamed : Name → List Octets → Type 0
-AllNamed n [] = Unit {0}
-AllNamed n (p ∷ w) = NamedIn n (meaning p) × AllNamed n w
-
 pub named-append : (n : Name) (a b : List Octets) → AllNamed n a → AllNamed n b → AllNamed n (a ++ b)
-unfolding AllNamed
-named-append n [] b p q = q
-named-append n (x ∷ a) b p q = (p .0, named-append n a b (p .1) q)
+named-append n = each-append (λ p. NamedIn n (meaning p))
 
 unordered-in : (n : Name) (q : Meaning) → ordersIn q ≡ [] → NamedIn n q
 unordered-in n (datum c x) e = tt
@@ -315,7 +178,7 @@ unordered-in n junk e = tt
 
 -- a wire without command packets
 pub unordered : (n : Name) (w : List Octets) → orders w ≡ [] → AllNamed n w
-unfolding AllNamed orders
+unfolding orders
 unordered n [] e = tt
 unordered n (p ∷ w) e = (unordered-in n (meaning p) (left-nil (ordersIn (meaning p)) (orders w) e), unordered n w (right-nil (ordersIn (meaning p)) e))
 
@@ -336,35 +199,14 @@ module _ (gid oid : ℕ) (means : (x : Segment) → meaning (segmentPacket (cont
   ordered-orders (x ∷ ss) = rw (means x) (ap (λ l. x ∷ l) (ordered-orders ss))
 
   pub ordered-named : (ss : List Segment) → AllNamed (named gid oid) (ordered gid oid ss)
-  unfolding AllNamed
   ordered-named [] = tt
   ordered-named (x ∷ ss) = rw (means x) (λ e. refl, ordered-named ss)
 
   pub ordered-no-data : (ss : List Segment) → NoData (ordered gid oid ss)
-  unfolding NoData
   ordered-no-data [] = tt
   ordered-no-data (x ∷ ss) = rw (means x) (tt, ordered-no-data ss)
 
 -- ---- the command that is on its way to the controller
-
--- every command still to be judged names the connection `aim`, if it names one
-unfoldable pub AllAim : ℕ → List Octets → Type 0
-AllAim aim [] = Unit {0}
-AllAim aim (m ∷ ms) = (getD m 0 0 % 16 ≡ aim) × AllAim aim ms
-
--- its packets on the wire, after the octets so far in the controller's run
-pub record OnItsWay (aim : ℕ) (r : ControlRun) (w : List Octets) : Type 0 where
-  pub name : Name
-  pub low : name .gid < 16
-  pub small : name .oid < 64
-  pub so-far : Octets
-  pub kept : r .run ≡ run so-far
-  pub mine : runFor r 1 (name .gid) (name .oid) ≡ run so-far
-  pub of-one : AllNamed name w
-  pub complete : Complete (orders w)
-  pub whole : left so-far (orders w) ≡ []
-  pub aims : AllAim aim (parse so-far (orders w))
-  pub fits : Fit controlLimit (parse so-far (orders w))
 
 pick-same : {A : Type 0} (b : Bool) (x : A) → pick b x x ≡ x
 pick-same true x = refl
@@ -375,7 +217,7 @@ pub command-way : (aim size : ℕ) (r : ControlRun) (w : List Octets) (gid oid :
     → ((x : Segment) → meaning (segmentPacket (controlHeader 1 gid oid) x) ≡ control 1 gid oid x)
     → length m ≤ controlLimit → heads w ≡ [] → OnItsWay aim r w
     → OnItsWay (getD m 0 0 % 16) r (w ++ ordered gid oid (segments size m))
-unfolding left parse AllAim Fit
+unfolding left parse Fit
 command-way aim size r w gid oid m low small means short e q =
     let none = no-orders w e (q .complete) in
     let start : q .so-far ≡ [] = rw none at (q .whole) in
@@ -396,7 +238,7 @@ command-way aim size r w gid oid m low small means short e q =
 
 -- no command under way
 pub no-way : (aim : ℕ) → OnItsWay aim noRun []
-unfolding orders AllNamed left parse AllAim Fit
+unfolding orders left parse Fit
 no-way aim =
     record {
       name = named 0 0;
@@ -427,7 +269,6 @@ module _ (p : Octets) (c : ℕ) (x : Segment) (means : meaning p ≡ datum c x) 
   orders-data w = orders-append w (p ∷ []) ∙ rw means (append-nil (orders w))
 
   named-data : (n : Name) (w : List Octets) → AllNamed n w → AllNamed n (w ++ (p ∷ []))
-  unfolding AllNamed
   named-data n w h = named-append n w (p ∷ []) h (rw means (tt, tt))
 
 pub data-way : (aim : ℕ) (r : ControlRun) (w : List Octets) (p : Octets) (c : ℕ) (x : Segment) → meaning p ≡ datum c x
@@ -458,7 +299,7 @@ replies-notice w p gid oid m means = replies-append w (p ∷ []) ∙ rw means (a
 module _ (aim : ℕ) (r : ControlRun) (p : Octets) (w : List Octets) (q : OnItsWay aim r (p ∷ w)) where
   -- one that is no command's
   pub other-way : ordersIn (meaning p) ≡ [] → OnItsWay aim r w
-  unfolding orders AllNamed
+  unfolding orders
   other-way e =
       record {
         name = q .name;
@@ -478,7 +319,6 @@ module _ (aim : ℕ) (r : ControlRun) (p : Octets) (w : List Octets) (mt gid oid
     (means : meaning p ≡ control mt gid oid x) (order : eqb mt 1 ≡ true) (q : OnItsWay aim r (p ∷ w)) where
   -- it joins the run of its own command
   pub way-name : named gid oid ≡ q .name
-  unfolding AllNamed
   way-name = (rw means at (q .of-one .0)) order
 
   pub way-run : runFor r 1 gid oid ≡ run (q .so-far)
@@ -489,7 +329,6 @@ module _ (aim : ℕ) (r : ControlRun) (p : Octets) (w : List Octets) (mt gid oid
   way-orders = rw (means, order)
 
   way-named : AllNamed (named gid oid) w
-  unfolding AllNamed
   way-named = rw way-name (q .of-one .1)
 
   pub way-low : gid < 16
@@ -536,7 +375,7 @@ pub record Whole (aim : ℕ) (r : ControlRun) (w : List Octets) (gid oid : ℕ) 
 pub way-last : (aim : ℕ) (r : ControlRun) (p : Octets) (w : List Octets) (mt gid oid : ℕ) (b : Octets)
     → meaning p ≡ control mt gid oid (last b) → eqb mt 1 ≡ true → (q : OnItsWay aim r (p ∷ w))
     → Whole aim r w gid oid (q .so-far ++ b)
-unfolding left parse AllAim Fit
+unfolding left parse Fit
 way-last aim r p w mt gid oid b means order q =
     let list = way-orders aim r p w mt gid oid (last b) means order q in
     record {

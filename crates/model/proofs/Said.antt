@@ -9,7 +9,7 @@ use lib.Dec.{eqb}
 use lib.ListN.{length, getD, drop}
 use Rattle.octets.specs.Octets.{Octets, pick}
 use Rattle.packets.specs.Segments.{Segment, more, last}
-use Rattle.model.specs.Kinds.{Terms, Profile, Pending, Command, Verdict, Event, Answer, Heard}
+use Rattle.model.specs.Kinds.{Profile, Pending, Command, Verdict, Event, Answer, Heard}
 use Rattle.model.specs.Kinds.command.{Reset, Init, ConnCreate, ConnClose, Discover, Select, Deactivate, Unknown}
 use Rattle.model.specs.Kinds.verdict as verdict
 use Rattle.model.specs.Kinds.event.{Bad, Found, Poll, Listen, Failed, Sleeps, LinkLost, Releases, Endpoint}
@@ -17,7 +17,7 @@ use Rattle.model.specs.Kinds.answer.{Done, ClosesAll, Sized, Opens, Clos
 use Rattle.model.specs.Kinds.heard.{Nothing, Dropped, Answered, Activated, Deactivated, Credits}
 use Rattle.state.specs.Conn.{placeOf, termsOf}
 use Rattle.state.specs.Commands.{commandOf}
-use Rattle.state.specs.Profile.{TermsWithin}
+use Rattle.state.specs.Profile.{TermsWithin, ProfileWithin}
 use Rattle.messages.specs.Layout.{resetNtf, creditsNtf, genericErrorNtf, discoverNtf, activatedNtf, deactivateNtf, responseOf, noticeMessage}
 use Rattle.dh.specs.Contents.{written, noticeOf}
 use Rattle.dh.specs.Host.{answerOf, okAnswer, aimOf, noticed, heardAlone, expected, hearOf, creditsFor}
@@ -31,8 +31,8 @@ use Rattle.ends.specs.Changes.{Change, stays, opens, closes, gives, changeHeard
 use Rattle.model.specs.calls.Down.{answers}
 use Rattle.nfcc.proofs.Verdicts.{Fits}
 use Rattle.model.proofs.Meanings.{meaning-notice}
-use Rattle.model.proofs.Messages.{Limits, answeredBy, says-response, meaning-answer}
-use Rattle.model.proofs.Order.{each}
+use Rattle.model.proofs.Messages.{answeredBy, says-response, meaning-answer, terms-bounded}
+use Rattle.model.proofs.Cases.{each}
 use Rattle.model.proofs.Deciding.{dynamic-conn}
 
 -- ---- what is heard
@@ -102,17 +102,10 @@ hear-bounded p mt gid oid m h = on Bounded (expected p mt gid oid) (λ e. unders
 
 -- ---- what the controller puts up
 
-pub terms-bounded : (p : Profile) (c : ℕ) → Limits p → TermsWithin (termsOf p c .payload) (termsOf p c .credits)
-unfolding termsOf
-terms-bounded p c l =
-    on (λ (t : Terms). TermsWithin (t .payload) (t .credits)) (eqb c 0)
-    (λ e. record { least = l .fixed .payload; most = l .fixed-most; credits-ok = l .fixed .credits })
-    (λ e. record { least = l .dynamic .payload; most = l .dynamic-most; credits-ok = l .dynamic .credits })
-
-verdict-bounded : (p : Profile) (gid oid aim : ℕ) (v : Verdict) → Limits p → Fits gid oid aim p v → BoundedAnswer (answeredBy p v)
+verdict-bounded : (p : Profile) (gid oid aim : ℕ) (v : Verdict) → ProfileWithin p → Fits gid oid aim p v → BoundedAnswer (answeredBy p v)
 verdict-bounded p gid oid aim (verdict.Refuses status) l f = tt
 verdict-bounded p gid oid aim (verdict.Resets type) l f = tt
-verdict-bounded p gid oid aim verdict.Initialises l f = (l .control, l .control-most)
+verdict-bounded p gid oid aim verdict.Initialises l f = (l .control-least, l .control-most)
 verdict-bounded p gid oid aim (verdict.Opens c t) l f = (dynamic-conn c (f .2) (f .3), rw (f .4) (terms-bounded p c l))
 verdict-bounded p gid oid aim (verdict.Closes c) l f = tt
 verdict-bounded p gid oid aim (verdict.Turns rf) l f = tt
@@ -141,7 +134,7 @@ after-said (verdict.Turns rf) = tt
 after-said (verdict.Selects pair) = tt
 after-said (verdict.Deactivates type rf) = notices-said 1 6 (deactivateNtf type 0x00) (omega arith) (omega arith) tt
 
-pub answers-said : (p : Profile) (gid oid aim : ℕ) (v : Verdict) → Limits p → Fits gid oid aim p v → gid < 16 → oid < 64 → Said (answers gid oid p v)
+pub answers-said : (p : Profile) (gid oid aim : ℕ) (v : Verdict) → ProfileWithin p → Fits gid oid aim p v → gid < 16 → oid < 64 → Said (answers gid oid p v)
 unfolding Said
 answers-said p gid oid aim v l f low small = (
   rw (meaning-answer gid oid p v low small)
@@ -150,7 +143,7 @@ answers-said p gid oid aim v l f low small = (
   after-said v,
 )
 
-pub air-said : (p : Profile) (m : Octets) (e : Event) → Limits p → Said (noticePackets (airMessage p e m))
+pub air-said : (p : Profile) (m : Octets) (e : Event) → ProfileWithin p → Said (noticePackets (airMessage p e m))
 unfolding airMessage noticeOf Said
 air-said p m Bad l = tt
 air-said p m (Found a type) l = notices-said 1 3 (discoverNtf a type (drop 5 m)) (omega arith) (omega arith) tt

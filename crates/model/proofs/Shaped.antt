@@ -5,7 +5,7 @@ use native.Mathlib.Omega.{arith}
 use mathlib.Core.Path.{_≡_, refl, ap, _∙_}
 use mathlib.Core.Logic.{inl, inr}
 use mathlib.Core.Bool.{Bool, false}
-use mathlib.Core.List.{List, [], _∷_, _++_, map, append-nil}
+use mathlib.Core.List.{List, [], _∷_, map, append-nil}
 use lib.Dec.{eqb, ltb}
 use lib.ListN.{length, drop, length-append, length-take, length-drop}
 use borrow.Author.Tests.{ltb-false}
@@ -34,17 +34,7 @@ use Rattle.messages.proofs.Lengths.{response-short}
 use Rattle.air.proofs.Taken.{Within}
 use Rattle.model.proofs.Meanings.{meaning-data, meaning-command, meaning-response, meaning-notice}
 use Rattle.model.proofs.Fine.{conn-small}
-use Rattle.model.proofs.Keeping.{entries-few}
-
--- ---- lists
-
-pub each-append : (P : Octets → Type 0) (a b : List Octets) → Each P a → Each P b → Each P (a ++ b)
-each-append P [] b h k = k
-each-append P (p ∷ a) b h k = (h .0, each-append P a b (h .1) k)
-
-pub each-map : (P Q : Octets → Type 0) (w : List Octets) → ((p : Octets) → P p → Q p) → Each P w → Each Q w
-each-map P Q [] f h = tt
-each-map P Q (p ∷ w) f h = (f p (h .0), each-map P Q w f (h .1))
+use Rattle.model.proofs.Messages.{entries-few}
 
 -- ---- a packet as it was written
 

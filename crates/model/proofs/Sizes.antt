@@ -1,18 +1,17 @@
--- The sizes of everything that a bench holds: each call keeps them.
+-- The sizes of everything that a bench holds: each call keeps them. What down does is in SizesDown.
 -- Assumes nothing.
-use Prim.Native.Nat.{ℕ, _+_, _≤_, _<_, _%_}
+use Prim.Native.Nat.{ℕ, _+_, _≤_}
 use native.Mathlib.Omega.{arith}
 use mathlib.Core.Path.{_≡_, refl, ap}
 use mathlib.Core.Bool.{Bool, true, false, _&&_}
 use mathlib.Core.List.{List, [], _∷_, _++_}
-use lib.Dec.{eqb, ltb, leb}
-use lib.ListN.{length, getD, drop, length-append, length-map}
-use borrow.Author.Tests.{ltb-false, leb-false, not-false}
+use lib.Dec.{eqb, ltb}
+use lib.ListN.{length, drop, length-append, length-map}
+use borrow.Author.Tests.{ltb-false, not-false}
 use Rattle.octets.specs.Octets.{Octets, pick}
 use Rattle.packets.specs.Segments.{Segment, more, last, segments, segmentPacket}
-use Rattle.packets.specs.Reassembly.{Run, run}
-use Rattle.model.specs.Kinds.{Profile, Host, Verdict, Event, Aired, Heard}
-use Rattle.model.specs.Kinds.verdict as verdict
+use Rattle.packets.specs.Reassembly.{Run}
+use Rattle.model.specs.Kinds.{Profile, Host, Event, Aired, Heard}
 use Rattle.model.specs.Kinds.event.{Bad, Found, Poll, Listen, Failed, Sleeps, LinkLost, Releases, Endpoint}
 use Rattle.model.specs.Kinds.aired.{Refused, Goes, Activates, Ends, Speaks}
 use Rattle.model.specs.Kinds.answer.{Done, ClosesAll, Sized, Opens, Closes}
@@ -20,8 +19,6 @@ use Rattle.model.specs.Kinds.heard.{Nothing, Dropped, Answered, Activate
 use Rattle.state.specs.Conn.{placeOf, termsOf}
 use Rattle.state.specs.Runs.{dataLimit, controlLimit}
 use Rattle.state.specs.Profile.{profileIn, ProfileWithin}
-use Rattle.nfcc.specs.Controller.{judgeOf}
-use Rattle.messages.specs.Layout.{noticeMessage}
 use Rattle.dh.specs.Host.{hostAfter, hearOf}
 use Rattle.air.specs.Air.{eventOf, airMessage}
 use Rattle.state.proofs.Chains.{on, or-left, or-right}
@@ -29,14 +26,13 @@ use Rattle.model.specs.Connection.{Connection, withHost, withController,
 use Rattle.packets.specs.Headers.{dataHeader}
 use Rattle.messages.specs.Packets.{noticePackets}
 use Rattle.wires.specs.Meaning.{Meaning, datum, control, junk, meaning}
-use Rattle.model.specs.State.{State, isOpen, at, withConns, withDown, withUp, withAsking, withHearing, ControlRun, withHostState}
+use Rattle.model.specs.State.{State, at, withConns, withUp, withHearing, ControlRun, withHostState}
 use Rattle.model.specs.Effects.{fresh, power, command, send, push, down, consume, credit, air, reply, up, report, Effect, taken}
 use Rattle.model.specs.Refusals.{first, noConn, isNil, full, isHeld}
-use Rattle.model.specs.Runs.{runFor, runAfter, wholeBy}
-use Rattle.ends.specs.Changes.{stays, opens, closes, changeBy, changeHeard}
+use Rattle.model.specs.Runs.{runFor, runAfter}
+use Rattle.ends.specs.Changes.{stays, opens, closes, changeHeard}
 use Rattle.model.specs.Changes.{atHost}
 use Rattle.model.specs.calls.Push.{pushing}
-use Rattle.model.specs.calls.Down.{answers, deciding, answering, arriving, taking, tooTight, firstFull, needsTwo, storeFull}
 use Rattle.model.specs.calls.Consume.{isLoop, echo, segmentIn, joinedRun, consuming}
 use Rattle.model.specs.calls.Credit.{owedBy}
 use Rattle.model.specs.calls.Air.{airedConns, airing}
@@ -45,140 +41,20 @@ use Rattle.model.specs.calls.Up.{heard, hearing, coming, reading}
 use Rattle.model.specs.Bench.{rules, act}
 use Rattle.model.specs.Observer.{Ledger}
 use Rattle.model.specs.Reachable.{Always, RunWithin, Sizes}
-use Rattle.model.proofs.Link.{clash, held-le, owed-le}
-use Rattle.nfcc.proofs.Verdicts.{Fits, judge-fits, after-steady}
+use Rattle.model.specs.invariant.Bench.{Fine, SoundIn, StoredIn}
+use Rattle.model.proofs.Cases.{clash, each}
+use Rattle.model.proofs.Needs.{need}
+use Rattle.model.proofs.Link.{held-le, owed-le}
 use Rattle.air.proofs.Taken.{Within, event-within, aired-steady}
 use Rattle.model.proofs.Meanings.{meaning-data}
-use Rattle.model.proofs.Messages.{Limits, profile-limits, notices-few}
-use Rattle.model.proofs.Order.{each, need, way-low, way-small}
-use Rattle.model.proofs.Fine.{Fine, SoundIn, Sound, StoredIn, StoredFor}
-use Rattle.model.proofs.Deciding.{dynamic-conn}
+use Rattle.model.proofs.Messages.{profile-limits, notices-few, terms-bounded}
 use Rattle.model.proofs.Airing.{Suits, aired-suits, kind-eight, notifies}
 use Rattle.model.proofs.Trace.{reachable}
 use Rattle.model.proofs.Always.{Stays, always}
 use Rattle.model.proofs.Never.{heard-whole}
-use Rattle.model.proofs.Said.{Bounded, Said, said-append, hear-bounded, terms-bounded, answers-said, air-said, credit-said, data-said, OpensWithin, heard-opens}
-use Rattle.model.proofs.Small.{HostSmall, ControllerSmall, ConnSmall, Small, cold-small, sent-octets, grown-within, more-none, at-small, change-controller, change-host, held-known, open-known}
-
--- ---- down
-
--- at most two packets answer a command
-answers-few : (gid oid : ℕ) (p : Profile) (v : Verdict) → length (answers gid oid p v) ≤ 2
-answers-few gid oid p v = omega (arith, notices-few (noticeMessage v))
-
-verdict-opens : (gid oid aim : ℕ) (p : Profile) (v : Verdict) → Limits p → Fits gid oid aim p v → (d : ℕ) → OpensWithin d (changeBy v d)
-verdict-opens gid oid aim p (verdict.Refuses status) l f d = tt
-verdict-opens gid oid aim p (verdict.Resets type) l f d = tt
-verdict-opens gid oid aim p verdict.Initialises l f d = tt
-verdict-opens gid oid aim p (verdict.Opens c t) l f d =
-    each c (λ d b. OpensWithin d (pick b (opens t) stays)) (dynamic-conn c (f .2) (f .3), rw (f .4) (terms-bounded p c l)) (λ d. tt) d
-verdict-opens gid oid aim p (verdict.Closes c) l f d = on (OpensWithin d) (eqb c d) (λ e. tt) (λ e. tt)
-verdict-opens gid oid aim p (verdict.Turns rf) l f d = tt
-verdict-opens gid oid aim p (verdict.Selects pair) l f d = tt
-verdict-opens gid oid aim p (verdict.Deactivates type rf) l f d = on (OpensWithin d) (eqb 0 d) (λ e. tt) (λ e. tt)
-
--- a whole command is answered
-deciding-small : (s : State) (gid oid aim : ℕ) (v : Verdict) → Limits (s .profile) → Fits gid oid aim (s .profile) v → gid < 16 → oid < 64
-    → full 2 (s .up) ≡ false → Small s → Small (deciding gid oid v s .next)
-deciding-small s gid oid aim v l f low small fits m =
-    record {
-      downs = m .downs;
-      ups = rw length-append (omega (arith, ltb-false 16 (length (s .up) + 2) fits, answers-few gid oid (s .profile) v));
-      said = said-append (s .up) (answers gid oid (s .profile) v) (m .said) (answers-said (s .profile) gid oid aim v l f low small);
-      conns = λ d. change-controller d (changeBy v d) (s .conns d) (verdict-opens gid oid aim (s .profile) v l f d) (m .conns d);
-      steady = after-steady gid oid aim (s .profile) (s .controller) v f (m .steady);
-      size-least = m .size-least;
-      size-most = m .size-most;
-      hearing = m .hearing;
-      asking = m .asking;
-    }
-
-module _ (s : State) (aim : ℕ) (l : ℕ → Ledger) (p : Octets) (w : List Octets) (f : Fine (withDown (p ∷ w) s) aim l) (m : Small (withDown (p ∷ w) s)) where
-  abbrev Leads : Effect → Type 0
-  Leads e = Small (e .next)
-
-  -- the packet is taken off the wire
-  off : Small (withDown w s)
-  off =
-      record {
-        downs = omega (arith, m .downs);
-        ups = m .ups;
-        said = m .said;
-        conns = m .conns;
-        steady = m .steady;
-        size-least = m .size-least;
-        size-most = m .size-most;
-        hearing = m .hearing;
-        asking = m .asking;
-      }
-
-  -- and joins the run of a command
-  joined : (gid oid : ℕ) (x : Segment) → Small (withAsking (runAfter (s .asking) 1 gid oid x) (withDown w s))
-  joined gid oid x =
-      record {
-        downs = omega (arith, m .downs);
-        ups = m .ups;
-        said = m .said;
-        conns = m .conns;
-        steady = m .steady;
-        size-least = m .size-least;
-        size-most = m .size-most;
-        hearing = m .hearing;
-        asking = grown-within controlLimit (runFor (s .asking) 1 gid oid) x;
-      }
-
-  answering-small : (gid oid : ℕ) (x : Segment) (ms : List Octets) (b : Bool) → gid < 16 → oid < 64 → full 2 (s .up) ≡ false
-      → Small (answering gid oid ms b (withAsking (runAfter (s .asking) 1 gid oid x) (withDown w s)) .next)
-  answering-small gid oid x [] b low small fits = joined gid oid x
-  answering-small gid oid x (o ∷ ms) b low small fits =
-      let z = withAsking (runAfter (s .asking) 1 gid oid x) (withDown w s) in
-      deciding-small z gid oid (getD o 0 0 % 16) (judgeOf (s .profile) (s .controller) (isOpen z) gid oid o) (f .limits)
-      (judge-fits (s .profile) (s .controller) (isOpen z) gid oid o) low small fits (joined gid oid x)
-
-  store-small : (c : ℕ) → isOpen s c ≡ true → (isOpen s c && leb 8 (length (s .conns c .controller .store))) ≡ false
-      → Small (withConns (at c (λ k. withController (stored p (k .controller)) k) (s .conns)) (withDown w s))
-  store-small c o fits =
-      record {
-        downs = omega (arith, m .downs);
-        ups = m .ups;
-        said = m .said;
-        conns =
-            at-small c (λ k. withController (stored p (k .controller)) k) (s .conns) (open-known c (s .conns c) (m .conns c) o) (m .conns c .host)
-            (record {
-              stored = rw length-append (omega (arith, leb-false 8 (length (s .conns c .controller .store)) (rw o at fits)));
-              speech = m .conns c .controller .speech;
-              reassembly = m .conns c .controller .reassembly;
-            })
-            (m .conns);
-        steady = m .steady;
-        size-least = m .size-least;
-        size-most = m .size-most;
-        hearing = m .hearing;
-        asking = m .asking;
-      }
-
-  arriving-small : (q : Meaning) → meaning p ≡ q → (needsTwo q && full 2 (s .up)) ≡ false → storeFull s q ≡ false
-      → Small (arriving q p (withDown w s) .next)
-  arriving-small (datum c x) means two room = on Leads (isOpen s c) (λ o. store-small c o room) (λ o. off)
-  arriving-small (control mt gid oid (more b)) means two room =
-      on Leads (eqb mt 1)
-      (λ e. rw (more-none controlLimit (runFor (s .asking) 1 gid oid) b) (joined gid oid (more b)))
-      (λ e. off)
-  arriving-small (control mt gid oid (last b)) means two room =
-      on Leads (eqb mt 1)
-      (λ e. answering-small gid oid (last b) (wholeBy (s .asking) 1 gid oid (last b)) _
-      (way-low aim (s .asking) p w mt gid oid (last b) means e (f .way)) (way-small aim (s .asking) p w mt gid oid (last b) means e (f .way))
-      (rw e at two))
-      (λ e. off)
-  arriving-small junk means two room = off
-
-down-small : (s : State) (aim : ℕ) (l : ℕ → Ledger) → first (rules down s) ≡ taken → Fine s aim l → Small s → Small (act down s .next)
-down-small s aim l t f m = go (s .down) (need 4 (rules down s) t) (need 8 (rules down s) t) (need 12 (rules down s) t) f m
-  where
-    go : (w : List Octets) → tooTight s w ≡ false → isNil w ≡ false → firstFull s w ≡ false → Fine (withDown w s) aim l → Small (withDown w s)
-        → Small (taking w s .next)
-    go [] two e room f m = clash refl e
-    go (p ∷ w) two e room f m = arriving-small s aim l p w f m (meaning p) refl two room
+use Rattle.model.proofs.Said.{Bounded, Said, said-append, hear-bounded, air-said, credit-said, data-said, OpensWithin, heard-opens}
+use Rattle.model.proofs.SizesDown.{down-small}
+use Rattle.model.proofs.Small.{HostSmall, ControllerSmall, ConnSmall, Small, cold-small, sent-octets, grown-within, at-small, change-controller, change-host, held-known}
 
 -- ---- send, push, consume, reply
 
@@ -257,7 +133,7 @@ joined-within r [] h = h
 joined-within r (x ∷ xs) h = grown-within dataLimit r x
 
 consume-small : (s : State) (aim : ℕ) (l : ℕ → Ledger) (c : ℕ) → first (rules (consume c) s) ≡ taken → Fine s aim l → Small s → Small (act (consume c) s .next)
-unfolding StoredFor Said
+unfolding Said
 consume-small s aim l c t f m = go (s .conns c .controller .store) refl
   where
     room : (p : Octets) → length (s .up) + length (echo c p) ≤ 16
@@ -350,7 +226,7 @@ air-few p Releases o n h e = omega (arith, ltb-false 16 (n + 1) e, notices-few (
 air-few p Endpoint o n h e = omega arith
 
 -- the connections after it
-air-conns : (s : State) (o : Octets) (e : Event) (a : Aired) → Limits (s .profile) → Within o e → Suits e a → Small s
+air-conns : (s : State) (o : Octets) (e : Event) (a : Aired) → ProfileWithin (s .profile) → Within o e → Suits e a → Small s
     → (d : ℕ) → ConnSmall d (airedConns (termsOf (s .profile) 0) a o (s .conns) d)
 unfolding placeOf
 air-conns s o e Refused l w t m d = m .conns d
@@ -450,7 +326,6 @@ module _ (s : State) (aim : ℕ) (l : ℕ → Ledger) (p : Octets) (w : List Oct
   coming-small junk means k = gone
 
 up-small : (s : State) (aim : ℕ) (l : ℕ → Ledger) → first (rules up s) ≡ taken → Fine s aim l → Small s → Small (act up s .next)
-unfolding Sound
 up-small s aim l t f m = go (s .up) (need 8 (rules up s) t) f m
   where
     go : (w : List Octets) → isNil w ≡ false → Fine (withUp w s) aim l → Small (withUp w s) → Small (reading w s .next)
@@ -473,19 +348,10 @@ act-small reply s aim l t f m = reply-small s t m
 act-small up s aim l t f m = up-small s aim l t f m
 act-small (report c) s aim l t f m = m
 
-profile-within : (p : Profile) → Limits p → ProfileWithin p
-profile-within p l =
-    record {
-      control-least = l .control;
-      control-most = l .control-most;
-      dynamic = record { least = l .dynamic .payload; most = l .dynamic-most; credits-ok = l .dynamic .credits };
-      fixed = record { least = l .fixed .payload; most = l .fixed-most; credits-ok = l .fixed .credits };
-    }
-
 sizes : (s : State) (aim : ℕ) (l : ℕ → Ledger) → Fine s aim l → Small s → Sizes s
 sizes s aim l f m =
     record {
-      profile = profile-within (s .profile) (f .limits);
+      profile = f .limits;
       down = m .downs;
       up = m .ups;
       host =
@@ -493,7 +359,7 @@ sizes s aim l f m =
           record {
             hand = m .conns d .host .hand;
             reassembly = m .conns d .host .reassembly;
-            credits = held-le (f .good d);
+            credits = held-le (f .good d .numbers);
             terms = m .conns d .host .terms;
           };
       controller =
@@ -502,7 +368,7 @@ sizes s aim l f m =
             stored = m .conns d .controller .stored;
             speech = m .conns d .controller .speech;
             reassembly = m .conns d .controller .reassembly;
-            credits = owed-le (f .good d);
+            credits = owed-le (f .good d .numbers);
             terms = λ o. rw (f .standing .granted d o) (terms-bounded (s .profile) d (f .limits) .credits-ok);
           };
       others = λ d. m .conns d .other;

@@ -15,20 +15,17 @@ use Rattle.packets.specs.Segments.{Segment, more, last, segmentsWithin, segment
 use Rattle.packets.specs.Reassembly.{Run, run, lost, grown, finished}
 use Rattle.model.specs.Kinds.{Profile}
 use Rattle.state.specs.Runs.{dataLimit, controlLimit}
-use Rattle.state.specs.Profile.{TermsWithin}
+use Rattle.state.specs.Profile.{TermsWithin, ProfileWithin}
 use Rattle.state.proofs.Chains.{on}
 use Rattle.state.proofs.Steady.{Steady}
 use Rattle.model.specs.Connection.{Connection, HostEnd, ControllerEnd, withHost, withController, closed, stored}
 use Rattle.model.specs.State.{State, cold, at}
-use Rattle.model.specs.Effects.{down, up}
 use Rattle.model.specs.Refusals.{noConn}
 use Rattle.ends.specs.Changes.{Change, stays, opens, closes, gives}
 use Rattle.model.specs.Changes.{atController, atHost}
 use Rattle.model.specs.calls.Up.{hearing}
 use Rattle.model.specs.Reachable.{octetsIn, RunWithin}
-use Rattle.model.proofs.Link.{clash}
-use Rattle.model.proofs.Messages.{Limits}
-use Rattle.model.proofs.Order.{each}
+use Rattle.model.proofs.Cases.{clash, each}
 use Rattle.model.proofs.Said.{Said, OpensWithin}
 
 -- ---- segments and runs
@@ -152,7 +149,7 @@ pub record Small (s : State) : Type 0 where
   pub hearing : RunWithin controlLimit (s .hearing .run)
   pub asking : RunWithin controlLimit (s .asking .run)
 
-pub cold-small : (p : Profile) → Limits p → Small (cold p)
+pub cold-small : (p : Profile) → ProfileWithin p → Small (cold p)
 unfolding Said
 cold-small p l =
     record {

@@ -20,11 +20,14 @@ use Rattle.model.specs.calls.Report.{heldBy, reportOf}
 use Rattle.model.specs.Bench.{rules, act, judged, step}
 use Rattle.model.specs.Observer.{Ledger, Account, opening, events, after, observed, observe, seen, eventOf}
 use Rattle.model.specs.Claim.{heldIn, owedIn, numbersOf, total, Claim, Demand}
-use Rattle.model.proofs.Items.{itemsOf, segsOf}
-use Rattle.model.proofs.Link.{Live, clash, held-counted, held-shown, stored-counted, owed-counted}
+use Rattle.model.specs.invariant.Items.{itemsOf, segsOf}
+use Rattle.model.specs.invariant.Link.{figures, Balance}
+use Rattle.model.specs.invariant.Bench.{Fine, Kept, Keeps, accountOf}
+use Rattle.model.proofs.Cases.{clash}
+use Rattle.model.proofs.Link.{held-counted, held-shown, stored-counted, owed-counted}
 use Rattle.model.proofs.Meanings.{dataCount-segs, creditsUp-items}
 use Rattle.model.proofs.Messages.{profile-limits}
-use Rattle.model.proofs.Fine.{Fine, Kept, Keeps, kept, accountOf, cold-fine}
+use Rattle.model.proofs.Fine.{kept, cold-fine}
 use Rattle.model.proofs.Keeping.{fresh-keeps, power-keeps, command-keeps, send-keeps, push-keeps, consume-keeps, credit-keeps, reply-keeps, report-keeps}
 use Rattle.model.proofs.Arriving.{down-keeps}
 use Rattle.model.proofs.Airing.{air-keeps}
@@ -74,7 +77,7 @@ reachable profile ok calls = calls-keep calls (cold (profileIn profile)) opening
 
 module _ (c : ℕ) (s : State) (aim : ℕ) (l : ℕ → Ledger) (f : Fine s aim l) where
   same-open : l c .controller .opened ≡ s .conns c .controller .opened
-  same-open = f .good c .here
+  same-open = f .good c .numbers .opened
 
   conn-known : s .conns c .controller .opened ≡ true → noConn c ≡ false
   conn-known o = go (noConn c) refl
@@ -100,15 +103,15 @@ module _ (c : ℕ) (s : State) (aim : ℕ) (l : ℕ → Ledger) (f : Fine s aim 
       go false false o h = absurd (let z : _≡_ {A = ℕ} 0 1 = cc in omega arith)
 
   module _ (o : s .conns c .controller .opened ≡ true) where
-    live : Live (isLoop c) (s .conns c) (segsOf c (s .down)) (itemsOf aim c (s .up)) (l c)
-    live = f .good c .live o
+    live : Balance (figures (s .conns c) (segsOf c (s .down)) (l c)) (itemsOf aim c (s .up))
+    live = f .good c .numbers .live o
 
     counted-held : (b : Bool) → flows (s .conns c .controller .grant) ≡ b → pick b (heldBy (s .conns c .host)) 255 ≡ pick b (heldIn (l c)) 255
-    counted-held true e = held-shown (f .good c) ∙ sym (held-counted o e (f .good c))
+    counted-held true e = held-shown (f .good c) ∙ sym (held-counted (f .good c) o e)
     counted-held false e = refl
 
     counted-owed : (b : Bool) → flows (s .conns c .controller .grant) ≡ b → pick b (s .conns c .controller .owed) 0 ≡ pick b (owedIn (l c)) 0
-    counted-owed true e = sym (owed-counted o e (f .good c))
+    counted-owed true e = sym (owed-counted (f .good c) o e)
     counted-owed false e = refl
 
     -- of a connection that is open, what counts as owed goes by flow control alone
@@ -117,11 +120,11 @@ module _ (c : ℕ) (s : State) (aim : ℕ) (l : ℕ → Ledger) (f : Fine s aim 
 
     same-numbers : reportOf c s ≡ numbersOf c (accountOf s aim l)
     same-numbers =
-        let g = live .granted in
+        let g = live .counts .granted in
         let flow = flows (s .conns c .controller .grant) in
         rw g
         (λ i.
-        counted-held flow refl i ∷ dataCount c (s .down) ∷ sym (stored-counted o (f .good c)) i ∷ (shown-owed ∙ counted-owed flow refl) i
+        counted-held flow refl i ∷ dataCount c (s .down) ∷ sym (stored-counted (f .good c) o) i ∷ (shown-owed ∙ counted-owed flow refl) i
         ∷ pick flow (creditsUp c (s .up)) 0 ∷ [])
 
     none-applies : first (rules (report c) s) ≡ taken
@@ -134,25 +137,25 @@ module _ (c : ℕ) (s : State) (aim : ℕ) (l : ℕ → Ledger) (f : Fine s aim 
 
     whole-sum : flows (l c .controller .grant) ≡ true → total (numbersOf c (accountOf s aim l)) ≡ l c .controller .grant
     whole-sum e =
-        let g = live .granted in
+        let g = live .counts .granted in
         let flow : flows (s .conns c .controller .grant) ≡ true = rw g at e in
-        let held = held-counted o flow (f .good c) in
-        let stored = stored-counted o (f .good c) in
-        let owed = owed-counted o flow (f .good c) in
+        let held = held-counted (f .good c) o flow in
+        let stored = stored-counted (f .good c) o in
+        let owed = owed-counted (f .good c) o flow in
         rw (e, held, stored, owed, g)
         (omega (arith, live .sum flow, dataCount-segs c (s .down), creditsUp-items aim c (s .up)))
 
     to-host : (b : Bool) → isLoop c ≡ b → Prefix (l c .talk .outHost) (pick b (l c .talk .sent) (l c .talk .spoken))
-    to-host b e = rw (← e) (flow-prefix (live .toHost))
+    to-host b e = rw (← e) (flow-prefix (f .good c .pipes .toHost o))
 
   -- what was pushed had been granted or read
   held-whole : l c .controller .opened ≡ true → flows (l c .controller .grant) ≡ true → l c .host .opened ≡ true
       → l c .host .pushed ≤ l c .host .grant + l c .host .read
   held-whole e y h =
       let v = live (open-there e) in
-      let there = sym (f .good c .there) ∙ h in
-      let flow : flows (s .conns c .host .grant) ≡ true = rw (v .terms .same there) (rw (v .granted) at y) in
-      omega (arith, f .good c .counts .granted there, f .good c .counts .flow there flow)
+      let there = sym (f .good c .numbers .counts .opened) ∙ h in
+      let flow : flows (s .conns c .host .grant) ≡ true = rw (v .terms .same there) (rw (v .counts .granted) at y) in
+      omega (arith, f .good c .numbers .counts .granted there, f .good c .numbers .counts .flow there flow)
 
   claim : Claim c s (accountOf s aim l)
   claim =
@@ -160,15 +163,17 @@ module _ (c : ℕ) (s : State) (aim : ℕ) (l : ℕ → Ledger) (f : Fine s aim 
         taken-if-open = (open-if-taken, report-taken);
         numbers = λ e. reported (open-there e) ∙ ap (λ (n : Octets). n ∷ []) (same-numbers (open-there e));
         sum = λ e. whole-sum (open-there e);
-        whole-stored = λ e. omega (arith, live (open-there e) .stored);
-        whole-owed = λ e y. omega (arith, live (open-there e) .owed (rw (live (open-there e) .granted) at y));
+        whole-stored = λ e. omega (arith, live (open-there e) .counts .stored);
+        whole-owed = λ e y. omega (arith, live (open-there e) .counts .owed (rw (live (open-there e) .counts .granted) at y));
         whole-held = λ e y h. omega (arith, held-whole e y h);
-        at-controller = λ e. flow-prefix (live (open-there e) .toController);
+        at-controller = λ e. flow-prefix (f .good c .pipes .toController (open-there e));
         at-host = λ e h. to-host (open-there e) true h;
         at-host-static = λ e h. to-host (open-there e) false h;
       }
 
+-- the claim follows from the invariant, whatever made it hold
+pub kept-claim : (c : ℕ) (s : State) (o : Account) → Kept s o → Claim c s o
+kept-claim c s o k = subst (Claim c s) (sym (same-account s o k)) (claim c s (o .aim) (o .ledger) (k .fine))
+
 pub demand : Demand
-demand profile ok calls c =
-    let k = reachable profile ok calls in
-    subst (Claim c (after calls (cold (profileIn profile)))) (sym (same-account _ _ k)) (claim c _ _ _ (k .fine))
+demand profile ok calls c = kept-claim c _ _ (reachable profile ok calls)

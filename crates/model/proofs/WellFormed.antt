@@ -35,14 +35,15 @@ use Rattle.model.specs.calls.Up.{hearing, coming, reading}
 use Rattle.model.specs.Bench.{rules, act}
 use Rattle.model.specs.Observer.{Ledger}
 use Rattle.model.specs.Reachable.{Always, WellFormed, GoesDown, GoesUp, Each, Wires}
-use Rattle.model.proofs.Link.{clash}
+use Rattle.model.specs.invariant.Bench.{Fine, StoredIn}
+use Rattle.model.proofs.Cases.{clash, each, each-append, each-map}
+use Rattle.model.proofs.Needs.{need}
 use Rattle.air.proofs.Taken.{event-within}
-use Rattle.model.proofs.Order.{each, need, way-low, way-small}
-use Rattle.model.proofs.Fine.{Fine, StoredIn, StoredFor}
+use Rattle.model.proofs.Order.{way-low, way-small}
 use Rattle.model.proofs.Always.{always}
 use Rattle.model.proofs.Small.{Small, cold-small}
 use Rattle.model.proofs.Sizes.{act-small}
-use Rattle.model.proofs.Shaped.{each-append, each-map, Formed, formed-well, DownOk, UpOk, Short, short-segments, data-down, data-up, commands-down, answers-up, air-up, credit-up, ConnShaped, Shaped, cold-shaped, controller-shaped, host-shaped}
+use Rattle.model.proofs.Shaped.{Formed, formed-well, DownOk, UpOk, Short, short-segments, data-down, data-up, commands-down, answers-up, air-up, credit-up, ConnShaped, Shaped, cold-shaped, controller-shaped, host-shaped}
 
 -- one connection changes
 at-shaped : (c : ℕ) (f : Connection → Connection) (g : ℕ → Connection) → ConnShaped (f (g c)) → ((d : ℕ) → ConnShaped (g d)) → (d : ℕ) → ConnShaped (at c f g d)
@@ -154,7 +155,6 @@ echo-up c p (control mt gid oid x) means h five f = absurd h
 echo-up c p junk means h five f = absurd h
 
 consume-shaped : (s : State) (aim : ℕ) (l : ℕ → Ledger) (c : ℕ) → first (rules (consume c) s) ≡ taken → Fine s aim l → Shaped s → Shaped (act (consume c) s .next)
-unfolding StoredFor
 consume-shaped s aim l c t f m = go (s .conns c .controller .store) refl
   where
     go : (st : List Octets) → s .conns c .controller .store ≡ st → Shaped (consuming c st s .next)

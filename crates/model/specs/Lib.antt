@@ -10,5 +10,6 @@ pub mod Bench
 pub mod Observer
 pub mod Claim
 pub mod Reachable
+pub mod invariant
 pub mod Table
 pub mod Limits

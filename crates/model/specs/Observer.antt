@@ -65,69 +65,56 @@ blank =
       talk = silence;
     }
 
+-- one part of a ledger becomes another, and the rest stays
+abbrev pub withHostCount : HostCount → Ledger → Ledger
+withHostCount h l = record { host = h; controller = l .controller; talk = l .talk }
+
+abbrev pub withControllerCount : ControllerCount → Ledger → Ledger
+withControllerCount c l = record { host = l .host; controller = c; talk = l .talk }
+
+abbrev pub withTalk : Talk → Ledger → Ledger
+withTalk t l = record { host = l .host; controller = l .controller; talk = t }
+
 -- what the controller puts up: an opening starts its counts anew, credits are put in a notice
 abbrev pub putBy : Change → Ledger → Ledger
 putBy stays l = l
-putBy (opens t) l =
-    record { host = l .host; controller = record { opened = true; grant = t .credits; arrived = 0; consumed = 0; noticed = 0 }; talk = silence }
-putBy closes l =
-    let c = l .controller in
-    record { host = l .host; controller = record { opened = false; grant = c .grant; arrived = c .arrived; consumed = c .consumed; noticed = c .noticed }; talk = l .talk }
-putBy (gives n) l =
-    let c = l .controller in
-    record { host = l .host; controller = record { opened = c .opened; grant = c .grant; arrived = c .arrived; consumed = c .consumed; noticed = c .noticed + n }; talk = l .talk }
+putBy (opens t) l = withTalk silence (withControllerCount (record { opened = true; grant = t .credits; arrived = 0; consumed = 0; noticed = 0 }) l)
+putBy closes l = let c = l .controller in withControllerCount (record { opened = false; grant = c .grant; arrived = c .arrived; consumed = c .consumed; noticed = c .noticed }) l
+putBy (gives n) l = let c = l .controller in withControllerCount (record { opened = c .opened; grant = c .grant; arrived = c .arrived; consumed = c .consumed; noticed = c .noticed + n }) l
 
 -- what the host reads
 abbrev pub readBy : Change → Ledger → Ledger
 readBy stays l = l
-readBy (opens t) l = record { host = record { opened = true; grant = t .credits; pushed = 0; read = 0 }; controller = l .controller; talk = l .talk }
-readBy closes l =
-    let h = l .host in
-    record { host = record { opened = false; grant = h .grant; pushed = h .pushed; read = h .read }; controller = l .controller; talk = l .talk }
-readBy (gives n) l =
-    let h = l .host in
-    record { host = record { opened = h .opened; grant = h .grant; pushed = h .pushed; read = h .read + n }; controller = l .controller; talk = l .talk }
+readBy (opens t) l = withHostCount (record { opened = true; grant = t .credits; pushed = 0; read = 0 }) l
+readBy closes l = let h = l .host in withHostCount (record { opened = false; grant = h .grant; pushed = h .pushed; read = h .read }) l
+readBy (gives n) l = let h = l .host in withHostCount (record { opened = h .opened; grant = h .grant; pushed = h .pushed; read = h .read + n }) l
 
 -- a packet is pushed
 abbrev pub pushedL : Ledger → Ledger
-pushedL l =
-    let h = l .host in
-    record { host = record { opened = h .opened; grant = h .grant; pushed = h .pushed + 1; read = h .read }; controller = l .controller; talk = l .talk }
+pushedL l = let h = l .host in withHostCount (record { opened = h .opened; grant = h .grant; pushed = h .pushed + 1; read = h .read }) l
 
 -- a packet is taken by down, where the connection is open
 abbrev pub arrivedL : Ledger → Ledger
-arrivedL l =
-    let c = l .controller in
-    record { host = l .host; controller = record { opened = c .opened; grant = c .grant; arrived = c .arrived + 1; consumed = c .consumed; noticed = c .noticed }; talk = l .talk }
+arrivedL l = let c = l .controller in withControllerCount (record { opened = c .opened; grant = c .grant; arrived = c .arrived + 1; consumed = c .consumed; noticed = c .noticed }) l
 
 -- a packet is consumed, and messages are handed out
+abbrev pub eatenL : Ledger → Ledger
+eatenL l = let c = l .controller in withControllerCount (record { opened = c .opened; grant = c .grant; arrived = c .arrived; consumed = c .consumed + 1; noticed = c .noticed }) l
+
 abbrev pub consumedL : List Octets → Ledger → Ledger
-consumedL ms l =
-    let c = l .controller in
-    let t = l .talk in
-    record {
-      host = l .host;
-      controller = record { opened = c .opened; grant = c .grant; arrived = c .arrived; consumed = c .consumed + 1; noticed = c .noticed };
-      talk = record { sent = t .sent; outController = t .outController ++ ms; spoken = t .spoken; outHost = t .outHost };
-    }
+consumedL ms l = let t = l .talk in withTalk (record { sent = t .sent; outController = t .outController ++ ms; spoken = t .spoken; outHost = t .outHost }) (eatenL l)
 
 -- a message is taken by send
 abbrev pub sentL : Octets → Ledger → Ledger
-sentL m l =
-    let t = l .talk in
-    record { host = l .host; controller = l .controller; talk = record { sent = t .sent ++ (m ∷ []); outController = t .outController; spoken = t .spoken; outHost = t .outHost } }
+sentL m l = let t = l .talk in withTalk (record { sent = t .sent ++ (m ∷ []); outController = t .outController; spoken = t .spoken; outHost = t .outHost }) l
 
 -- a message is taken by air 8
 abbrev pub spokenL : Octets → Ledger → Ledger
-spokenL m l =
-    let t = l .talk in
-    record { host = l .host; controller = l .controller; talk = record { sent = t .sent; outController = t .outController; spoken = t .spoken ++ (m ∷ []); outHost = t .outHost } }
+spokenL m l = let t = l .talk in withTalk (record { sent = t .sent; outController = t .outController; spoken = t .spoken ++ (m ∷ []); outHost = t .outHost }) l
 
 -- messages are handed out by up
 abbrev pub givenL : List Octets → Ledger → Ledger
-givenL ms l =
-    let t = l .talk in
-    record { host = l .host; controller = l .controller; talk = record { sent = t .sent; outController = t .outController; spoken = t .spoken; outHost = t .outHost ++ ms } }
+givenL ms l = let t = l .talk in withTalk (record { sent = t .sent; outController = t .outController; spoken = t .spoken; outHost = t .outHost ++ ms }) l
 
 -- ---- the account: what each wire holds, the connection that the last command named, and a ledger for each Conn ID
 

@@ -1,0 +1,5 @@
+pub mod Items
+pub mod Phases
+pub mod Link
+pub mod Commands
+pub mod Bench
