@@ -6,6 +6,7 @@ use mathlib.Core.List.{List}
 use lib.ListN.{length, getD, drop}
 use lib.Dec.{eqb, leb}
 use Rattle.octets.specs.Octets.{Octets, pick}
+use Rattle.state.specs.Names.{gidCore, gidRf, oidGenericError, oidDiscover, oidActivated, oidDeactivate, moreFollow, toSleep, toDiscovery, endpointRequest, linkLoss}
 use Rattle.air.specs.Kinds.{Hand, Profile, Pair, Pairs, Activation, Rf, Controller, Counts, Event, Listing, Aired}
 use Rattle.air.specs.Kinds.selection.{Nothing, Chosen}
 use Rattle.air.specs.Kinds.rf.{Idle, Discovery, W4AllDiscoveries, W4HostSelect, PollActive, ListenActive, ListenSleep}
@@ -25,7 +26,7 @@ targetOf m = record { id = getD m 1 0; protocol = getD m 2 0; mode = getD m 3 0 
 -- 1: ID, protocol, mode, type, up to 32 parameter octets
 unfoldable pub foundIn : Octets → Event
 foundIn m =
-    pick (leb 5 (length m) && leb (length m) 37 && idOk (getD m 1 0) && polls (getD m 3 0) && leb (getD m 4 0) 2)
+    pick (leb 5 (length m) && leb (length m) 37 && idOk (getD m 1 0) && polls (getD m 3 0) && leb (getD m 4 0) moreFollow)
     (Found (targetOf m) (getD m 4 0)) Bad
 
 -- 2: ID, protocol, mode, parameters
@@ -71,15 +72,15 @@ kindOf Endpoint = 8
 
 -- a repeated pair, an eighth with type 2, or a list with no place left
 abbrev pub noRoom : Pairs → Pair → ℕ → Bool
-noRoom ps p type = listed ps p || leb 8 (ps .count) || (eqb type 2 && leb 7 (ps .count))
+noRoom ps p type = listed ps p || leb 8 (ps .count) || (eqb type moreFollow && leb 7 (ps .count))
 
 -- more follow, or this was the last: W4_HOST_SELECT is entered with no selection
 abbrev pub foundTo : ℕ → Rf
-foundTo type = pick (eqb type 2) W4AllDiscoveries (W4HostSelect Nothing)
+foundTo type = pick (eqb type moreFollow) W4AllDiscoveries (W4HostSelect Nothing)
 
 unfoldable pub foundBy : Rf → Pairs → Activation → ℕ → Aired
 foundBy Idle ps a type = Refused
-foundBy Discovery ps a type = pick (eqb type 2) (Goes W4AllDiscoveries (Starts (pairOf a))) Refused
+foundBy Discovery ps a type = pick (eqb type moreFollow) (Goes W4AllDiscoveries (Starts (pairOf a))) Refused
 foundBy W4AllDiscoveries ps a type = pick (noRoom ps (pairOf a) type) Refused (Goes (foundTo type) (Adds (pairOf a)))
 foundBy (W4HostSelect s) ps a type = Refused
 foundBy (PollActive b) ps a type = Refused
@@ -139,13 +140,13 @@ isRefused Speaks = false
 
 unfoldable pub airMessage : Profile → Event → Octets → Message
 airMessage p Bad m = nothing
-airMessage p (Found a type) m = record { gid = 1; oid = 3; payload = discoverNtf a type (drop 5 m) }
-airMessage p (Poll a) m = record { gid = 1; oid = 5; payload = activatedNtf a (termsOf p 0) (drop 4 m) }
-airMessage p (Listen a) m = record { gid = 1; oid = 5; payload = activatedNtf a (termsOf p 0) (drop 4 m) }
-airMessage p Failed m = record { gid = 0; oid = 7; payload = genericErrorNtf }
-airMessage p Sleeps m = record { gid = 1; oid = 6; payload = deactivateNtf 0x01 0x01 }
-airMessage p LinkLost m = record { gid = 1; oid = 6; payload = deactivateNtf 0x03 0x02 }
-airMessage p Releases m = record { gid = 1; oid = 6; payload = deactivateNtf 0x03 0x01 }
+airMessage p (Found a type) m = record { gid = gidRf; oid = oidDiscover; payload = discoverNtf a type (drop 5 m) }
+airMessage p (Poll a) m = record { gid = gidRf; oid = oidActivated; payload = activatedNtf a (termsOf p 0) (drop 4 m) }
+airMessage p (Listen a) m = record { gid = gidRf; oid = oidActivated; payload = activatedNtf a (termsOf p 0) (drop 4 m) }
+airMessage p Failed m = record { gid = gidCore; oid = oidGenericError; payload = genericErrorNtf }
+airMessage p Sleeps m = record { gid = gidRf; oid = oidDeactivate; payload = deactivateNtf toSleep endpointRequest }
+airMessage p LinkLost m = record { gid = gidRf; oid = oidDeactivate; payload = deactivateNtf toDiscovery linkLoss }
+airMessage p Releases m = record { gid = gidRf; oid = oidDeactivate; payload = deactivateNtf toDiscovery endpointRequest }
 airMessage p Endpoint m = nothing
 
 -- ---- the controller after it

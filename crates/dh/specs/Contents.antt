@@ -6,11 +6,13 @@ use mathlib.Core.Bool.{Bool, true, false, _&&_, _||_, not}
 use lib.ListN.{length, getD}
 use lib.Dec.{eqb, ltb, leb}
 use Rattle.octets.specs.Octets.{Octets, pick}
+use Rattle.state.specs.Names.{gidCore, gidRf, oidReset, oidConnCredits, oidGenericError, oidDiscover, oidActivated, oidDeactivate, statusOk, frameInterface, toSleep, toDiscovery, hostRequest, endpointRequest, linkLoss, activationFailed}
+use Rattle.packets.specs.Types.{mtResponse}
 use Rattle.dh.specs.Kinds.{Command, Notice}
 use Rattle.dh.specs.Kinds.command as command
 use Rattle.dh.specs.Kinds.notice as notice
 use Rattle.state.specs.Conn.{placeOf}
-use Rattle.state.specs.Commands.{commandOf, activationFailed}
+use Rattle.state.specs.Commands.{commandOf}
 use Rattle.state.specs.Radio.{polls, listens, idOk}
 use Rattle.state.specs.Profile.{leastSize, creditsOk}
 
@@ -18,23 +20,23 @@ use Rattle.state.specs.Profile.{leastSize, creditsOk}
 
 unfoldable pub noticeOf : ℕ → ℕ → Notice
 noticeOf gid oid =
-    pick (eqb gid 0)
-    (pick (eqb oid 0) notice.Reset
-    (pick (eqb oid 6) notice.Credits
-    (pick (eqb oid 7) notice.GenericError notice.Unknown)))
-    (pick (eqb gid 1)
-    (pick (eqb oid 3) notice.Discover
-    (pick (eqb oid 5) notice.Activated
-    (pick (eqb oid 6) notice.Deactivate notice.Unknown)))
+    pick (eqb gid gidCore)
+    (pick (eqb oid oidReset) notice.Reset
+    (pick (eqb oid oidConnCredits) notice.Credits
+    (pick (eqb oid oidGenericError) notice.GenericError notice.Unknown)))
+    (pick (eqb gid gidRf)
+    (pick (eqb oid oidDiscover) notice.Discover
+    (pick (eqb oid oidActivated) notice.Activated
+    (pick (eqb oid oidDeactivate) notice.Deactivate notice.Unknown)))
     notice.Unknown)
 
 -- ---- responses
 
 abbrev pub statusAlone : Octets → Bool
-statusAlone m = eqb (length m) 1 && not (eqb (getD m 0 0) 0x00)
+statusAlone m = eqb (length m) 1 && not (eqb (getD m 0 0) statusOk)
 
 abbrev pub okAlone : Octets → Bool
-okAlone m = eqb (length m) 1 && eqb (getD m 0 0) 0x00
+okAlone m = eqb (length m) 1 && eqb (getD m 0 0) statusOk
 
 -- the n octets from index i on are all 00
 unfoldable pub zeros : Octets → ℕ → ℕ → Bool
@@ -48,7 +50,7 @@ initWritten m =
 
 unfoldable pub createWritten : Octets → Bool
 createWritten m =
-    eqb (length m) 4 && eqb (getD m 0 0) 0x00 && leb 1 (getD m 1 0) && creditsOk (getD m 2 0)
+    eqb (length m) 4 && eqb (getD m 0 0) statusOk && leb 1 (getD m 1 0) && creditsOk (getD m 2 0)
     && leb 2 (getD m 3 0) && leb (getD m 3 0) 5
 
 abbrev pub okWritten : Command → Octets → Bool
@@ -93,7 +95,7 @@ discoverWritten m =
 
 unfoldable pub activatedWritten : Octets → Bool
 activatedWritten m =
-    idOk (getD m 0 0) && eqb (getD m 1 0) 0x01 && (polls (getD m 3 0) || listens (getD m 3 0)) && leb 1 (getD m 4 0)
+    idOk (getD m 0 0) && eqb (getD m 1 0) frameInterface && (polls (getD m 3 0) || listens (getD m 3 0)) && leb 1 (getD m 4 0)
     && creditsOk (getD m 5 0) && leb (getD m 6 0) 32 && eqb (length m) (11 + getD m 6 0)
     && eqb (getD m (7 + getD m 6 0) 0) (getD m 3 0) && zeros m (8 + getD m 6 0) 3
 
@@ -101,8 +103,8 @@ activatedWritten m =
 unfoldable pub deactivateWritten : Octets → Bool
 deactivateWritten m =
     eqb (length m) 2
-    && ((leb (getD m 0 0) 3 && eqb (getD m 1 0) 0x00) || (eqb (getD m 0 0) 1 && eqb (getD m 1 0) 0x01)
-    || (eqb (getD m 0 0) 3 && leb 1 (getD m 1 0) && leb (getD m 1 0) 2))
+    && ((leb (getD m 0 0) toDiscovery && eqb (getD m 1 0) hostRequest) || (eqb (getD m 0 0) toSleep && eqb (getD m 1 0) endpointRequest)
+    || (eqb (getD m 0 0) toDiscovery && leb endpointRequest (getD m 1 0) && leb (getD m 1 0) linkLoss))
 
 abbrev pub noticeWritten : Notice → Octets → Bool
 noticeWritten notice.Reset m = resetWritten m
@@ -118,4 +120,4 @@ noticeWritten notice.Unknown m = false
 -- contents of a response or a notification that the bench's controller could have written
 unfoldable pub written : ℕ → ℕ → ℕ → Octets → Bool
 written mt gid oid m =
-    pick (eqb mt 2) (statusAlone m || okWritten (commandOf gid oid) m) (noticeWritten (noticeOf gid oid) m)
+    pick (eqb mt mtResponse) (statusAlone m || okWritten (commandOf gid oid) m) (noticeWritten (noticeOf gid oid) m)

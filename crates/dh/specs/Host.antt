@@ -7,6 +7,8 @@ use mathlib.Core.List.{List}
 use lib.ListN.{getD}
 use lib.Dec.{eqb, ltb}
 use Rattle.octets.specs.Octets.{Octets, pick}
+use Rattle.state.specs.Names.{gidCore, oidReset, oidConnClose, statusOk}
+use Rattle.packets.specs.Types.{mtResponse, mtNotification}
 use Rattle.dh.specs.Kinds.{Asked, Pending, Host, HostSide, Counts, Command, Notice, Answer, Heard}
 use Rattle.dh.specs.Kinds.pending as pending
 use Rattle.dh.specs.Kinds.command as command
@@ -40,7 +42,7 @@ isBusy (pending.Command a) = true
 
 abbrev pub isClosing : Pending → Bool
 isClosing pending.Nothing = false
-isClosing (pending.Command a) = eqb (a .gid) 0 && (eqb (a .oid) 0 || eqb (a .oid) 5)
+isClosing (pending.Command a) = eqb (a .gid) gidCore && (eqb (a .oid) oidReset || eqb (a .oid) oidConnClose)
 
 -- ---- what they say
 
@@ -56,7 +58,7 @@ okAnswer command.Deactivate aim m = Done
 okAnswer command.Unknown aim m = Done
 
 unfoldable pub answerOf : Command → ℕ → Octets → Answer
-answerOf c aim m = pick (eqb (getD m 0 0) 0x00) (okAnswer c aim m) Done
+answerOf c aim m = pick (eqb (getD m 0 0) statusOk) (okAnswer c aim m) Done
 
 abbrev pub noticed : Notice → Octets → Heard
 noticed notice.Reset m = Nothing
@@ -70,11 +72,11 @@ noticed notice.Unknown m = Nothing
 -- what a host that stands alone hears
 unfoldable pub heardAlone : Pending → ℕ → ℕ → ℕ → Octets → Heard
 heardAlone p mt gid oid m =
-    pick (eqb mt 2) (Answered (answerOf (commandOf gid oid) (aimOf p) m)) (noticed (noticeOf gid oid) m)
+    pick (eqb mt mtResponse) (Answered (answerOf (commandOf gid oid) (aimOf p) m)) (noticed (noticeOf gid oid) m)
 
 -- notifications are always heard, a response where its command is unanswered, commands never
 abbrev pub expected : Pending → ℕ → ℕ → ℕ → Bool
-expected p mt gid oid = pick (eqb mt 2) (awaits p gid oid) (eqb mt 3)
+expected p mt gid oid = pick (eqb mt mtResponse) (awaits p gid oid) (eqb mt mtNotification)
 
 unfoldable pub hearOf : Pending → ℕ → ℕ → ℕ → Octets → Heard
 hearOf p mt gid oid m = pick (expected p mt gid oid) (pick (written mt gid oid m) (heardAlone p mt gid oid m) Nothing) Dropped

@@ -14,7 +14,7 @@ use borrow.Author.Tests.{ltb-true, ltb-false, leb-true, eqb-true, eq-eqb, ne-eqb
 use Rattle.octets.specs.Octets.{Octets, pick, cut}
 use Rattle.ends.specs.Kinds.{Activation}
 use Rattle.ends.specs.Kinds.notice as notice
-use Rattle.state.specs.Commands.{activationFailed}
+use Rattle.state.specs.Names.{activationFailed}
 use Rattle.state.specs.Conn.{placeOf, connOf}
 use Rattle.state.specs.Radio.{polls, idOk}
 use Rattle.messages.specs.Layout.{resetNtf, initRsp, entriesFrom, entryCount, creditsNtf, genericErrorNtf, discoverNtf, deactivateNtf}

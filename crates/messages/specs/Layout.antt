@@ -6,6 +6,7 @@ use mathlib.Core.List.{List, [], _∷_, _++_, map}
 use lib.ListN.{length}
 use lib.Dec.{eqb}
 use Rattle.octets.specs.Octets.{Octets, pick, splice}
+use Rattle.state.specs.Names.{gidCore, gidRf, oidReset, oidConnCredits, oidDeactivate, statusOk, frameInterface, hostRequest, activationFailed}
 use Rattle.state.specs.declared.kinds.Terms.{Terms}
 use Rattle.state.specs.declared.kinds.Profile.{Profile}
 use Rattle.state.specs.declared.kinds.Activation.{Activation}
@@ -14,7 +15,6 @@ use Rattle.state.specs.declared.kinds.Counts.{Counts}
 use Rattle.state.specs.declared.verdict.Verdict.{Verdict}
 use Rattle.state.specs.declared.verdict.Verdict.the-variants.{Refuses, Resets, Initialises, Opens, Closes, Turns, Selects, Deactivates}
 use Rattle.messages.specs.declared.layout.Note.{Note}
-use Rattle.state.specs.Commands.{activationFailed}
 use Rattle.state.specs.Conn.{connOf, owing}
 
 -- a control message that the controller sends
@@ -46,7 +46,7 @@ initRsp control =
 -- ---- CORE_CONN_CREATE (003, Table 14): status, payload, credits, Conn ID
 
 abbrev pub createRsp : Terms → ℕ → Octets
-createRsp t id = 0x00 ∷ t .payload ∷ t .credits ∷ id ∷ []
+createRsp t id = statusOk ∷ t .payload ∷ t .credits ∷ id ∷ []
 
 -- ---- CORE_CONN_CREDITS_NTF (003, Table 18): the count of entries, then Conn ID and credits for each
 
@@ -70,7 +70,7 @@ abbrev pub owedOf : List Counts → List ℕ
 owedOf conns = map (λ (c : Counts). owedOn (c .controller)) conns
 
 abbrev pub creditsMessage : List Counts → Message
-creditsMessage conns = record { gid = 0; oid = 6; payload = creditsNtf (owedOf conns) }
+creditsMessage conns = record { gid = gidCore; oid = oidConnCredits; payload = creditsNtf (owedOf conns) }
 
 -- ---- CORE_GENERIC_ERROR_NTF (003, Table 19)
 
@@ -86,7 +86,7 @@ discoverNtf a type params = a .id ∷ a .protocol ∷ a .mode ∷ length params 
 
 abbrev pub activatedNtf : Activation → Terms → Octets → Octets
 activatedNtf a t params =
-    a .id ∷ 0x01 ∷ a .protocol ∷ a .mode ∷ t .payload ∷ t .credits ∷ length params
+    a .id ∷ frameInterface ∷ a .protocol ∷ a .mode ∷ t .payload ∷ t .credits ∷ length params
     ∷ (params ++ (a .mode ∷ 0x00 ∷ 0x00 ∷ 0x00 ∷ []))
 
 -- ---- RF_DEACTIVATE_NTF (003, Tables 79 to 81): type, reason
@@ -99,13 +99,13 @@ deactivateNtf type reason = type ∷ reason ∷ []
 -- status first; a status other than 00 stands alone
 unfoldable pub responseOf : Profile → Verdict → Octets
 responseOf p (Refuses status) = status ∷ []
-responseOf p (Resets type) = 0x00 ∷ []
+responseOf p (Resets type) = statusOk ∷ []
 responseOf p Initialises = initRsp (p .control)
 responseOf p (Opens id t) = createRsp t id
-responseOf p (Closes id) = 0x00 ∷ []
-responseOf p (Turns rf) = 0x00 ∷ []
-responseOf p (Selects pair) = 0x00 ∷ []
-responseOf p (Deactivates type rf) = 0x00 ∷ []
+responseOf p (Closes id) = statusOk ∷ []
+responseOf p (Turns rf) = statusOk ∷ []
+responseOf p (Selects pair) = statusOk ∷ []
+responseOf p (Deactivates type rf) = statusOk ∷ []
 
 -- the same GID and OID as the command's
 abbrev pub responseMessage : ℕ → ℕ → Profile → Verdict → Message
@@ -114,10 +114,10 @@ responseMessage gid oid p v = record { gid = gid; oid = oid; payload = responseO
 -- the notification after the response
 unfoldable pub noticeMessage : Verdict → Message
 noticeMessage (Refuses status) = nothing
-noticeMessage (Resets type) = record { gid = 0; oid = 0; payload = resetNtf type }
+noticeMessage (Resets type) = record { gid = gidCore; oid = oidReset; payload = resetNtf type }
 noticeMessage Initialises = nothing
 noticeMessage (Opens id t) = nothing
 noticeMessage (Closes id) = nothing
 noticeMessage (Turns rf) = nothing
 noticeMessage (Selects pair) = nothing
-noticeMessage (Deactivates type rf) = record { gid = 1; oid = 6; payload = deactivateNtf type 0x00 }
+noticeMessage (Deactivates type rf) = record { gid = gidRf; oid = oidDeactivate; payload = deactivateNtf type hostRequest }

@@ -6,6 +6,7 @@ use mathlib.Core.List.{List}
 use lib.ListN.{length, getD}
 use lib.Dec.{eqb, ltb, leb}
 use Rattle.octets.specs.Octets.{Octets, pick}
+use Rattle.state.specs.Names.{loopback, frameInterface, listenB, listenF, toIdle, toSleep, toSleepAf, toDiscovery, rejected, syntaxError, semanticError, alreadyStarted}
 use Rattle.nfcc.specs.Kinds.{Hand, Profile, Pair, Pairs, Activation, Rf, Phase, Controller, Counts, Command, Verdict}
 use Rattle.nfcc.specs.Kinds.selection.{Nothing, Chosen}
 use Rattle.nfcc.specs.Kinds.rf.{Idle, Discovery, W4AllDiscoveries, W4HostSelect, PollActive, ListenActive, ListenSleep}
@@ -15,7 +16,7 @@ use Rattle.nfcc.specs.Kinds.command.{Reset, Init, ConnCreate, ConnClose,
 use Rattle.nfcc.specs.Kinds.verdict.{Refuses, Resets, Initialises, Opens, Closes, Turns, Selects, Deactivates}
 use Rattle.state.specs.Conn.{termsOf, shutAt, openedAt, allShut, empty}
 use Rattle.state.specs.Radio.{isIdle, polls, listens, noPairs, listed}
-use Rattle.state.specs.Commands.{rejected, syntaxError, semanticError, alreadyStarted, commandOf}
+use Rattle.state.specs.Commands.{commandOf}
 
 -- ---- in order: unknown, too short, wrong state, values
 
@@ -77,7 +78,7 @@ opensAs p id = pick (eqb id 0) (Refuses rejected) (Opens id (termsOf p id))
 -- destination 01, the loopback, with 00 parameters
 unfoldable pub createBy : Profile → (ℕ → Bool) → ℕ → Octets → Verdict
 createBy p isOpen given m =
-    pick (eqb (getD m 0 0) 0x01 && eqb (getD m 1 0) 0x00) (opensAs p (nextId isOpen given)) (Refuses rejected)
+    pick (eqb (getD m 0 0) loopback && eqb (getD m 1 0) 0) (opensAs p (nextId isOpen given)) (Refuses rejected)
 
 -- ---- CORE_CONN_CLOSE (003, Table 17)
 
@@ -107,7 +108,7 @@ discoverBy rf m =
 -- ---- RF_DISCOVER_SELECT (003, Table 77)
 
 abbrev pub selectBy : Rf → Pairs → Pair → ℕ → Verdict
-selectBy (W4HostSelect s) ps p interface = pick (listed ps p && eqb interface 0x01) (Selects p) (Refuses rejected)
+selectBy (W4HostSelect s) ps p interface = pick (listed ps p && eqb interface frameInterface) (Selects p) (Refuses rejected)
 selectBy Idle ps p interface = Refuses semanticError
 selectBy Discovery ps p interface = Refuses semanticError
 selectBy W4AllDiscoveries ps p interface = Refuses semanticError
@@ -120,11 +121,11 @@ selectBy ListenSleep ps p interface = Refuses semanticError
 -- 003, L3696 and L3704: on the Frame interface a listening NFC-F endpoint is not put to Sleep, nor an NFC-B one to Sleep_AF;
 -- document 01 would take both
 abbrev pub sleepRejected : Activation → ℕ → Bool
-sleepRejected a type = (eqb type 1 && eqb (a .mode) 0x82) || (eqb type 2 && eqb (a .mode) 0x81)
+sleepRejected a type = (eqb type toSleep && eqb (a .mode) listenF) || (eqb type toSleepAf && eqb (a .mode) listenB)
 
 -- the state after type 0, 3, and 1 or 2
 abbrev pub restState : ℕ → Rf → Rf
-restState type asleep = pick (eqb type 0) Idle (pick (eqb type 3) Discovery asleep)
+restState type asleep = pick (eqb type toIdle) Idle (pick (eqb type toDiscovery) Discovery asleep)
 
 abbrev pub ended : ℕ → Rf → Verdict
 ended type asleep = Deactivates type (restState type asleep)
@@ -136,10 +137,10 @@ deactivateBy Discovery type = Turns Idle
 deactivateBy W4AllDiscoveries type = Turns Idle
 deactivateBy (W4HostSelect s) type = Turns Idle
 deactivateBy ListenSleep type =
-    pick (ltb 3 type) (Refuses syntaxError) (pick (eqb type 0) (Turns Idle) (Refuses semanticError))
-deactivateBy (PollActive a) type = pick (ltb 3 type) (Refuses syntaxError) (ended type (W4HostSelect Nothing))
+    pick (ltb toDiscovery type) (Refuses syntaxError) (pick (eqb type toIdle) (Turns Idle) (Refuses semanticError))
+deactivateBy (PollActive a) type = pick (ltb toDiscovery type) (Refuses syntaxError) (ended type (W4HostSelect Nothing))
 deactivateBy (ListenActive a) type =
-    pick (ltb 3 type) (Refuses syntaxError)
+    pick (ltb toDiscovery type) (Refuses syntaxError)
     (pick (sleepRejected a type) (Refuses rejected) (ended type ListenSleep))
 
 -- ---- the judgement

@@ -1,3 +1,4 @@
+pub mod Types
 pub mod Packet
 pub mod Headers
 pub mod Segments

@@ -7,6 +7,7 @@ use mathlib.Core.List.{_∷_}
 use lib.ListN.{length, getD}
 use lib.Dec.{ltb, leb, eqb}
 use Rattle.octets.specs.Octets.{Octets, pick, cut, splice}
+use Rattle.packets.specs.Types.{mtData, mtRfu}
 use Rattle.packets.specs.declared.Header.{Header}
 use Rattle.packets.specs.declared.Reading.{Reading}
 use Rattle.packets.specs.declared.Reading.the-variants.{Packet, Drop}
@@ -20,7 +21,7 @@ octet0 mt false id = mt % 8 * 32 + id % 16
 
 -- octet 1: for control packets the OID in bits 5-0, for data 0; the other bits are written 0
 unfoldable pub octet1 : ℕ → ℕ → ℕ
-octet1 mt oid = pick (eqb mt 0) 0 (oid % 64)
+octet1 mt oid = pick (eqb mt mtData) 0 (oid % 64)
 
 -- a packet's octets; octet 2 is the payload's length
 unfoldable pub packetOf : Header → Octets → Octets
@@ -30,11 +31,11 @@ packetOf h payload = octet0 (h .mt) (h .pbf) (h .id) ∷ octet1 (h .mt) (h .oid)
 
 -- the OID that octet 1 holds: data has none
 unfoldable pub oidOf : ℕ → ℕ → ℕ
-oidOf mt second = pick (eqb mt 0) 0 (second % 64)
+oidOf mt second = pick (eqb mt mtData) 0 (second % 64)
 
 -- the bits of octet 1 that are no OID, in their places: they are read and, in the end, ignored
 unfoldable pub spareOf : ℕ → ℕ → ℕ
-spareOf mt second = pick (eqb mt 0) second (second / 64 * 64)
+spareOf mt second = pick (eqb mt mtData) second (second / 64 * 64)
 
 -- the header that the first two octets hold
 unfoldable pub headerOf : ℕ → ℕ → Header
@@ -51,7 +52,7 @@ headerOf first second =
 unfoldable pub readOf : Octets → Reading
 readOf p =
     pick (ltb (length p) 3) Drop
-    (pick (leb 4 (getD p 0 0 / 32)) Drop
+    (pick (leb mtRfu (getD p 0 0 / 32)) Drop
     (pick (ltb (length p - 3) (getD p 2 0)) Drop
     (Packet (headerOf (getD p 0 0) (getD p 1 0)) (getD p 2 0))))
 
@@ -82,8 +83,8 @@ pub record Written (slot : Octets) (h : Header) (payload : Octets) (size : ℕ) 
 
 -- a header whose fields are in range, with no spare bit set: what a writer is given
 pub record Writable (h : Header) : Type 0 where
-  pub mt : h .mt < 4
+  pub mt : h .mt < mtRfu
   pub id : h .id < 16
   pub oid : h .oid < 64
-  pub data-oid : h .mt ≡ 0 → h .oid ≡ 0
+  pub data-oid : h .mt ≡ mtData → h .oid ≡ 0
   pub spare : h .spare ≡ 0

@@ -1,4 +1,5 @@
 pub mod Kinds
+pub mod Names
 pub mod Conn
 pub mod Radio
 pub mod Runs

@@ -6,6 +6,7 @@ use mathlib.Core.List.{[], _∷_}
 use lib.ListN.{getD, set}
 use lib.Dec.{eqb, ltb, leb}
 use Rattle.octets.specs.Octets.{pick}
+use Rattle.state.specs.Names.{pollActive, pollV, listenA, listenActive}
 use Rattle.state.specs.Kinds.{Pair, Pairs, Activation, Rf}
 use Rattle.state.specs.Kinds.rf.{Idle, Discovery, W4AllDiscoveries, W4HostSelect, PollActive, ListenActive, ListenSleep}
 
@@ -51,10 +52,10 @@ isActive ListenSleep = false
 
 -- technology and mode (003, Table 131): those that poll, and those that listen
 abbrev pub polls : ℕ → Bool
-polls mode = leb mode 0x03 || eqb mode 0x06
+polls mode = leb mode pollActive || eqb mode pollV
 
 abbrev pub listens : ℕ → Bool
-listens mode = leb 0x80 mode && leb mode 0x83
+listens mode = leb listenA mode && leb mode listenActive
 
 -- an RF discovery ID (003, Table 67): 1-254
 abbrev pub idOk : ℕ → Bool

@@ -3,6 +3,7 @@
 use Prim.Native.Nat.{ℕ}
 use lib.Dec.{eqb}
 use Rattle.octets.specs.Octets.{Octets, pick}
+use Rattle.packets.specs.Types.{mtData}
 use Rattle.packets.specs.declared.Header.{Header}
 use Rattle.packets.specs.declared.Reading.{Reading}
 use Rattle.packets.specs.declared.Reading.the-variants.{Packet, Drop}
@@ -16,7 +17,7 @@ pub data Meaning : Type 0 where
   junk : Meaning
 
 abbrev pub meant : Header → Segment → Meaning
-meant h x = pick (eqb (h .mt) 0) (datum (h .id) x) (control (h .mt) (h .id) (h .oid) x)
+meant h x = pick (eqb (h .mt) mtData) (datum (h .id) x) (control (h .mt) (h .id) (h .oid) x)
 
 abbrev pub meaningIn : Octets → Reading → Meaning
 meaningIn p (Packet h n) = meant h (segment (h .pbf) (payloadOf p n))

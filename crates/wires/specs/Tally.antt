@@ -5,6 +5,8 @@ use mathlib.Core.Bool.{Bool, false}
 use mathlib.Core.List.{List, [], _∷_}
 use lib.Dec.{eqb}
 use Rattle.octets.specs.Octets.{Octets, pick}
+use Rattle.state.specs.Names.{gidCore, oidConnClose}
+use Rattle.packets.specs.Types.{mtCommand}
 use Rattle.packets.specs.Segments.{more, last}
 use Rattle.state.specs.declared.kinds.Pending.{Pending}
 use Rattle.state.specs.declared.kinds.Pending.the-variants.{Command}
@@ -31,7 +33,7 @@ dataCount c (p ∷ w) = pick (isDataFor c (meaning p)) 1 0 + dataCount c w
 -- ---- the up wire: what a packet says, to a reader who knows which connection `aim` the last CONN_CLOSE named
 
 abbrev pub aimedAt : ℕ → Pending
-aimedAt aim = Command (record { gid = 0; oid = 5; aim = aim })
+aimedAt aim = Command (record { gid = gidCore; oid = oidConnClose; aim = aim })
 
 -- contents never written here say nothing
 abbrev pub says : ℕ → ℕ → ℕ → ℕ → Octets → Heard
@@ -40,7 +42,7 @@ says aim mt gid oid m = pick (written mt gid oid m) (heardAlone (aimedAt aim) mt
 abbrev pub saysIn : ℕ → Meaning → Heard
 saysIn aim (datum c x) = Nothing
 saysIn aim (control mt gid oid (more b)) = Nothing
-saysIn aim (control mt gid oid (last m)) = pick (eqb mt 1) Nothing (says aim mt gid oid m)
+saysIn aim (control mt gid oid (last m)) = pick (eqb mt mtCommand) Nothing (says aim mt gid oid m)
 saysIn aim junk = Nothing
 
 -- its octets, where it is a whole control message

@@ -4,11 +4,10 @@ use Prim.Native.Nat.{ℕ, _<_}
 use mathlib.Core.Bool.{true, false}
 use Rattle.octets.specs.Octets.{Octets, splice}
 use Rattle.calls.specs.Kinds.{Record}
-use Rattle.state.specs.Conn.{placeOf}
+use Rattle.state.specs.Conn.{placeOf, countsOf}
 use Rattle.area.specs.Map.{wireSlots, places}
 use Rattle.record.specs.Reading.{decodeOf}
 use Rattle.record.specs.Fit.{FitRing, FitCounts}
-use Rattle.state.specs.Conn.{countsOf}
 use Rattle.views.specs.View.{view, viewOf}
 use Rattle.model.specs.calls.Report.{reportOf, reportRules}
 use Rattle.calls.specs.Word.{wordOf}

@@ -6,6 +6,7 @@ use mathlib.Core.List.{List, [], _∷_}
 use lib.Dec.{ltb}
 use lib.ListN.{length}
 use Rattle.octets.specs.Octets.{Octets}
+use Rattle.packets.specs.Types.{mtCommand}
 use Rattle.packets.specs.Segments.{segments, packetsOf}
 use Rattle.model.specs.Kinds.pending as pending
 use Rattle.dh.specs.Host.{askedOf, isBusy}
@@ -16,7 +17,7 @@ use Rattle.model.specs.Refusals.{Rule, rule, full}
 
 abbrev pub commanding : ℕ → ℕ → Octets → State → Effect
 commanding gid oid m s =
-    puttingDown (packetsOf (controlHeader 1 gid oid) (s .host .size) m)
+    puttingDown (packetsOf (controlHeader mtCommand gid oid) (s .host .size) m)
     (withHostState (record { size = s .host .size; pending = pending.Command (askedOf gid oid m) }) s)
 
 -- ---- refusals

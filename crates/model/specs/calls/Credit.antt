@@ -4,6 +4,7 @@ use Prim.Native.Nat.{ℕ}
 use mathlib.Core.Bool.{Bool, true, false, _&&_}
 use mathlib.Core.List.{List, [], _∷_, map}
 use lib.Dec.{eqb}
+use Rattle.state.specs.Names.{gidCore, oidConnCredits}
 use Rattle.messages.specs.Layout.{creditsNtf}
 use Rattle.model.specs.Connection.{withController, owedOn, noticed}
 use Rattle.messages.specs.Packets.{noticePacket}
@@ -21,7 +22,7 @@ allZero (n ∷ ns) = eqb n 0 && allZero ns
 
 abbrev pub crediting : State → Effect
 crediting s =
-    puttingUp false (noticePacket (record { gid = 0; oid = 6; payload = creditsNtf (owedBy s) }) ∷ []) []
+    puttingUp false (noticePacket (record { gid = gidCore; oid = oidConnCredits; payload = creditsNtf (owedBy s) }) ∷ []) []
     (withConns (λ d. withController (noticed (s .conns d .controller)) (s .conns d)) s)
 
 -- ---- refusals

@@ -6,6 +6,7 @@ use mathlib.Core.List.{List, [], _∷_}
 use lib.Dec.{eqb, leb}
 use lib.ListN.{length}
 use Rattle.octets.specs.Octets.{Octets, pick}
+use Rattle.packets.specs.Types.{mtCommand}
 use Rattle.packets.specs.Segments.{Segment, more, last}
 use Rattle.model.specs.Kinds.{Profile, Verdict}
 use Rattle.nfcc.specs.Controller.{judgeOf, controllerAfter}
@@ -24,7 +25,7 @@ use Rattle.model.specs.Changes.{atController}
 abbrev pub needsTwo : Meaning → Bool
 needsTwo (datum c x) = false
 needsTwo (control mt gid oid (more b)) = false
-needsTwo (control mt gid oid (last b)) = eqb mt 1
+needsTwo (control mt gid oid (last b)) = eqb mt mtCommand
 needsTwo junk = false
 
 abbrev pub tooTight : State → List Octets → Bool
@@ -57,7 +58,7 @@ answering gid oid (m ∷ ms) b s = deciding gid oid (judgeOf (s .profile) (s .co
 
 abbrev pub asked : ℕ → ℕ → Segment → State → Effect
 asked gid oid x s =
-    answering gid oid (wholeBy (s .asking) 1 gid oid x) (flagBy (s .asking) 1 gid oid x) (withAsking (runAfter (s .asking) 1 gid oid x) s)
+    answering gid oid (wholeBy (s .asking) mtCommand gid oid x) (flagBy (s .asking) mtCommand gid oid x) (withAsking (runAfter (s .asking) mtCommand gid oid x) s)
 
 abbrev pub storing : ℕ → Octets → State → Effect
 storing c p s =
@@ -66,7 +67,7 @@ storing c p s =
 -- data is stored, or dropped if the connection isn't open; commands aside, the rest is dropped
 abbrev pub arriving : Meaning → Octets → State → Effect
 arriving (datum c x) p s = storing c p s
-arriving (control mt gid oid x) p s = pick (eqb mt 1) (asked gid oid x s) (flaggedAs true s)
+arriving (control mt gid oid x) p s = pick (eqb mt mtCommand) (asked gid oid x s) (flaggedAs true s)
 arriving junk p s = flaggedAs true s
 
 abbrev pub taking : List Octets → State → Effect

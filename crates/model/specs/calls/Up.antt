@@ -6,6 +6,7 @@ use mathlib.Core.List.{List, [], _∷_}
 use lib.Dec.{eqb, ltb}
 use lib.ListN.{drop}
 use Rattle.octets.specs.Octets.{Octets, pick}
+use Rattle.packets.specs.Types.{mtCommand}
 use Rattle.packets.specs.Segments.{Segment}
 use Rattle.packets.specs.Reassembly.{finished, flagged}
 use Rattle.model.specs.Kinds.{Heard}
@@ -54,7 +55,7 @@ heard mt gid oid x s =
 
 abbrev pub coming : Meaning → State → Effect
 coming (datum c x) s = receiving c x s
-coming (control mt gid oid x) s = pick (eqb mt 1) (flaggedAs true s) (heard mt gid oid x s)
+coming (control mt gid oid x) s = pick (eqb mt mtCommand) (flaggedAs true s) (heard mt gid oid x s)
 coming junk s = flaggedAs true s
 
 abbrev pub reading : List Octets → State → Effect
@@ -76,7 +77,7 @@ aboveIn s mt gid oid (m ∷ ms) = anyOf (above s (hearOf (s .host .pending) mt g
 
 abbrev pub tooMany : State → Meaning → Bool
 tooMany s (datum c x) = false
-tooMany s (control mt gid oid x) = not (eqb mt 1) && aboveIn s mt gid oid (wholeBy (s .hearing) mt gid oid x)
+tooMany s (control mt gid oid x) = not (eqb mt mtCommand) && aboveIn s mt gid oid (wholeBy (s .hearing) mt gid oid x)
 tooMany s junk = false
 
 abbrev pub firstTooMany : State → List Octets → Bool

@@ -6,7 +6,7 @@ use mathlib.Core.List.{[], _∷_}
 use native.Mathlib.Omega.{arith}
 use denote.Ref.{now}
 use Rattle.octets.specs.Octets.{pick}
-use Rattle.state.specs.declared.kinds.Counts.{Counts}
+use Rattle.bench.specs.Kinds.{Counts}
 use Rattle.state.specs.Conn.{placeOf, countsOf, flows, owing}
 use Rattle.area.specs.Map.{storeSlots, storeAt}
 use Rattle.area.proofs.Rings.{length-packets}
