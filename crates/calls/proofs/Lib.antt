@@ -1,4 +1,5 @@
 pub mod Rules
 pub mod Called
+pub mod Words
 pub mod Refining
 pub mod Pushing
