@@ -3,3 +3,4 @@ pub mod Called
 pub mod Words
 pub mod Refining
 pub mod Pushing
+pub mod Sending
