@@ -4,15 +4,12 @@ use area::movers;
 use octets::choose;
 use record::write;
 use state::conn;
-use state::kinds::HostSide;
 use state::kinds::Record;
 ghost use mathlib.Core.Path.{_≡_};
 ghost use Prim.Native.Nat.{_≤_};
 ghost use lib.ListN.{length};
-ghost use Rattle.state.specs.Conn.{handWith};
 ghost use Rattle.area.specs.Map.{areaSize};
 ghost use Rattle.record.specs.Claims.{stored};
-ghost use Rattle.record.specs.Plan.{withHand};
 ghost use Rattle.views.specs.View.{view};
 ghost use Rattle.model.specs.calls.Send.{sendRules};
 ghost use Rattle.calls.specs.Outcome.{Lowest};
@@ -32,18 +29,25 @@ pub fn refusal(r: Record, conn: u8, message: &[u8]) -> u8
     choose((map::PLACES <= place) | (map::MESSAGE < message.len()), 3, six)
 }
 
-// The record after a message of n octets was put in hand.
+// The record after the message was put in hand.
 fn plan(r: Record, conn: u8, message: &[u8]) -> Record
     ensures { λ x. ⌜ x ≡ sentRecord r conn (now (message .entry)) ⌝ }
 {
-    let mut next = r;
-    let ends = r.ends;
+    let mut ends = r.ends;
     let conns = ends.conns;
+    let down = r.down;
+    let up = r.up;
     let k = conn::counts_of(conns, conn);
     let mut side = k.host;
-    side.hand = conn::hand_with(message.len());
-    next.ends.conns = conn::with_host(conns, conn, side);
-    next
+    let hand = conn::hand_with(message.len());
+    side.hand = hand;
+    let next = conn::with_host(conns, conn, side);
+    ends.conns = next;
+    Record {
+        ends: ends,
+        down: down,
+        up: up,
+    }
 }
 
 // The message goes into its place.
