@@ -1,3 +1,4 @@
 pub mod Sum
 pub mod Moves
 pub mod Rings
+pub mod Puts

@@ -1,7 +1,9 @@
 pub mod Rules
 pub mod Called
+pub mod Words
 pub mod Refining
 pub mod Pushing
 pub mod Starting
 pub mod Reporting
 pub mod Entering
+pub mod Sending

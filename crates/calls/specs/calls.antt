@@ -2,3 +2,4 @@ pub mod Fresh
 pub mod Power
 pub mod Push
 pub mod Report
+pub mod Send

@@ -21,7 +21,7 @@ octal-take zero h = octal-nil
 octal-take (suc n) octal-nil = octal-nil
 octal-take (suc n) (octal-cons h t) = octal-cons h (octal-take n t)
 
-octal-drop : (n : ℕ) {l : Octets} → Octal l → Octal (drop n l)
+pub octal-drop : (n : ℕ) {l : Octets} → Octal l → Octal (drop n l)
 octal-drop zero h = h
 octal-drop (suc n) octal-nil = octal-nil
 octal-drop (suc n) (octal-cons h t) = octal-drop n t

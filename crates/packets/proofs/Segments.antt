@@ -182,6 +182,14 @@ module _ (size : ℕ) (pos : 1 ≤ size) where
       (let eq : length (segments size (drop size m)) ≡ max 1 (y / size) = rw length-drop at ih in
       omega arith))
 
+  -- of a message with octets, without a sum that could pass the type of a length
+  pub segments-many : (m : Octets) → 1 ≤ length m → length (segments size m) ≡ (length m - 1) / size + 1
+  segments-many m h =
+      let sum : length m + (size - 1) ≡ length m - 1 + size = omega arith in
+      let one : (length m - 1 + size) / size ≡ (length m - 1) / size + 1 = add-div-right (length m - 1) pos in
+      let eq : length (segments size m) ≡ max 1 ((length m - 1 + size) / size) = rw sum at (segments-count m) in
+      omega arith
+
   pub segments-fulls : (m : Octets) (k : ℕ) → suc k < length (segments size m)
       → (length (body (nth (segments size m) k)) ≡ size) × (flag (nth (segments size m) k) ≡ true)
   unfolding cut

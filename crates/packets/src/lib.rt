@@ -1,11 +1,11 @@
 // The packet layer of NCI 2.0 (003, 3.4): a packet's header is read, its payload is handed out as a part of the packet
 // itself, and a packet is written straight into the slot that the caller lends.
 ghost use mathlib.Core.Path.{_≡_};
-ghost use Prim.Native.Nat.{_+_};
+ghost use Prim.Native.Nat.{_+_, _≤_};
 ghost use lib.ListN.{length};
 ghost use lib.Dec.{ltb};
 ghost use Rattle.packets.specs.Packet.{octet0, octet1, oidOf, spareOf, readOf, payloadOf, Written};
-ghost use Rattle.packets.specs.Segments.{segmentAt, marked, body, flag};
+ghost use Rattle.packets.specs.Segments.{segments, segmentAt, marked, body, flag};
 
 // Message types (003, Table 2). 4 to 7 are RFU.
 pub const DATA: u8 = 0;
@@ -129,6 +129,18 @@ pub fn follows(n: usize, at: usize, size: usize) -> bool
         return false;
     }
     size < n - at
+}
+
+// How many segments a message has: an empty one has one too.
+pub fn segment_count(msg: &[u8], size: usize) -> usize
+    requires { ⌜ 1 ≤ size ⌝ }
+    ensures { λ r. ⌜ r ≡ length (segments size (now (msg .entry))) ⌝ }
+{
+    let n = msg.len();
+    if n == 0 {
+        return 1;
+    }
+    (n - 1) / size + 1
 }
 
 // Writes the segment of msg that starts at index at into the slot, as a packet with the header h and the boundary flag of

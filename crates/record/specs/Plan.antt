@@ -1,7 +1,7 @@
 -- Records with one part changed, and the cold one: the plans that the calls stand on.
 -- Assumes nothing.
 use mathlib.Core.List.{List}
-use Rattle.record.specs.Kinds.{Profile, Hand, Ring, HostSide, ControllerSide, Counts, Progress, ControlRun, Ends, Record}
+use Rattle.record.specs.Kinds.{Profile, Host, Hand, Ring, HostSide, ControllerSide, Counts, Progress, ControlRun, Ends, Record}
 use Rattle.state.specs.Conn.{emptyRing}
 use Rattle.state.specs.Cold.{coldEnds}
 
@@ -40,6 +40,21 @@ withEndpoint h r =
       controller = r .ends .controller;
       asking = r .ends .asking;
       endpoint = h;
+      conns = r .ends .conns;
+    })
+    r
+
+-- the host's own numbers
+abbrev pub withHostState : Host → Record → Record
+withHostState h r =
+    withEnds
+    (record {
+      profile = r .ends .profile;
+      host = h;
+      hearing = r .ends .hearing;
+      controller = r .ends .controller;
+      asking = r .ends .asking;
+      endpoint = r .ends .endpoint;
       conns = r .ends .conns;
     })
     r

@@ -64,3 +64,10 @@ hand-nil base size a h = go (h .full)
     go : (b : Bool) → isNil (pick b (segments size (cut (base + h .at) (h .len - h .at) a)) []) ≡ not b
     go true = segments-some size (cut (base + h .at) (h .len - h .at) a)
     go false = refl
+
+pub hand-some : (base size : ℕ) (a : Octets) (h : Hand) → not (isNil (handOf base size a h)) ≡ h .full
+hand-some base size a h = ap not (hand-nil base size a h) ∙ go (h .full)
+  where
+    go : (b : Bool) → not (not b) ≡ b
+    go true = refl
+    go false = refl
