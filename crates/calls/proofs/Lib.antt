@@ -1,4 +1,6 @@
 pub mod Rules
 pub mod Called
+pub mod Words
 pub mod Refining
+pub mod Taken
 pub mod Pushing
