@@ -4,3 +4,4 @@ pub mod Words
 pub mod Refining
 pub mod Taken
 pub mod Pushing
+pub mod Crediting
