@@ -2,8 +2,10 @@ pub mod Rules
 pub mod Called
 pub mod Words
 pub mod Refining
+pub mod Taken
 pub mod Pushing
 pub mod Starting
 pub mod Reporting
 pub mod Entering
 pub mod Sending
+pub mod Crediting

@@ -3,3 +3,4 @@ pub mod Power
 pub mod Push
 pub mod Report
 pub mod Send
+pub mod Credit

@@ -4,19 +4,21 @@ use Prim.Native.Nat.{ℕ, _+_, _-_}
 use native.Mathlib.Omega.{arith}
 use mathlib.Core.Path.{_≡_, refl, sym, ap, _∙_}
 use mathlib.Core.Bool.{Bool, true, false, not}
-use mathlib.Core.List.{List, [], _∷_}
+use mathlib.Core.List.{List, [], _∷_, map}
 use lib.ListN.{length}
 use lib.Dec.{ltb, leb, eqb}
 use borrow.Author.Tests.{ne-eqb, leb-true, leb-false, lt-ltb, le-ltb}
 use Rattle.octets.specs.Octets.{Octets, pick, cut}
 use Rattle.packets.specs.Segments.{Segment, segments, segmentsWithin}
+use Rattle.state.specs.Conn.{placeOf, owing, countsOf}
 use Rattle.state.proofs.Chains.{on}
-use Rattle.views.specs.Kinds.{Hand, Ring, Record}
+use Rattle.views.specs.Kinds.{Hand, Ring, Counts, Record}
 use Rattle.area.specs.Map.{wireSlots, downAt, upAt}
 use Rattle.area.specs.Ring.{packetsIn}
 use Rattle.area.proofs.Rings.{length-packets}
-use Rattle.views.specs.View.{handOf, downOf, upOf}
-use Rattle.model.specs.Refusals.{isNil, full}
+use Rattle.views.specs.View.{handOf, downOf, upOf, view}
+use Rattle.model.specs.Refusals.{isNil, full, ids}
+use Rattle.model.specs.calls.Credit.{owedBy}
 
 -- ---- rings
 
@@ -71,3 +73,23 @@ hand-some base size a h = ap not (hand-nil base size a h) ∙ go (h .full)
     go : (b : Bool) → not (not b) ≡ b
     go true = refl
     go false = refl
+
+-- ---- what is owed
+
+-- the five Conn IDs in their order are the five places in theirs
+ids-places : {A : Type 0} (f : Counts → A) (l : List Counts) → length l ≡ 5 → map (λ (c : ℕ). f (countsOf l c)) ids ≡ map f l
+unfolding placeOf
+ids-places f (u ∷ v ∷ w ∷ x ∷ y ∷ []) n = refl
+ids-places f [] n = absurd (omega arith)
+ids-places f (u ∷ []) n = absurd (omega arith)
+ids-places f (u ∷ v ∷ []) n = absurd (omega arith)
+ids-places f (u ∷ v ∷ w ∷ []) n = absurd (omega arith)
+ids-places f (u ∷ v ∷ w ∷ x ∷ []) n = absurd (omega arith)
+ids-places f (u ∷ v ∷ w ∷ x ∷ y ∷ z ∷ l) n = absurd (omega arith)
+
+-- what is owed on each connection, by place
+abbrev owed : Counts → ℕ
+owed c = owing (c .controller .opened) (c .controller .grant) (c .controller .owed)
+
+pub owed-by : (a : Octets) (r : Record) → length (r .ends .conns) ≡ 5 → owedBy (view a r) ≡ map owed (r .ends .conns)
+owed-by a r five = ids-places owed (r .ends .conns) five
