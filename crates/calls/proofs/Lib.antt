@@ -2,3 +2,4 @@ pub mod Rules
 pub mod Called
 pub mod Refining
 pub mod Pushing
+pub mod Replying
