@@ -1,5 +1,7 @@
 pub mod Rules
 pub mod Called
+pub mod Words
 pub mod Refining
+pub mod Taken
 pub mod Pushing
 pub mod Replying

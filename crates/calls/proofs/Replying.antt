@@ -18,39 +18,31 @@ use Rattle.packets.proofs.Packet.{octal-packet}
 use Rattle.packets.proofs.Segments.{body-segment}
 use Rattle.calls.specs.Kinds.{Record}
 use Rattle.state.specs.Conn.{handAfter}
-use Rattle.area.specs.Map.{areaSize, messageSize, payloadSize, wireSlots, upAt, endpointAt}
-use Rattle.area.specs.Ring.{freeAt, packetsFrom, tab}
-use Rattle.area.proofs.Rings.{length-packets}
+use Rattle.area.specs.Map.{messageSize, payloadSize, wireSlots, upAt, endpointAt}
+use Rattle.area.specs.Ring.{freeAt}
 use Rattle.area.proofs.Moves.{segment-short}
 use Rattle.record.specs.Reading.{decodeOf}
-use Rattle.record.specs.Layout.{bit}
-use Rattle.record.specs.Claims.{stored}
 use Rattle.record.specs.Fit.{Shape, Fit}
 use Rattle.record.specs.Small.{Small}
 use Rattle.record.specs.Plan.{withEndpoint}
 use Rattle.record.proofs.Small.{small-decode}
-use Rattle.record.proofs.Stored.{stored-long, stored-record, stored-judged, stored-octal}
-use Rattle.views.specs.View.{handOf, upOf, view, viewOf}
+use Rattle.views.specs.View.{handOf, upOf, view}
 use Rattle.views.specs.Moves.{Sound}
 use Rattle.views.proofs.Whole.{moves}
 use Rattle.views.proofs.Others.{endpoint-set}
 use Rattle.views.proofs.Tests.{up-full-one, hand-nil}
-use Rattle.views.proofs.Stored.{stored-view}
-use Rattle.model.specs.Connection.{Connection}
-use Rattle.model.specs.Connection as connection
 use Rattle.model.specs.State as bench
-use Rattle.model.specs.Effects.{reply, taken}
+use Rattle.model.specs.Effects.{Effect, reply, taken}
 use Rattle.model.specs.Refusals.{Rule, rule, first}
 use Rattle.model.specs.calls.Reply.{replying, replyRules}
 use Rattle.model.specs.Bench.{act, judged}
-use Rattle.model.specs.Observer.{eventOf}
 use Rattle.model.proofs.Order.{need}
-use Rattle.calls.specs.Word.{wordOf, answerIn, droppedIn, handedIn, lengthIn, downIn, upIn}
-use Rattle.calls.specs.Seen.{Puts, putsAfter, seenBy}
+use Rattle.calls.specs.Seen.{Puts}
 use Rattle.calls.specs.Refines.{Good, Follows, Along, RefinesTo, Refines}
-use Rattle.calls.specs.calls.Reply.{endpointHand, repliedRecord, repliedSegment, repliedPacket, repliedSlot, repliedWord, replied, replyCall, Replyable}
+use Rattle.calls.specs.calls.Reply.{endpointHand, repliedRecord, repliedSegment, repliedPacket, repliedSlot, replied, replyCall, Replyable}
 use Rattle.calls.proofs.Called.{sound-area}
-use Rattle.calls.proofs.Refining.{puts-seen, called-refines}
+use Rattle.calls.proofs.Refining.{called-refines}
+use Rattle.calls.proofs.Taken.{added-none, added-one, took-refines}
 use Rattle.calls.proofs.Pushing.{hand-after-fits}
 
 -- ---- the rules on numbers
@@ -102,26 +94,11 @@ module _ (r : Record) where
 -- ---- a reply that is taken
 
 module _ (a out : Octets) (r : Record) (s : Sound a r) (small : Small r) (p : Replyable r) where
-  moved-long : areaSize ≤ length (repliedSlot r a)
-  moved-long = omega (arith, s .room, length-splice a (freeAt upAt wireSlots (r .up)) (repliedPacket r a))
-
   abbrev message : Octets
   message = cut endpointAt (endpointHand r .len) a
 
   short : length (body (repliedSegment r a)) ≤ payloadSize
   short = segment-short payloadSize message (endpointHand r .at)
-
-  fit : Fit (repliedRecord r)
-  fit = reply-fit r p (s .fit)
-
-  shape : Shape (repliedRecord r)
-  shape = reply-shape r (s .shape)
-
-  abbrev area : Octets
-  area = stored (repliedSlot r a) (repliedRecord r)
-
-  after : decodeOf area ≡ repliedRecord r
-  after = stored-record (repliedSlot r a) (repliedRecord r) moved-long fit shape
 
   -- first the endpoint's numbers, then the packet
   abbrev between : Record
@@ -129,70 +106,50 @@ module _ (a out : Octets) (r : Record) (s : Sound a r) (small : Small r) (p : Re
 
   between-sound : Sound a between
   between-sound =
+      let f = reply-fit r p (s .fit) in
       record {
         room = s .room;
-        fit = record { down = s .fit .down; up = s .fit .up; own = fit .own; conns = s .fit .conns };
-        shape = record { pairs = shape .pairs; conns = shape .conns };
+        fit = record { down = s .fit .down; up = s .fit .up; own = f .own; conns = s .fit .conns };
+        shape = record { pairs = s .shape .pairs; conns = s .shape .conns };
       }
 
   abbrev rest : List Segment
   rest = handOf endpointAt payloadSize a (handAfter payloadSize (endpointHand r))
 
-  abbrev becomes : Connection → Connection
-  becomes k = connection.withController (connection.spoken rest (k .controller)) k
-
-  next-view : viewOf area ≡ bench.withUp (upOf a r ++ (repliedPacket r a ∷ [])) (bench.withConns (bench.at 0 becomes (view a r .conns)) (view a r))
-  next-view =
-      stored-view (repliedSlot r a) (repliedRecord r) moved-long fit shape
-      ∙ moves a between between-sound .put-up (marked (dataHeader 0) (flag (repliedSegment r a))) (body (repliedSegment r a)) short (p .free)
-      ∙ (λ i. bench.withUp (upOf a r ++ (repliedPacket r a ∷ [])) (endpoint-set a r (handAfter payloadSize (endpointHand r)) i))
-
   acts : act reply (view a r) ≡ replying (repliedSegment r a ∷ rest) (view a r)
   acts i = replying (moves a r s .gone-endpoint (p .full) i) (view a r)
 
-  octets-after : Octal a → Octal area
+  next-view : view (repliedSlot r a) (repliedRecord r) ≡ replying (repliedSegment r a ∷ rest) (view a r) .next
+  next-view =
+      moves a between between-sound .put-up (marked (dataHeader 0) (flag (repliedSegment r a))) (body (repliedSegment r a)) short (p .free)
+      ∙ (λ i. bench.withUp (upOf a r ++ (repliedPacket r a ∷ [])) (endpoint-set a r (handAfter payloadSize (endpointHand r)) i))
+
+  octets-after : Octal a → Octal (repliedSlot r a)
   octets-after o =
       let part : Octal (body (repliedSegment r a)) =
       subst Octal (sym (body-segment (ltb (endpointHand r .at + payloadSize) (length message)) (cut (endpointHand r .at) payloadSize message)))
       (octal-cut (endpointHand r .at) payloadSize (octal-cut endpointAt (endpointHand r .len) o))
       in
-      stored-octal (repliedSlot r a) (repliedRecord r)
-      (octal-splice (freeAt upAt wireSlots (r .up)) o (octal-packet (marked (dataHeader 0) (flag (repliedSegment r a))) (body (repliedSegment r a)) short part))
-      (reply-small r small)
+      octal-splice (freeAt upAt wireSlots (r .up)) o (octal-packet (marked (dataHeader 0) (flag (repliedSegment r a))) (body (repliedSegment r a)) short part)
 
-  module _ (q : Puts) (other : Follows (q .down) (r .down)) (follows : Follows (q .up) (r .up)) where
-    put-seen : packetsFrom upAt wireSlots area (q .up) 1 ≡ repliedPacket r a ∷ []
-    put-seen =
-        puts-seen upAt area (r .up) (decodeOf area .up) (q .up) 1 (upOf a r) (repliedPacket r a ∷ []) follows
-        (ap (λ (x : Record). x .up .head) after) (ap (λ (x : Record). x .up .count) after) (length-packets upAt wireSlots a (r .up)) (ap (λ (x : bench.State). x .up) next-view)
-
-    seen : seenBy reply q (replied r a out) ≡ eventOf reply (judged taken reply (view a r))
-    unfolding wordOf bit answerIn droppedIn handedIn lengthIn downIn upIn packetsFrom tab
-    seen =
-        (λ i. record { call = reply; answer = taken; dropped = false; toDown = []; toUp = put-seen i; message = [] })
-        ∙ sym (λ i. eventOf reply (record { answer = taken; effect = acts i }))
-
-    along : Along (putsAfter reply q repliedWord) area
-    unfolding wordOf bit answerIn downIn upIn
-    along =
-        record {
-          down = subst (λ (x : Record). Follows (q .down + 0) (x .down)) (sym after) (omega (arith, other));
-          up = subst (λ (x : Record). Follows (q .up + 1) (x .up)) (sym after) (omega (arith, follows));
-        }
-
-    done : Octal a → RefinesTo reply q (replied r a out) (judged taken reply (view a r))
-    done o =
-        record {
-          good =
-              record {
-                long = stored-long (repliedSlot r a) (repliedRecord r) moved-long;
-                judged = stored-judged (repliedSlot r a) (repliedRecord r) moved-long fit shape;
-                octal = octets-after o;
-              };
-          event = seen;
-          next = next-view ∙ sym (λ i. acts i .next);
-          along = along;
-        }
+  done : (q : Puts) → Follows (q .down) (r .down) → Follows (q .up) (r .up) → Octal a → RefinesTo reply q (replied r a out) (judged taken reply (view a r))
+  done q down up o =
+      subst (λ (e : Effect). RefinesTo reply q (replied r a out) (record { answer = taken; effect = e })) (sym acts)
+      (took-refines reply q (repliedSlot r a) out (repliedRecord r) false false 0 0 1 (replying (repliedSegment r a ∷ rest) (view a r))
+      (record {
+        long = omega (arith, s .room, length-splice a (freeAt upAt wireSlots (r .up)) (repliedPacket r a));
+        fit = reply-fit r p (s .fit);
+        shape = reply-shape r (s .shape);
+        octal = octets-after o;
+        small = reply-small r small;
+        short = omega arith;
+        drop = refl;
+        message = refl;
+        next = next-view;
+        toDown = added-none (q .down) (r .down) (view a r .down) down;
+        toUp = added-one (q .up) (r .up) (upOf a r) (repliedPacket r a) up;
+      })
+      refl)
 
 -- a reply on octets is the model's reply
 pub reply-refines : (q : Puts) (a out : Octets) → Good a → messageSize ≤ length out → Along q a → Refines reply q a (replyCall a out)

@@ -8,3 +8,4 @@ pub mod Commands
 pub mod Whole
 pub mod Stored
 pub mod Tests
+pub mod Changed
