@@ -3,5 +3,6 @@ pub mod Called
 pub mod Words
 pub mod Refining
 pub mod Taken
+pub mod Changing
 pub mod Pushing
 pub mod Replying
