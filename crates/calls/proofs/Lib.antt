@@ -9,3 +9,5 @@ pub mod Reporting
 pub mod Entering
 pub mod Sending
 pub mod Crediting
+pub mod Changing
+pub mod Replying

@@ -4,3 +4,5 @@ pub mod Push
 pub mod Report
 pub mod Send
 pub mod Credit
+pub mod Reply
+pub mod Air

@@ -10,7 +10,7 @@ use mathlib.Core.List.{[], _∷_}
 use lib.ListN.{length, getD}
 use lib.Dec.{eqb}
 use Rattle.octets.specs.Octets.{Octets, pick, cut, splice}
-use Rattle.views.specs.Kinds.{Header, Profile, Record}
+use Rattle.views.specs.Kinds.{Header, Profile, Hand, Record}
 use Rattle.packets.specs.Segments.{Segment, body, flag, segments}
 use Rattle.packets.specs.Reassembly.{run, grown}
 use Rattle.views.specs.Kinds as kinds
@@ -184,6 +184,18 @@ module _ (a : Octets) (r : Record) (s : Sound a r) (m : Octets) (h : length m �
         down = down-before a b r s lo hi o (omega arith) i;
         up = up-before a b r s lo hi o (omega arith) i;
       }
+
+-- its numbers change, and no octet
+pub endpoint-set : (a : Octets) (r : Record) (h : Hand)
+    → view a (withEndpoint h r)
+    ≡ bench.withConns (bench.at 0 (λ k. connection.withController (spoken (handOf endpointAt payloadSize a h) (k .controller)) k) (view a r .conns)) (view a r)
+endpoint-set a r h i = bench.withConns (λ d. go d (eqb 0 d) i) (view a r)
+  where
+    go : (d : ℕ) (t : Bool) → connectionOf (placeOf d) a (countsOf (r .ends .conns) d) (pick t (handOf endpointAt payloadSize a h) [])
+        ≡ pick t (connectionOf (placeOf d) a (countsOf (r .ends .conns) d) (handOf endpointAt payloadSize a h))
+        (connectionOf (placeOf d) a (countsOf (r .ends .conns) d) (pick t (handOf endpointAt payloadSize a (r .ends .endpoint)) []))
+    go d true = refl
+    go d false = refl
 
 -- ---- a cold bench
 

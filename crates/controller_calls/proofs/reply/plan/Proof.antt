@@ -1,0 +1,17 @@
+-- `controller_calls::reply::plan` meets its contract, by those of what it calls.
+-- Assumes nothing.
+use borrow.Author.Needs.{needs}
+use Rattle.controller_calls.proofs.reply.plan.Statement.{statement}
+use Rattle.controller_calls.proofs.reply.plan.Tie as tie
+
+hand-after-requires : tie.Need-hand-after-requires
+hand-after-requires c κs = search needs
+
+put-into-requires : tie.Need-put-into-requires
+put-into-requires c κs = search needs
+
+returns : tie.Need-returns
+returns c = rw (c .put-into .ensures, c .before .hand-after .ensures)
+
+pub plan-spec : {M : Type 1} → statement M
+plan-spec = tie.close (tie.spec hand-after-requires put-into-requires returns)
