@@ -19,7 +19,7 @@ ghost use Rattle.record.specs.Fit.{FitRing};
 ghost use Rattle.views.specs.View.{view};
 ghost use Rattle.model.specs.calls.Air.{airRules};
 ghost use Rattle.calls.specs.Outcome.{Lowest};
-ghost use Rattle.calls.specs.calls.Air.{speaks, airedUp, airedRecord, airedSlot, airedArea, airedWord, Airable};
+ghost use Rattle.calls.specs.calls.Air.{speaks, airedRecord, airedSlot, airedArea, airedWord, Airable};
 
 // The number for which an event is not taken, 0 for none: the first of the model's rules, whatever the area's octets are.
 pub fn refusal(r: Record, m: &[u8]) -> u8
