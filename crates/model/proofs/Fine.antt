@@ -1,4 +1,5 @@
--- The invariant of the bench: every connection is good, and commands, data and answers stand in order on the wires.
+-- The laws of `specs/invariant/Bench.antt`: what changes are as items, what keeps a wire sound, a store and the controller's connections in
+-- order, and that a cold bench is fine.
 -- Assumes nothing.
 use Prim.Native.Nat.{ℕ, _≤_, _<_}
 use native.Mathlib.Omega.{arith}

@@ -1,4 +1,4 @@
--- The order of commands, data and answers on the wires: one command at a time, no data behind one that closes.
+-- The laws of `specs/invariant/Commands.antt`: one command at a time, no data behind one that closes, and a command on its way.
 -- Assumes nothing.
 use Prim.Native.Nat.{ℕ, zero, suc, _≤_, _<_, _%_}
 use native.Mathlib.Omega.{arith}
