@@ -1,2 +1,3 @@
 pub mod Push
 pub mod Send
+pub mod Command
