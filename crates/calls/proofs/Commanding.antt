@@ -1,6 +1,6 @@
 -- command: the tests of its rules on numbers, what is known where none applies, and that it is the model's command.
 -- Assumes nothing.
-use Prim.Native.Nat.{ℕ, _+_, _≤_, _<_}
+use Prim.Native.Nat.{ℕ, _+_, _≤_}
 use mathlib.Core.Path.{_≡_, refl, sym, ap, _∙_}
 use mathlib.Core.Bool.{false, _||_}
 use mathlib.Core.List.{List, [], _∷_}
@@ -16,11 +16,11 @@ use Rattle.packets.specs.Headers.{controlHeader}
 use Rattle.calls.specs.Kinds.{Host, Record}
 use Rattle.state.proofs.Chains.{or-left, or-right}
 use Rattle.dh.specs.Host.{askedOf, isBusy}
-use Rattle.area.specs.Map.{areaSize, messageSize, payloadSize, wireSlots, downAt}
+use Rattle.area.specs.Map.{messageSize, payloadSize, wireSlots, downAt}
 use Rattle.area.proofs.Puts.{length-puts, octal-puts}
 use Rattle.record.specs.Reading.{decodeOf}
 use Rattle.record.specs.Writing.{hostOctets}
-use Rattle.record.specs.Fit.{Shape, Fit}
+use Rattle.record.specs.Fit.{Fit}
 use Rattle.record.specs.Small.{Small}
 use Rattle.record.specs.Plan.{withHostState}
 use Rattle.record.proofs.Small.{small-decode}

@@ -1,7 +1,7 @@
 -- send: the tests of its rules on numbers, what is known where none applies, and that it is the model's send.
 -- Assumes nothing.
-use Prim.Native.Nat.{ℕ, _+_, _≤_, _<_}
-use mathlib.Core.Path.{_≡_, refl, sym, ap, _∙_, subst}
+use Prim.Native.Nat.{ℕ, _≤_}
+use mathlib.Core.Path.{_≡_, refl, sym, ap, _∙_}
 use mathlib.Core.Bool.{false, not, _||_}
 use mathlib.Core.List.{List, [], _∷_}
 use native.Mathlib.Omega.{arith}
@@ -15,31 +15,26 @@ use Rattle.octets.proofs.Octal.{octal-splice}
 use Rattle.calls.specs.Kinds.{Counts, Record}
 use Rattle.state.specs.Conn.{placeOf, countsOf, handWith}
 use Rattle.state.proofs.Chains.{or-left, or-right}
-use Rattle.area.specs.Map.{areaSize, messageSize, places, handAt}
-use Rattle.area.specs.Ring.{packetsFrom, tab}
+use Rattle.area.specs.Map.{messageSize, places, handAt}
 use Rattle.record.specs.Reading.{decodeOf}
-use Rattle.record.specs.Claims.{stored}
 use Rattle.record.specs.Fit.{Shape, Fit}
 use Rattle.record.specs.Small.{Small}
 use Rattle.record.specs.Plan.{withHand}
 use Rattle.record.proofs.Small.{small-decode}
 use Rattle.record.proofs.Conns.{fit-set, small-set, shape-set}
-use Rattle.record.proofs.Stored.{stored-long, stored-record, stored-judged, stored-octal}
 use Rattle.views.specs.View.{downOf, upOf, view}
 use Rattle.views.specs.Moves.{Sound}
 use Rattle.views.proofs.Whole.{moves}
 use Rattle.views.proofs.Tests.{hand-some}
-use Rattle.views.proofs.Stored.{stored-view}
 use Rattle.model.specs.Effects.{send, taken}
 use Rattle.model.specs.Refusals.{Rule, rule, first, noConn}
 use Rattle.model.specs.calls.Send.{sendRules}
-use Rattle.model.specs.Bench.{act, judged}
-use Rattle.model.specs.Observer.{eventOf}
+use Rattle.model.specs.Bench.{act}
 use Rattle.model.proofs.Order.{need}
-use Rattle.calls.specs.Seen.{Puts, putsAfter, seenBy}
-use Rattle.calls.specs.Refines.{Good, Follows, Along, RefinesTo, Refines}
+use Rattle.calls.specs.Seen.{Puts}
+use Rattle.calls.specs.Refines.{Good, Follows, Along, Refines}
 use Rattle.calls.specs.calls.Push.{hostSide}
-use Rattle.calls.specs.calls.Send.{sentRecord, sentPlace, sentWord, sent, sendCall, Sendable}
+use Rattle.calls.specs.calls.Send.{sentRecord, sentPlace, sent, sendCall, Sendable}
 use Rattle.calls.proofs.Called.{sound-area}
 use Rattle.calls.proofs.Refining.{called-refines}
 use Rattle.calls.proofs.Taken.{added-none, Took, took-refines}

@@ -49,7 +49,11 @@ pub fn refusal(r: Record, gid: u8, oid: u8, payload: &[u8]) -> u8
     let full = crowded(count, n);
     let five = choose(busy, 5, 0);
     let four = choose(full, 4, five);
-    choose((15 < gid) | (63 < oid) | (map::PAYLOAD < payload.len()), 3, four)
+    choose(
+        (15 < gid) | (63 < oid) | (map::PAYLOAD < payload.len()),
+        3,
+        four,
+    )
 }
 
 // The host with the command unanswered.
