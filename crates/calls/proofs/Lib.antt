@@ -11,3 +11,4 @@ pub mod Sending
 pub mod Crediting
 pub mod Changing
 pub mod Replying
+pub mod Commanding

@@ -2,6 +2,8 @@
 -- Assumes nothing.
 use Prim.Native.Nat.{ℕ, _+_, _≤_}
 use mathlib.Core.Path.{_≡_, refl, sym, ap, _∙_, subst}
+use Prim.Native.Nat.{ℕ, _≤_}
+use mathlib.Core.Path.{_≡_, refl, sym, ap, _∙_}
 use mathlib.Core.Bool.{false, not, _||_}
 use mathlib.Core.List.{List, [], _∷_}
 use native.Mathlib.Omega.{arith}
@@ -15,34 +17,29 @@ use Rattle.octets.proofs.Octal.{octal-splice}
 use Rattle.calls.specs.Kinds.{Counts, Record}
 use Rattle.state.specs.Conn.{placeOf, countsOf, handWith}
 use Rattle.state.proofs.Chains.{or-left, or-right}
-use Rattle.area.specs.Map.{areaSize, messageSize, places, handAt}
-use Rattle.area.specs.Ring.{packetsFrom, tab}
+use Rattle.area.specs.Map.{messageSize, places, handAt}
 use Rattle.record.specs.Reading.{decodeOf}
-use Rattle.record.specs.Claims.{stored}
 use Rattle.record.specs.Fit.{Shape, Fit}
 use Rattle.record.specs.Small.{Small}
 use Rattle.record.specs.Plan.{withHand}
 use Rattle.record.proofs.Small.{small-decode}
 use Rattle.record.proofs.Conns.{fit-set, small-set, shape-set}
-use Rattle.record.proofs.Stored.{stored-long, stored-record, stored-judged, stored-octal}
-use Rattle.views.specs.View.{view, viewOf}
+use Rattle.views.specs.View.{downOf, upOf, view}
 use Rattle.views.specs.Moves.{Sound}
 use Rattle.views.proofs.Whole.{moves}
 use Rattle.views.proofs.Tests.{hand-some}
-use Rattle.views.proofs.Stored.{stored-view}
 use Rattle.model.specs.Effects.{send, taken}
 use Rattle.model.specs.Refusals.{Rule, rule, first, noConn}
 use Rattle.model.specs.calls.Send.{sendRules}
-use Rattle.model.specs.Bench.{act, judged}
-use Rattle.model.specs.Observer.{eventOf}
+use Rattle.model.specs.Bench.{act}
 use Rattle.model.proofs.Order.{need}
-use Rattle.calls.specs.Seen.{Puts, putsAfter, seenBy}
-use Rattle.calls.specs.Refines.{Good, Follows, Along, RefinesTo, Refines}
+use Rattle.calls.specs.Seen.{Puts}
+use Rattle.calls.specs.Refines.{Good, Follows, Along, Refines}
 use Rattle.calls.specs.calls.Push.{hostSide}
-use Rattle.calls.specs.calls.Send.{sentRecord, sentPlace, sentWord, sent, sendCall, Sendable}
+use Rattle.calls.specs.calls.Send.{sentRecord, sentPlace, sent, sendCall, Sendable}
 use Rattle.calls.proofs.Called.{sound-area}
-use Rattle.calls.proofs.Words.{word-seen, word-puts}
 use Rattle.calls.proofs.Refining.{called-refines}
+use Rattle.calls.proofs.Taken.{added-none, Took, took-refines}
 
 -- ---- the rules on numbers
 
@@ -101,54 +98,23 @@ module _ (r : Record) (c : ℕ) (m : Octets) (p : Sendable c m) (shape : Shape r
 
 -- ---- a send that is taken
 
-module _ (a out : Octets) (r : Record) (c : ℕ) (m : Octets) (s : Sound a r) (small : Small r) (p : Sendable c m) where
-  moved-long : areaSize ≤ length (sentPlace c m a)
-  moved-long = omega (arith, s .room, length-splice a (handAt (placeOf c)) m)
-
-  fit : Fit (sentRecord r c m)
-  fit = send-fit r c m p (s .shape) (s .fit)
-
-  shape : Shape (sentRecord r c m)
-  shape = send-shape r c m p (s .shape)
-
-  abbrev area : Octets
-  area = stored (sentPlace c m a) (sentRecord r c m)
-
-  after : decodeOf area ≡ sentRecord r c m
-  after = stored-record (sentPlace c m a) (sentRecord r c m) moved-long fit shape
-
-  next-view : viewOf area ≡ act (send c m) (view a r) .next
-  next-view = stored-view (sentPlace c m a) (sentRecord r c m) moved-long fit shape ∙ moves a r s .put-hand c m (p .place) (p .short)
-
-  octets-after : Octal a → Octal m → Octal area
-  octets-after o v = stored-octal (sentPlace c m a) (sentRecord r c m) (octal-splice (handAt (placeOf c)) o v) (send-small r c m p (s .shape) small)
-
-  module _ (q : Puts) (down : Follows (q .down) (r .down)) (up : Follows (q .up) (r .up)) where
-    seen : seenBy (send c m) q (sent r c m a out) ≡ eventOf (send c m) (judged taken (send c m) (view a r))
-    unfolding packetsFrom tab
-    seen = word-seen false false 0 0 0 (omega arith) (omega arith) (omega arith) (send c m) q area out
-
-    along : Along (putsAfter (send c m) q sentWord) area
-    along =
-        subst (λ (x : Puts). Along x area) (sym (word-puts false false 0 0 0 (omega arith) (omega arith) (omega arith) (send c m) q refl))
-        (record {
-          down = subst (λ (x : Record). Follows (q .down + 0) (x .down)) (sym after) (omega (arith, down));
-          up = subst (λ (x : Record). Follows (q .up + 0) (x .up)) (sym after) (omega (arith, up));
-        })
-
-    done : Octal a → Octal m → RefinesTo (send c m) q (sent r c m a out) (judged taken (send c m) (view a r))
-    done o v =
-        record {
-          good =
-              record {
-                long = stored-long (sentPlace c m a) (sentRecord r c m) moved-long;
-                judged = stored-judged (sentPlace c m a) (sentRecord r c m) moved-long fit shape;
-                octal = octets-after o v;
-              };
-          event = seen;
-          next = next-view;
-          along = along;
-        }
+module _ (a out : Octets) (r : Record) (c : ℕ) (m : Octets) (s : Sound a r) (small : Small r) (p : Sendable c m) (q : Puts) where
+  took : Follows (q .down) (r .down) → Follows (q .up) (r .up) → Octal a → Octal m
+      → Took (send c m) q (sentPlace c m a) out (sentRecord r c m) false false 0 0 0 (act (send c m) (view a r))
+  took down up o v =
+      record {
+        long = omega (arith, s .room, length-splice a (handAt (placeOf c)) m);
+        fit = send-fit r c m p (s .shape) (s .fit);
+        shape = send-shape r c m p (s .shape);
+        octal = octal-splice (handAt (placeOf c)) o v;
+        small = send-small r c m p (s .shape) small;
+        short = omega arith;
+        drop = refl;
+        message = refl;
+        next = moves a r s .put-hand c m (p .place) (p .short);
+        toDown = added-none (q .down) (r .down) (downOf a r) down;
+        toUp = added-none (q .up) (r .up) (upOf a r) up;
+      }
 
 -- a send on octets is the model's send
 pub send-refines : (c : ℕ) (m : Octets) (q : Puts) (a out : Octets) → Octal m → Good a → messageSize ≤ length out → Along q a → Refines (send c m) q a (sendCall a out c m)
@@ -157,4 +123,7 @@ send-refines c m q a out v g room al =
     let r : Record = decodeOf a in
     let s : Sound a r = sound-area a (g .long) (g .judged) in
     called-refines (send c m) (sent r c m a out) q a out g room al refl
-    (λ t. done a out r c m s (small-decode a (g .octal)) (send-facts r c m (ap first (sym (send-tests a r c m)) ∙ t)) q (al .down) (al .up) (g .octal) v)
+    (λ t.
+    let p : Sendable c m = send-facts r c m (ap first (sym (send-tests a r c m)) ∙ t) in
+    took-refines (send c m) q (sentPlace c m a) out (sentRecord r c m) false false 0 0 0 (act (send c m) (view a r))
+    (took a out r c m s (small-decode a (g .octal)) p q (al .down) (al .up) (g .octal) v) refl)

@@ -5,9 +5,12 @@ pub use Rattle.packets.specs.declared.Reading.{Reading}
 pub use Rattle.packets.specs.declared.Reading.the-variants as reading
 pub use Rattle.state.specs.declared.kinds.Counts.{Counts}
 pub use Rattle.state.specs.declared.kinds.Hand.{Hand}
+pub use Rattle.state.specs.declared.kinds.Host.{Host}
 pub use Rattle.state.specs.declared.kinds.HostSide.{HostSide}
 pub use Rattle.state.specs.declared.kinds.ControllerSide.{ControllerSide}
 pub use Rattle.state.specs.declared.kinds.Profile.{Profile}
+pub use Rattle.state.specs.declared.kinds.Pending.{Pending}
+pub use Rattle.state.specs.declared.kinds.Pending.the-variants as pending
 pub use Rattle.state.specs.declared.kinds.Record.{Record}
 pub use Rattle.state.specs.declared.kinds.Ring.{Ring}
 pub use Rattle.record.specs.declared.load.Loaded.{Loaded}

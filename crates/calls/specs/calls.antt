@@ -6,3 +6,4 @@ pub mod Send
 pub mod Credit
 pub mod Reply
 pub mod Air
+pub mod Command

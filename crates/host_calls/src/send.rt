@@ -26,7 +26,11 @@ pub fn refusal(r: Record, conn: u8, message: &[u8]) -> u8
     let place = conn::place_of(conn);
     let seven = choose(h.hand.full, 7, 0);
     let six = choose(!h.opened, 6, seven);
-    choose((map::PLACES <= place) | (map::MESSAGE < message.len()), 3, six)
+    choose(
+        (map::PLACES <= place) | (map::MESSAGE < message.len()),
+        3,
+        six,
+    )
 }
 
 // The record after the message was put in hand.

@@ -9,4 +9,4 @@ use Rattle.record.specs.Writing.{pendingOctets, hostOctets}
 
 pub asked-octal : (n : ℕ) (k : Asked) → n ≤ 255 → k .gid ≤ 255 → k .oid ≤ 255 → k .aim ≤ 255 → Octal (hostOctets (record { size = n; pending = pending.Command k }))
 unfolding hostOctets pendingOctets
-asked-octal n k h gid oid aim = octal-cons h (octal-cons (omega arith) (octal-cons gid (octal-cons oid (octal-cons aim octal-nil))))
+asked-octal n k h gid oid aim = octal-cons h (octal-cons {x = 1} (omega arith) (octal-cons gid (octal-cons oid (octal-cons aim octal-nil))))
