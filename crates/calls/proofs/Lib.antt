@@ -1,4 +1,10 @@
 pub mod Rules
 pub mod Called
+pub mod Words
 pub mod Refining
+pub mod Taken
 pub mod Pushing
+pub mod Deciding
+pub mod Answering
+pub mod Asking
+pub mod Downing

@@ -42,3 +42,7 @@ lowest (r ∷ rs) = pick (r .test) (r .number) (lowest rs)
 -- n is that number, whatever octets the area has: of rules that look at the record alone
 abbrev pub Lowest : (Octets → List Rule) → ℕ → Type 0
 Lowest rs n = (a : Octets) → n ≡ lowest (rs a)
+
+-- a call that hands out no message answers w and leaves the area a, and that is o, whatever buffer is lent: it keeps its own
+abbrev pub ComesTo : ℕ → Octets → (Octets → Outcome) → Type 0
+ComesTo w a o = (out : Octets) → outcome w a out ≡ o out

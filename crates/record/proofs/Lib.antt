@@ -7,3 +7,4 @@ pub mod Conns
 pub mod Stored
 pub mod Outside
 pub mod Claims
+pub mod Controllers

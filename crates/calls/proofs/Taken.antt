@@ -1,0 +1,131 @@
+-- How a call that is taken is shown to be the model's, once for all calls but fresh and power: from the area and the record after it, its
+-- word, and what the model does.
+-- Assumes nothing.
+use Prim.Native.Nat.{ℕ, _+_, _≤_, _<_}
+use native.Mathlib.Omega.{arith}
+use mathlib.Core.Path.{_≡_, refl, sym, ap, _∙_, subst}
+use mathlib.Core.Bool.{Bool, false}
+use mathlib.Core.List.{List, [], _∷_, _++_, append-nil}
+use lib.ListN.{length, length-append}
+use Rattle.octets.specs.Octets.{Octets, pick, cut}
+use Rattle.octets.specs.Octal.{Octal}
+use Rattle.calls.specs.Kinds.{Ring, Record}
+use Rattle.area.specs.Map.{areaSize, downAt, upAt, wireSlots}
+use Rattle.area.specs.Ring.{packetsFrom, packetsIn}
+use Rattle.area.proofs.Rings.{length-packets}
+use Rattle.record.specs.Reading.{decodeOf}
+use Rattle.record.specs.Claims.{stored}
+use Rattle.record.specs.Fit.{Shape, Fit, FitRing}
+use Rattle.record.specs.Small.{Small}
+use Rattle.record.proofs.Stored.{stored-long, stored-record, stored-judged, stored-octal}
+use Rattle.views.specs.View.{view, viewOf}
+use Rattle.views.proofs.Stored.{stored-view}
+use Rattle.model.specs.State.{State}
+use Rattle.model.specs.Effects.{Call, Effect, taken}
+use Rattle.calls.specs.Word.{wordOf}
+use Rattle.calls.specs.Outcome.{outcome}
+use Rattle.calls.specs.Seen.{Puts, starts}
+use Rattle.calls.specs.Refines.{Follows, Along, RefinesTo}
+use Rattle.calls.proofs.Words.{word-seen, word-puts}
+use Rattle.calls.proofs.Refining.{puts-seen}
+
+-- ---- a wire
+
+-- a wire whose ring is k now and whose packets are w: m packets ps were put last, after p others since the last fresh or power
+pub record Added (p m : ℕ) (k : Ring) (w ps : List Octets) : Type 0 where
+  pub follows : Follows (p + m) k
+  pub before : List Octets
+  pub split : w ≡ before ++ ps
+  pub many : length ps ≡ m
+
+pub added-none : (p : ℕ) (k : Ring) (w : List Octets) → Follows p k → Added p 0 k w []
+added-none p k w f = record { follows = omega (arith, f); before = w; split = sym (append-nil w); many = refl }
+
+-- k: the ring before, from which the first packet may have been taken
+pub added-one : (p : ℕ) (k : Ring) (before : List Octets) (x : Octets) → Follows p k
+    → Added p 1 (record { head = k .head; count = k .count + 1 }) (before ++ (x ∷ [])) (x ∷ [])
+added-one p k before x f = record { follows = omega (arith, f); before = before; split = refl; many = refl }
+
+module _ (base : ℕ) (b : Octets) (p m : ℕ) (k : Ring) (w ps : List Octets) (x : Added p m k w ps) (e : packetsIn base wireSlots b k ≡ w) where
+  parts : k .count ≡ length (x .before) + m
+  parts =
+      sym (length-packets base wireSlots b k) ∙ ap length (e ∙ x .split) ∙ length-append (x .before) ps
+      ∙ ap (λ (n : ℕ). length (x .before) + n) (x .many)
+
+  -- they are seen in the slots that follow those of the others
+  added-seen : packetsFrom base wireSlots b p m ≡ ps
+  added-seen =
+      puts-seen base b (record { head = k .head; count = length (x .before) }) k p m (x .before) ps (omega (arith, x .follows, parts)) refl parts refl (e ∙ x .split)
+
+  added-few : FitRing wireSlots k → m < 256
+  added-few f = omega (arith, f .count, parts)
+
+-- ---- a call
+
+module _ (c : Call) (q : Puts) (x t : Octets) (n : Record) where
+  -- x: the area before the record n is written, t: the message buffer; the word's parts, and what the model does
+  pub record Took (d h : Bool) (len down up : ℕ) (e : Effect) : Type 0 where
+    pub long : areaSize ≤ length x
+    pub fit : Fit n
+    pub shape : Shape n
+    pub octal : Octal x
+    pub small : Small n
+    pub short : len < 65536
+    pub drop : d ≡ e .drop
+    pub message : pick h (cut 0 len t ∷ []) [] ≡ e .message
+    pub next : view x n ≡ e .next
+    pub toDown : Added (q .down) down (n .down) (e .next .down) (e .toDown)
+    pub toUp : Added (q .up) up (n .up) (e .next .up) (e .toUp)
+
+  module _ (d h : Bool) (len down up : ℕ) (e : Effect) (k : Took d h len down up e) where
+    abbrev area : Octets
+    area = stored x n
+
+    after : decodeOf area ≡ n
+    after = stored-record x n (k .long) (k .fit) (k .shape)
+
+    next-view : viewOf area ≡ e .next
+    next-view = stored-view x n (k .long) (k .fit) (k .shape) ∙ k .next
+
+    fits : Fit (decodeOf area)
+    fits = subst Fit (sym after) (k .fit)
+
+    downs : Added (q .down) down (decodeOf area .down) (e .next .down) (e .toDown)
+    downs = subst (λ (y : Record). Added (q .down) down (y .down) (e .next .down) (e .toDown)) (sym after) (k .toDown)
+
+    ups : Added (q .up) up (decodeOf area .up) (e .next .up) (e .toUp)
+    ups = subst (λ (y : Record). Added (q .up) up (y .up) (e .next .up) (e .toUp)) (sym after) (k .toUp)
+
+    on-down : packetsIn downAt wireSlots area (decodeOf area .down) ≡ e .next .down
+    on-down = ap (λ (s : State). s .down) next-view
+
+    on-up : packetsIn upAt wireSlots area (decodeOf area .up) ≡ e .next .up
+    on-up = ap (λ (s : State). s .up) next-view
+
+    pub took-refines : starts c ≡ false → RefinesTo c q (outcome (wordOf d h len down up) area t) (record { answer = taken; effect = e })
+    took-refines still =
+        let few-down = added-few downAt area (q .down) down (decodeOf area .down) (e .next .down) (e .toDown) downs on-down (fits .down) in
+        let few-up = added-few upAt area (q .up) up (decodeOf area .up) (e .next .up) (e .toUp) ups on-up (fits .up) in
+        record {
+          good =
+              record {
+                long = stored-long x n (k .long);
+                judged = stored-judged x n (k .long) (k .fit) (k .shape);
+                octal = stored-octal x n (k .octal) (k .small);
+              };
+          event =
+              word-seen d h len down up (k .short) few-down few-up c q area t
+              ∙ (λ i.
+              record {
+                call = c;
+                answer = taken;
+                dropped = k .drop i;
+                toDown = added-seen downAt area (q .down) down (decodeOf area .down) (e .next .down) (e .toDown) downs on-down i;
+                toUp = added-seen upAt area (q .up) up (decodeOf area .up) (e .next .up) (e .toUp) ups on-up i;
+                message = k .message i;
+              });
+          next = next-view;
+          along =
+              subst (λ (p : Puts). Along p area) (sym (word-puts d h len down up (k .short) few-down few-up c q still))
+              (record { down = downs .follows; up = ups .follows });
+        }
