@@ -45,7 +45,7 @@ pub note-packet : (mt : ℕ) (out after : Octets) (m : Message) (note : Note) �
     → notePacket mt note after ≡ packetOf (controlHeader mt (m .gid) (m .oid)) (m .payload)
 note-packet mt out after m note p room =
     (λ i. notePacket mt (p .head i) (p .octets i))
-    ∙ ap (packetOf (controlHeader mt (m .gid) (m .oid))) (cut-same out 0 (m .payload) room)
+    ∙ ap (packetOf (controlHeader mt (m .gid) (m .oid))) (cut-same out 0 (m .payload) (omega arith))
 
 pub note-length : (out after : Octets) (m : Message) (note : Note) → Put out m note after → note .len ≡ length (m .payload)
 note-length out after m note p = ap (λ (x : Note). x .len) (p .head)

@@ -136,7 +136,7 @@ module _ (a out : Octets) (t : Record) (s : Sound a t) (small : Small t) (o : Oc
               host = small .own .host;
               hearing = small .own .hearing;
               controller = small .own .controller;
-              asking = control-octal (t .ends .asking) h n ranged;
+              asking = control-octal (t .ends .asking) h n (omega (arith, ranged .mt)) (omega (arith, ranged .id)) (omega (arith, ranged .oid));
             };
         conns = small .conns;
       }

@@ -20,6 +20,7 @@ use Rattle.state.specs.Radio.{isIdle}
 use Rattle.state.proofs.Chains.{on}
 use Rattle.state.proofs.Places.{dynamic-place}
 use Rattle.state.proofs.Small.{SmallVerdict}
+use Rattle.state.proofs.Steady.{Steady}
 use Rattle.nfcc.specs.Controller.{turned, controllerAfter, connsAfter, endpointAfter}
 use Rattle.nfcc.proofs.Verdicts.{Fits, judge-fits, after-steady, judge-small}
 use Rattle.ends.specs.Changes.{Change, stays, opens, closes, gives, changeBy, countsAtController, endpointBy}
@@ -35,10 +36,10 @@ use Rattle.record.proofs.Controllers.{steady-fits, fits-steady}
 use Rattle.record.proofs.Small.{SmallController, profile-terms, controller-parts, controller-octal, bare-octal, chosen-octal, none-octal}
 use Rattle.views.specs.View.{view}
 use Rattle.views.specs.Moves.{Sound}
-use Rattle.views.proofs.Controllers.{controllers-changed}
 use Rattle.model.specs.Connection.{closedController, withController}
 use Rattle.model.specs.State as bench
 use Rattle.model.specs.Changes.{atController}
+use Rattle.calls.proofs.Controllers.{controllers-changed}
 
 -- ---- one connection after a change at the controller
 
@@ -150,6 +151,7 @@ module _ (a : Octets) (t : Record) (s : Sound a t) (small : Small t) (gid oid : 
   counts : (d : ℕ) → placeOf d < places → countsOf (connsAfter (t .ends .conns) v) d ≡ countsAtController (changeBy v d) (countsOf (t .ends .conns) d)
   counts d p = counts-after (t .ends .conns) d (s .shape .conns) p v
 
+  steady-after : Steady (controllerAfter (t .ends .controller) v)
   steady-after =
       after-steady gid oid (getD m 0 0 % 16) (t .ends .profile) (t .ends .controller) v fits
       (fits-steady (t .ends .controller) (s .fit .own .controller) (s .shape .pairs))

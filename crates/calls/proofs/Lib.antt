@@ -4,6 +4,7 @@ pub mod Words
 pub mod Refining
 pub mod Taken
 pub mod Pushing
+pub mod Controllers
 pub mod Deciding
 pub mod Answering
 pub mod Asking

@@ -10,6 +10,5 @@ pub mod Whole
 pub mod Stored
 pub mod Tests
 pub mod Changed
-pub mod Controllers
 pub mod Answers
 pub mod Taken

@@ -3,9 +3,8 @@
 use Prim.Native.Nat.{ℕ, _+_, _%_, _≤_, _<_}
 use native.Mathlib.Omega.{arith}
 use Rattle.octets.specs.Octal.{Octal, octal-cons}
-use Rattle.packets.specs.declared.Header.{Header}
-use Rattle.packets.proofs.Packet.{Ranged}
 use Rattle.views.specs.Kinds.{Ring, ControlRun}
+use Rattle.state.specs.Kinds.{Header}
 use Rattle.state.specs.Runs.{controlLimit, runFor, joinedOf, controlJoined}
 use Rattle.area.specs.Map.{wireSlots}
 use Rattle.area.specs.Ring.{tookFrom}
@@ -17,8 +16,7 @@ pub wire-took : (k : Ring) → FitRing wireSlots k → FitRing wireSlots (tookFr
 wire-took k f = record { head = omega arith; count = omega (arith, f .count) }
 
 -- the message that a run is of is that of its packet's header
-pub control-octal : (k : ControlRun) (h : Header) (n : ℕ) → Ranged h → Octal (controlRunOctets (controlJoined k h n .next))
+pub control-octal : (k : ControlRun) (h : Header) (n : ℕ) → h .mt ≤ 255 → h .id ≤ 255 → h .oid ≤ 255 → Octal (controlRunOctets (controlJoined k h n .next))
 unfolding controlJoined controlRunOctets
-control-octal k h n r =
-    octal-cons (omega (arith, r .mt))
-    (octal-cons (omega (arith, r .id)) (octal-cons (omega (arith, r .oid)) (octal-progress (joinedOf controlLimit (runFor k h) (h .pbf) n .next))))
+control-octal k h n mt id oid =
+    octal-cons mt (octal-cons id (octal-cons oid (octal-progress (joinedOf controlLimit (runFor k h) (h .pbf) n .next))))
