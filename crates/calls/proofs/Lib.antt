@@ -12,3 +12,8 @@ pub mod Crediting
 pub mod Changing
 pub mod Replying
 pub mod Commanding
+pub mod Controllers
+pub mod Deciding
+pub mod Answering
+pub mod Asking
+pub mod Downing

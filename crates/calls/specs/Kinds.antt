@@ -14,3 +14,7 @@ pub use Rattle.state.specs.declared.kinds.Pending.the-variants as pending
 pub use Rattle.state.specs.declared.kinds.Record.{Record}
 pub use Rattle.state.specs.declared.kinds.Ring.{Ring}
 pub use Rattle.record.specs.declared.load.Loaded.{Loaded}
+pub use Rattle.state.specs.declared.runs.ControlJoined.{ControlJoined}
+pub use Rattle.state.specs.declared.verdict.Verdict.{Verdict}
+pub use Rattle.messages.specs.declared.layout.Note.{Note}
+pub use Rattle.state.specs.declared.kinds.ControlRun.{ControlRun}

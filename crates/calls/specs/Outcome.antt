@@ -49,3 +49,7 @@ Lowest rs n = (a : Octets) → n ≡ lowest (rs a)
 pub record Enters (a : Octets) (room : ℕ) (l : Loaded) : Type 0 where
   pub answer : l .answer ≡ lowest (entryRules a room)
   pub loads : l .answer ≡ 0 → l .«record» ≡ decodeOf a
+
+-- a call that hands out no message answers w and leaves the area a, and that is o, whatever buffer is lent: it keeps its own
+abbrev pub ComesTo : ℕ → Octets → (Octets → Outcome) → Type 0
+ComesTo w a o = (out : Octets) → outcome w a out ≡ o out

@@ -7,3 +7,4 @@ pub mod Credit
 pub mod Reply
 pub mod Air
 pub mod Command
+pub mod Down

@@ -2,3 +2,4 @@
 // defined in calls/specs.
 pub mod credit;
 pub mod reply;
+pub mod down;

@@ -9,6 +9,8 @@ use lib.Dec.{eqb, ltb, leb}
 use lib.ListN.{length, getD}
 use borrow.Author.Tests.{eqb-true, ltb-true, ltb-false, leb-true, not-true}
 use Rattle.octets.specs.Octets.{Octets}
+use Rattle.octets.specs.Octal.{Octal}
+use Rattle.octets.proofs.Octal.{octal-at}
 use Rattle.nfcc.specs.Kinds.{Profile, Controller, Pair, Pairs, Rf, Command, Verdict}
 use Rattle.nfcc.specs.Kinds.selection.{Nothing}
 use Rattle.nfcc.specs.Kinds.rf.{Idle, Discovery, W4AllDiscoveries, W4HostSelect, PollActive, ListenActive, ListenSleep}
@@ -19,6 +21,7 @@ use Rattle.state.specs.Commands.{commandOf}
 use Rattle.state.specs.Radio.{isIdle, isActive, listed}
 use Rattle.state.proofs.Chains.{on, and-left, and-right}
 use Rattle.state.proofs.Steady.{Steady}
+use Rattle.state.proofs.SmallVerdicts.{Bare, SmallTerms, SmallVerdict}
 use Rattle.nfcc.specs.Controller.{shortest, allowed, resetBy, after, seek, nextId, createBy, closeBy, configsOk, discoverBy, selectBy, sleepRejected, restState, deactivateBy, valuesOf, judgeOf, turned, controllerAfter}
 
 -- ---- which command a GID and an OID name
@@ -268,3 +271,57 @@ after-steady gid oid aim p k (verdict.Closes c) f m = m
 after-steady gid oid aim p k (verdict.Turns rf) f m = turned-steady k rf m
 after-steady gid oid aim p k (verdict.Selects pair) f m = turned-steady k _ m
 after-steady gid oid aim p k (verdict.Deactivates type rf) f m = turned-steady k rf m
+
+-- ---- what a verdict carries is octets, where the command's and the profile's are
+
+rest-bare : (type : ℕ) (asleep : Rf) → Bare asleep → Bare (restState type asleep)
+rest-bare type asleep h = on Bare (eqb type 0) (λ e. tt) (λ e. on Bare (eqb type 3) (λ e. tt) (λ e. h))
+
+select-small : (rf : Rf) (ps : Pairs) (x : Pair) (interface : ℕ) → (x .id ≤ 255) × (x .protocol ≤ 255) → SmallVerdict (selectBy rf ps x interface)
+select-small Idle ps x interface h = omega arith
+select-small Discovery ps x interface h = omega arith
+select-small W4AllDiscoveries ps x interface h = omega arith
+select-small (W4HostSelect s) ps x interface h = on SmallVerdict (listed ps x && eqb interface 0x01) (λ e. h) (λ e. omega arith)
+select-small (PollActive a) ps x interface h = omega arith
+select-small (ListenActive a) ps x interface h = omega arith
+select-small ListenSleep ps x interface h = omega arith
+
+deactivate-small : (rf : Rf) (type : ℕ) → type ≤ 255 → SmallVerdict (deactivateBy rf type)
+unfolding deactivateBy
+deactivate-small Idle type h = omega arith
+deactivate-small Discovery type h = tt
+deactivate-small W4AllDiscoveries type h = tt
+deactivate-small (W4HostSelect s) type h = tt
+deactivate-small (PollActive a) type h = on SmallVerdict (ltb 3 type) (λ e. omega arith) (λ e. (h, rest-bare type (W4HostSelect Nothing) tt))
+deactivate-small (ListenActive a) type h =
+    on SmallVerdict (ltb 3 type) (λ e. omega arith)
+    (λ e. on SmallVerdict (sleepRejected a type) (λ r. omega arith) (λ r. (h, rest-bare type ListenSleep tt)))
+deactivate-small ListenSleep type h =
+    on SmallVerdict (ltb 3 type) (λ e. omega arith) (λ e. on SmallVerdict (eqb type 0) (λ z. tt) (λ z. omega arith))
+
+module _ (p : Profile) (k : Controller) (isOpen : ℕ → Bool) (m : Octets) (o : Octal m) (terms : (c : ℕ) → SmallTerms (termsOf p c)) where
+  values-small : (c : Command) → SmallVerdict (valuesOf p k isOpen c m)
+  unfolding resetBy createBy closeBy discoverBy
+  values-small command.Reset = on SmallVerdict (ltb 1 (getD m 0 0)) (λ e. omega arith) (λ e. octal-at o 0)
+  values-small command.Init = tt
+  values-small command.ConnCreate =
+      on SmallVerdict (eqb (getD m 0 0) 0x01 && eqb (getD m 1 0) 0x00)
+      (λ e. on SmallVerdict (eqb (nextId isOpen (k .given)) 0) (λ z. omega arith)
+      (λ z. let r = next-given isOpen (k .given) z in (omega arith, terms (nextId isOpen (k .given)))))
+      (λ e. omega arith)
+  values-small command.ConnClose =
+      on SmallVerdict (not (eqb (getD m 0 0 % 16) 0) && isOpen (getD m 0 0 % 16)) (λ e. tt) (λ e. omega arith)
+  values-small command.Discover =
+      on SmallVerdict (isIdle (k .rf))
+      (λ e. on SmallVerdict (leb (getD m 0 0) 8 && configsOk m (getD m 0 0)) (λ e. tt) (λ e. omega arith)) (λ e. omega arith)
+  values-small command.Select =
+      select-small (k .rf) (k .pairs) (record { id = getD m 0 0; protocol = getD m 1 0 }) (getD m 2 0) (octal-at o 0, octal-at o 1)
+  values-small command.Deactivate = deactivate-small (k .rf) (getD m 0 0) (octal-at o 0)
+  values-small command.Unknown = omega arith
+
+  pub judge-small : (gid oid : ℕ) → SmallVerdict (judgeOf p k isOpen gid oid m)
+  unfolding judgeOf
+  judge-small gid oid =
+      let c = commandOf gid oid in
+      on SmallVerdict (ltb (length m) (shortest c m)) (λ e. omega arith)
+      (λ e. on SmallVerdict (allowed (k .phase) c) (λ a. values-small c) (λ a. omega arith))

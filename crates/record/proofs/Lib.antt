@@ -8,3 +8,4 @@ pub mod Stored
 pub mod Outside
 pub mod Claims
 pub mod Asked
+pub mod Controllers

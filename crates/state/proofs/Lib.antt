@@ -5,3 +5,4 @@ pub mod Limits
 pub mod Conns
 pub mod Steady
 pub mod Small
+pub mod SmallVerdicts

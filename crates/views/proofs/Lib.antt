@@ -4,8 +4,11 @@ pub mod Runs
 pub mod Moved
 pub mod Places
 pub mod Others
+pub mod Controls
 pub mod Commands
 pub mod Whole
 pub mod Stored
 pub mod Tests
 pub mod Changed
+pub mod Answers
+pub mod Taken

@@ -1,0 +1,142 @@
+-- A whole command is answered on octets as in the model: the verdict, the two ends after it, and the packets that go up.
+-- Assumes nothing.
+use Prim.Native.Nat.{ℕ, _+_, _≤_, _<_}
+use native.Mathlib.Omega.{arith}
+use mathlib.Core.Path.{_≡_, refl, sym, ap, _∙_}
+use mathlib.Core.Bool.{Bool, true, false}
+use mathlib.Core.List.{List, [], _∷_, _++_}
+use lib.ListN.{length}
+use lib.Dec.{eqb}
+use Rattle.octets.specs.Octets.{Octets, pick, cut, splice}
+use Rattle.octets.specs.Octal.{Octal}
+use Rattle.octets.proofs.Octets.{cut-same}
+use Rattle.packets.specs.Packet.{packetOf}
+use Rattle.packets.specs.Headers.{controlHeader}
+use Rattle.calls.specs.Kinds.{Header, Record, Verdict, Note}
+use Rattle.state.specs.Conn.{openAt}
+use Rattle.state.proofs.Chains.{on}
+use Rattle.nfcc.specs.Controller.{judgeOf}
+use Rattle.messages.specs.Layout.{Message, Put, responseOf, responseMessage, noticeMessage}
+use Rattle.messages.specs.Packets.{responsePacket, noticePacket, noticePackets}
+use Rattle.messages.proofs.Lengths.{response-short, notice-short}
+use Rattle.messages.proofs.Small.{response-octal, notice-octal}
+use Rattle.ends.specs.Steps.{verdictOf}
+use Rattle.area.specs.Map.{areaSize, wireSlots}
+use Rattle.record.specs.Fit.{Shape, Fit}
+use Rattle.record.specs.Small.{Small}
+use Rattle.record.proofs.Small.{profile-control}
+use Rattle.views.specs.View.{upOf, view}
+use Rattle.views.specs.Moves.{Sound}
+use Rattle.views.proofs.Answers.{Writes, Each, puts-up, puts-long, puts-octal}
+use Rattle.model.specs.State as bench
+use Rattle.model.specs.State.{isOpen}
+use Rattle.model.specs.Effects.{Effect, down, taken}
+use Rattle.model.specs.calls.Down.{answers, deciding}
+use Rattle.calls.specs.Seen.{Puts}
+use Rattle.calls.specs.Refines.{Follows, RefinesTo}
+use Rattle.calls.specs.calls.Down.{notePacket, notePackets, answersTo, answeredRecord, answeredArea, answeredBy, answered}
+use Rattle.calls.proofs.Taken.{added-none, took-refines}
+use Rattle.calls.proofs.Deciding.{verdict-small, decided-shape, decided-fit, decided-small, decided-sound, decided-view}
+
+-- ---- messages as packets
+
+-- a message that was written over the front of a buffer with room for it goes as the packet that it is
+pub note-packet : (mt : ℕ) (out after : Octets) (m : Message) (note : Note) → Put out m note after → length (m .payload) ≤ length out
+    → notePacket mt note after ≡ packetOf (controlHeader mt (m .gid) (m .oid)) (m .payload)
+note-packet mt out after m note p room =
+    (λ i. notePacket mt (p .head i) (p .octets i))
+    ∙ ap (packetOf (controlHeader mt (m .gid) (m .oid))) (cut-same out 0 (m .payload) (omega arith))
+
+pub note-length : (out after : Octets) (m : Message) (note : Note) → Put out m note after → note .len ≡ length (m .payload)
+note-length out after m note p = ap (λ (x : Note). x .len) (p .head)
+
+-- the answer: the response, and the notification after it where there is one
+pub note-packets : (out after out′ after′ : Octets) (m m′ : Message) (note note′ : Note) → Put out m note after → Put out′ m′ note′ after′
+    → length (m .payload) ≤ length out → length (m′ .payload) ≤ length out′
+    → notePackets note after note′ after′ ≡ responsePacket m ∷ noticePackets m′
+note-packets out after out′ after′ m m′ note note′ p q room room′ i =
+    note-packet 2 out after m note p room i
+    ∷ pick (eqb (note-length out′ after′ m′ note′ q i) 0) [] (note-packet 3 out′ after′ m′ note′ q room′ i ∷ [])
+
+-- at most two, each of octets and short enough for a slot
+answers-few : (gid oid : ℕ) (t : Record) (v : Verdict) → length (answers gid oid (t .ends .profile) v) ≤ 2
+answers-few gid oid t v =
+    on (λ (l : List Octets). length (responsePacket (responseMessage gid oid (t .ends .profile) v) ∷ l) ≤ 2) (eqb (length (noticeMessage v .payload)) 0) (λ _. omega arith) (λ _. omega arith)
+
+-- ---- the command is answered
+
+module _ (a out : Octets) (t : Record) (s : Sound a t) (small : Small t) (o : Octal a) (h : Header) (m : Octets) (om : Octal m) (two : t .up .count + 2 ≤ wireSlots) where
+  abbrev v : Verdict
+  v = verdictOf (t .ends) (h .id) (h .oid) m
+
+  abbrev ps : List Octets
+  ps = answersTo t h v
+
+  few : length ps ≤ 2
+  few = answers-few (h .id) (h .oid) t v
+
+  writes : Each ps
+  writes =
+      let w = verdict-small a t s small (h .id) (h .oid) m om in
+      (record {
+        header = controlHeader 2 (h .id) (h .oid);
+        payload = responseOf (t .ends .profile) v;
+        is = refl;
+        short = response-short (t .ends .profile) v;
+        octal = response-octal (t .ends .profile) v (profile-control (t .ends .profile) (small .own .profile)) w;
+      },
+      on Each (eqb (length (noticeMessage v .payload)) 0) (λ _. tt)
+      (λ _.
+      (record {
+        header = controlHeader 3 (noticeMessage v .gid) (noticeMessage v .oid);
+        payload = noticeMessage v .payload;
+        is = refl;
+        short = notice-short v;
+        octal = notice-octal v w;
+      },
+      tt)))
+
+
+  next-fit : Fit (answeredRecord t h v)
+  next-fit =
+      let f = decided-fit a t s small (h .id) (h .oid) m om in
+      record { down = f .down; up = record { head = f .up .head; count = omega (arith, few, two) }; own = f .own; conns = f .conns }
+
+  next-shape : Shape (answeredRecord t h v)
+  next-shape = let f = decided-shape a t s small (h .id) (h .oid) m om in record { pairs = f .pairs; conns = f .conns }
+
+  next-small : Small (answeredRecord t h v)
+  next-small = let f = decided-small a t s small (h .id) (h .oid) m om in record { own = f .own; conns = f .conns }
+
+  abbrev effect : Effect
+  effect = deciding (h .id) (h .oid) v (view a t)
+
+  next-view : view (answeredArea t h v a) (answeredRecord t h v) ≡ effect .next
+  next-view =
+      let d = decided-view a t s small (h .id) (h .oid) m om in
+      puts-up ps a _ (decided-sound a t s small (h .id) (h .oid) m om) writes (omega (arith, few, two))
+      ∙ (λ i. bench.withUp (d i .up ++ ps) (d i))
+
+  -- which connections are open at the controller is the same question to the record and to the model
+  pub same-verdict : judgeOf (view a t .profile) (view a t .controller) (isOpen (view a t)) (h .id) (h .oid) m ≡ v
+  unfolding openAt
+  same-verdict = refl
+
+  pub answered-refines : (q : Puts) → Follows (q .down) (t .down) → Follows (q .up) (t .up)
+      → RefinesTo down q (answered t h m a out) (record { answer = taken; effect = effect })
+  answered-refines q fd fu =
+      took-refines down q (answeredArea t h v a) out (answeredRecord t h v) false false 0 0 (length ps) effect
+      (record {
+        long = omega (arith, s .room, puts-long ps a (t .up));
+        fit = next-fit;
+        shape = next-shape;
+        octal = puts-octal ps a (t .up) writes o;
+        small = next-small;
+        short = omega arith;
+        drop = refl;
+        message = refl;
+        next = next-view;
+        toDown = added-none (q .down) (t .down) (effect .next .down) fd;
+        toUp = record { follows = omega (arith, fu); before = upOf a t; split = refl; many = refl };
+      })
+      refl
