@@ -1,4 +1,11 @@
 pub mod Rules
 pub mod Called
+pub mod Words
 pub mod Refining
 pub mod Pushing
+pub mod Quiet
+pub mod Heeding
+pub mod Upping
+pub mod Receiving
+pub mod Controlling
+pub mod Coming

@@ -4,9 +4,17 @@ pub use Rattle.packets.specs.declared.Header.{Header}
 pub use Rattle.packets.specs.declared.Reading.{Reading}
 pub use Rattle.packets.specs.declared.Reading.the-variants as reading
 pub use Rattle.state.specs.declared.kinds.Counts.{Counts}
+pub use Rattle.state.specs.declared.kinds.Ends.{Ends}
 pub use Rattle.state.specs.declared.kinds.Hand.{Hand}
 pub use Rattle.state.specs.declared.kinds.HostSide.{HostSide}
 pub use Rattle.state.specs.declared.kinds.ControllerSide.{ControllerSide}
 pub use Rattle.state.specs.declared.kinds.Record.{Record}
 pub use Rattle.state.specs.declared.kinds.Ring.{Ring}
+pub use Rattle.state.specs.declared.runs.ControlJoined.{ControlJoined}
+pub use Rattle.state.specs.declared.runs.Joined.{Joined}
+pub use Rattle.dh.specs.declared.host.Answer.{Answer}
+pub use Rattle.dh.specs.declared.host.Answer.the-variants as answer
+pub use Rattle.dh.specs.declared.host.Heard.{Heard}
+pub use Rattle.dh.specs.declared.host.Heard.the-variants as heard
+pub use Rattle.ends.specs.declared.message.Heeded.{Heeded}
 pub use Rattle.record.specs.declared.load.Loaded.{Loaded}

@@ -4,7 +4,7 @@ use Prim.Native.Nat.{ℕ, _+_, _-_, _/_, _%_, _≤_, _<_}
 use native.Mathlib.Nat.{le-of-suc-le-suc, not-suc-le-zero}
 use native.Mathlib.Decide.{decLe}
 use native.Mathlib.Omega.{arith}
-use mathlib.Core.Path.{_≡_, ap, _∙_}
+use mathlib.Core.Path.{_≡_, sym, ap, _∙_, subst}
 use mathlib.Core.Bool.{Bool, true, false}
 use mathlib.Core.List.{[], _∷_, _++_}
 use lib.ListN.{length, getD, drop, set}
@@ -15,7 +15,7 @@ use Rattle.octets.specs.Octal.{Octal, octal-cons}
 use Rattle.octets.proofs.Octets.{splice-front}
 use Rattle.packets.specs.declared.Header.{Header}
 use Rattle.packets.specs.declared.Reading.the-variants.{Packet, Drop}
-use Rattle.packets.specs.Packet.{octet0, octet1, packetOf, headerOf, readOf, slotAfter, sizeAfter}
+use Rattle.packets.specs.Packet.{octet0, octet1, packetOf, oidOf, headerOf, readOf, slotAfter, sizeAfter}
 
 -- ---- packetOf
 
@@ -83,6 +83,27 @@ module _ (p : Octets) (h : Header) (n : ℕ) where
       go (yes a) (no b) (yes c) =
           let whole = read-whole p a (omega arith) c in
           record { long = a; known = omega arith; room = c; header = cc; size = cc }
+
+-- the fields of a header that was read are in their ranges
+pub record Ranged (h : Header) : Type 0 where
+  pub mt : h .mt < 4
+  pub id : h .id < 16
+  pub oid : h .oid < 64
+
+oid-small : (mt second : ℕ) → oidOf mt second < 64
+unfolding oidOf
+oid-small mt second = go (eqb mt 0)
+  where
+    go : (b : Bool) → pick b 0 (second % 64) < 64
+    go true = omega arith
+    go false = omega arith
+
+pub read-ranged : (p : Octets) (h : Header) (n : ℕ) → readOf p ≡ Packet h n → Ranged h
+unfolding headerOf
+read-ranged p h n e =
+    let f = read-facts p h n e in
+    subst Ranged (sym (f .header))
+    (record { mt = f .known; id = omega arith; oid = oid-small (getD p 0 0 / 32) (getD p 1 0) })
 
 -- ---- slotAfter, sizeAfter
 

@@ -2,8 +2,9 @@
 -- Assumes nothing.
 use Prim.Native.Nat.{ℕ, zero, suc, _≤_, _<_}
 use native.Mathlib.Omega.{arith}
-use mathlib.Core.Path.{_≡_, refl, sym, subst}
-use mathlib.Core.Bool.{Bool, true, false}
+use native.Mathlib.Decide.{decLt}
+use mathlib.Core.Path.{_≡_, refl, sym, ap, _∙_, subst}
+use mathlib.Core.Bool.{Bool, true, false, false≢true}
 use mathlib.Core.List.{List, [], _∷_}
 use lib.ListN.{length, getD, set, List·getD-eq-default, length-set}
 use lib.Seq.{getD-set-same, getD-set-other}
@@ -11,7 +12,7 @@ use lib.Dec.{eqb}
 use borrow.Author.Tests.{eqb-true, eqb-false}
 use Rattle.octets.specs.Octets.{pick}
 use Rattle.state.specs.Kinds.{Counts}
-use Rattle.state.specs.Conn.{placeOf, connOf, closedCounts, countsOf}
+use Rattle.state.specs.Conn.{placeOf, connOf, closedCounts, countsOf, openAt, heldOpen}
 use Rattle.state.proofs.Places.{conn-place, places-differ}
 
 -- five steps, one for each connection
@@ -22,6 +23,24 @@ five f x a b c d e p q r s t = rw (t, s, r, q, p)
 -- past the five places every connection is closed
 pub past-five : (conns : List Counts) (p : ℕ) → length conns ≡ 5 → (p < 5 → ⊥) → getD conns p closedCounts ≡ closedCounts
 past-five conns p n h = let past : length conns ≤ p = omega arith in List·getD-eq-default conns closedCounts past
+
+-- a connection that is open at the controller has a place
+pub open-place : (conns : List Counts) (c : ℕ) → length conns ≡ 5 → openAt conns c ≡ true → placeOf c < 5
+unfolding openAt
+open-place conns c n e = go (decLt (placeOf c) 5)
+  where
+    go : Dec (placeOf c < 5) → placeOf c < 5
+    go (yes h) = h
+    go (no h) = absurd (false≢true (sym (ap (λ (k : Counts). k .controller .opened) (past-five conns (placeOf c) n h)) ∙ e))
+
+-- and so has one that is open at the host
+pub held-place : (conns : List Counts) (c : ℕ) → length conns ≡ 5 → heldOpen conns c ≡ true → placeOf c < 5
+unfolding heldOpen
+held-place conns c n e = go (decLt (placeOf c) 5)
+  where
+    go : Dec (placeOf c < 5) → placeOf c < 5
+    go (yes h) = h
+    go (no h) = absurd (false≢true (sym (ap (λ (k : Counts). k .host .opened) (past-five conns (placeOf c) n h)) ∙ e))
 
 -- ---- counts become those that f makes of them
 

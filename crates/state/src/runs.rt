@@ -78,7 +78,7 @@ fn same_run(r: ControlRun, h: Header) -> bool
 }
 
 // The run that a control packet joins: another MT, GID or OID starts a new one.
-fn run_for(r: ControlRun, h: Header) -> Progress
+pub fn run_for(r: ControlRun, h: Header) -> Progress
     ensures { λ x. ⌜ x ≡ runFor r h ⌝ }
 {
     if same_run(r, h) {

@@ -4,6 +4,7 @@ pub mod Runs
 pub mod Moved
 pub mod Places
 pub mod Others
+pub mod Controls
 pub mod Commands
 pub mod Whole
 pub mod Stored

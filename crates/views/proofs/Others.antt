@@ -75,7 +75,7 @@ past-runs a r s at v h i =
 -- ---- the control runs
 
 -- the run that a control packet joins
-run-for : (base : ℕ) (a : Octets) (k : kinds.ControlRun) (h : Header) → runOf base a (runs.runFor k h) ≡ runFor (controlRunOf base a k) (h .mt) (h .id) (h .oid)
+pub run-for : (base : ℕ) (a : Octets) (k : kinds.ControlRun) (h : Header) → runOf base a (runs.runFor k h) ≡ runFor (controlRunOf base a k) (h .mt) (h .id) (h .oid)
 unfolding runOf cut
 run-for base a k h = go (eqb (k .mt) (h .mt) && eqb (k .gid) (h .id) && eqb (k .oid) (h .oid))
   where

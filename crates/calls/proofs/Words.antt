@@ -1,0 +1,90 @@
+-- What a word says of a call that is taken is what it was made of.
+-- Assumes nothing.
+use Prim.Native.Nat.{ℕ, _+_, _/_, _%_, _^_, _≤_, _<_}
+use native.Mathlib.Omega.{arith}
+use mathlib.Core.Path.{_≡_, refl, ap, _∙_}
+use mathlib.Core.Bool.{Bool, true, false}
+use lib.Dec.{eqb}
+use mathlib.Core.List.{[], _∷_}
+use Rattle.octets.specs.Octets.{Octets, pick, cut}
+use Rattle.area.specs.Map.{downAt, upAt, wireSlots}
+use Rattle.area.specs.Ring.{packetsFrom}
+use Rattle.record.specs.Layout.{bit}
+use Rattle.model.specs.Effects.{Call, taken, refused}
+use Rattle.calls.specs.Word.{dropBit, handedBit, wordOf, answerIn, droppedIn, handedIn, lengthIn, downIn, upIn}
+use Rattle.calls.specs.Outcome.{outcome}
+use Rattle.calls.specs.Seen.{Puts, noPuts, starts, restarts, putsAfter, seenBy}
+
+bit-least : (b : Bool) → bit b ≤ 1
+unfolding bit
+bit-least true = omega arith
+bit-least false = omega arith
+
+bit-back : (b : Bool) → eqb (bit b) 1 ≡ b
+unfolding bit
+bit-back true = refl
+bit-back false = refl
+
+module _ (d h : Bool) (len down up : ℕ) where
+  abbrev word : ℕ
+  word = wordOf d h len down up
+
+  pub word-answer : answerIn word ≡ taken
+  unfolding answerIn wordOf
+  word-answer = let e : wordOf d h len down up % 256 ≡ 0 = omega arith in ap (λ (n : ℕ). pick (eqb n 0) taken (refused n)) e
+
+  pub word-dropped : droppedIn word ≡ d
+  unfolding droppedIn wordOf
+  word-dropped = let e : wordOf d h len down up / dropBit % 2 ≡ bit d = omega (arith, bit-least d) in ap (λ (n : ℕ). eqb n 1) e ∙ bit-back d
+
+  pub word-handed : handedIn word ≡ h
+  unfolding handedIn wordOf
+  word-handed =
+      let e : wordOf d h len down up / handedBit % 2 ≡ bit h = omega (arith, bit-least d, bit-least h) in
+      ap (λ (n : ℕ). eqb n 1) e ∙ bit-back h
+
+  module _ (l : len < 65536) where
+    pub word-length : lengthIn word ≡ len
+    unfolding lengthIn wordOf
+    word-length = omega (arith, bit-least d, bit-least h, l)
+
+    module _ (m : down < 256) where
+      pub word-down : downIn word ≡ down
+      unfolding downIn wordOf
+      word-down = omega (arith, bit-least d, bit-least h, l, m)
+
+      pub word-up : up < 256 → upIn word ≡ up
+      unfolding upIn wordOf
+      word-up n = omega (arith, bit-least d, bit-least h, l, m, n)
+
+      -- a word is a number of the C interface
+      pub word-fits : up < 256 → word < 2 ^ 64
+      unfolding wordOf
+      word-fits n = omega (arith, bit-least d, bit-least h, l, m, n)
+
+      -- what is seen of a call that answers it, and the packets put after it
+      module _ (n : up < 256) (c : Call) (q : Puts) where
+        pub word-seen : (area out : Octets)
+            → seenBy c q (outcome word area out)
+            ≡ record {
+              call = c;
+              answer = taken;
+              dropped = d;
+              toDown = packetsFrom downAt wireSlots area (q .down) down;
+              toUp = packetsFrom upAt wireSlots area (q .up) up;
+              message = pick h (cut 0 len out ∷ []) [];
+            }
+        word-seen area out i =
+            record {
+              call = c;
+              answer = word-answer i;
+              dropped = word-dropped i;
+              toDown = packetsFrom downAt wireSlots area (q .down) (word-down i);
+              toUp = packetsFrom upAt wireSlots area (q .up) (word-up n i);
+              message = pick (word-handed i) (cut 0 (word-length i) out ∷ []) [];
+            }
+
+        pub word-puts : starts c ≡ false → putsAfter c q word ≡ record { down = q .down + down; up = q .up + up }
+        word-puts s =
+            (λ i. pick (restarts c (word-answer i)) noPuts (record { down = q .down + word-down i; up = q .up + word-up n i }))
+            ∙ (λ i. pick (s i) noPuts (record { down = q .down + down; up = q .up + up }))
