@@ -17,3 +17,9 @@ pub mod Deciding
 pub mod Answering
 pub mod Asking
 pub mod Downing
+pub mod Quiet
+pub mod Heeding
+pub mod Upping
+pub mod Receiving
+pub mod Controlling
+pub mod Coming

@@ -4,6 +4,7 @@ pub use Rattle.packets.specs.declared.Header.{Header}
 pub use Rattle.packets.specs.declared.Reading.{Reading}
 pub use Rattle.packets.specs.declared.Reading.the-variants as reading
 pub use Rattle.state.specs.declared.kinds.Counts.{Counts}
+pub use Rattle.state.specs.declared.kinds.Ends.{Ends}
 pub use Rattle.state.specs.declared.kinds.Hand.{Hand}
 pub use Rattle.state.specs.declared.kinds.Host.{Host}
 pub use Rattle.state.specs.declared.kinds.HostSide.{HostSide}
@@ -13,6 +14,13 @@ pub use Rattle.state.specs.declared.kinds.Pending.{Pending}
 pub use Rattle.state.specs.declared.kinds.Pending.the-variants as pending
 pub use Rattle.state.specs.declared.kinds.Record.{Record}
 pub use Rattle.state.specs.declared.kinds.Ring.{Ring}
+pub use Rattle.state.specs.declared.runs.ControlJoined.{ControlJoined}
+pub use Rattle.state.specs.declared.runs.Joined.{Joined}
+pub use Rattle.dh.specs.declared.host.Answer.{Answer}
+pub use Rattle.dh.specs.declared.host.Answer.the-variants as answer
+pub use Rattle.dh.specs.declared.host.Heard.{Heard}
+pub use Rattle.dh.specs.declared.host.Heard.the-variants as heard
+pub use Rattle.ends.specs.declared.message.Heeded.{Heeded}
 pub use Rattle.record.specs.declared.load.Loaded.{Loaded}
 pub use Rattle.state.specs.declared.runs.ControlJoined.{ControlJoined}
 pub use Rattle.state.specs.declared.verdict.Verdict.{Verdict}

@@ -8,3 +8,4 @@ pub mod Reply
 pub mod Air
 pub mod Command
 pub mod Down
+pub mod Up

@@ -3,8 +3,10 @@ pub mod Loads
 pub mod Fits
 pub mod ReadsBack
 pub mod Small
+pub mod Hosts
 pub mod Conns
 pub mod Stored
+pub mod Taken
 pub mod Outside
 pub mod Claims
 pub mod Asked

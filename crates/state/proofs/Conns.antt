@@ -13,6 +13,7 @@ use borrow.Author.Tests.{eqb-true, eqb-false}
 use Rattle.octets.specs.Octets.{pick}
 use Rattle.state.specs.Kinds.{Counts}
 use Rattle.state.specs.Conn.{placeOf, connOf, closedCounts, countsOf, openAt}
+use Rattle.state.specs.Conn.{placeOf, connOf, closedCounts, countsOf, openAt, heldOpen}
 use Rattle.state.proofs.Places.{conn-place, places-differ}
 
 -- five steps, one for each connection
@@ -32,6 +33,17 @@ open-place conns c n e = go (decLt (placeOf c) 5)
     go : Dec (placeOf c < 5) → placeOf c < 5
     go (yes h) = h
     go (no h) = absurd (false≢true (sym (ap (λ (k : Counts). k .controller .opened) (past-five conns (placeOf c) n h)) ∙ e))
+
+
+
+-- and so has one that is open at the host
+pub held-place : (conns : List Counts) (c : ℕ) → length conns ≡ 5 → heldOpen conns c ≡ true → placeOf c < 5
+unfolding heldOpen
+held-place conns c n e = go (decLt (placeOf c) 5)
+  where
+    go : Dec (placeOf c < 5) → placeOf c < 5
+    go (yes h) = h
+    go (no h) = absurd (false≢true (sym (ap (λ (k : Counts). k .host .opened) (past-five conns (placeOf c) n h)) ∙ e))
 
 -- ---- counts become those that f makes of them
 

@@ -37,6 +37,14 @@ credits-few n h ne = go (leb 1 n) (leb n 8) refl (eqb n 255) (ne-eqb n 255 ne) h
     go false false e true f h = absurd (false≢true (sym f))
     go false false e false f h = absurd (false≢true h)
 
+-- either way they are an octet
+pub credits-small : (n : ℕ) → creditsOk n ≡ true → n ≤ 255
+credits-small n h = go (eqb n 255) refl
+  where
+    go : (b : Bool) → eqb n 255 ≡ b → n ≤ 255
+    go true e = let z : n ≡ 255 = eqb-true n 255 e in omega arith
+    go false e = let z : n ≤ 8 = credits-few n h (eqb-false n 255 e) in omega arith
+
 pub credits-ok : (n : ℕ) → 1 ≤ n → ((n ≡ 255 → ⊥) → n ≤ 8) → creditsOk n ≡ true
 credits-ok n h f = go (eqb n 255) refl
   where

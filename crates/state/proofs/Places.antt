@@ -30,6 +30,19 @@ pub conn-place : (c : ℕ) → placeOf c < 5 → connOf (placeOf c) ≡ c
 unfolding placeOf connOf
 conn-place c h = on-place c 0 0 refl (on-place c 2 1 refl (on-place c 3 2 refl (on-place c 4 3 refl (on-place c 5 4 refl (λ l. absurd (omega arith)))))) h
 
+-- what holds of the five connections holds of every Conn ID that has a place
+pub each-conn : (P : ℕ → Type 0) → P 0 → P 2 → P 3 → P 4 → P 5 → (c : ℕ) → placeOf c < 5 → P c
+unfolding connOf
+each-conn P u v w x y c h = subst P (conn-place c h) (go (placeOf c) h)
+  where
+    go : (p : ℕ) → p < 5 → P (connOf p)
+    go zero l = u
+    go (suc zero) l = v
+    go (suc (suc zero)) l = w
+    go (suc (suc (suc zero))) l = x
+    go (suc (suc (suc (suc zero)))) l = y
+    go (suc (suc (suc (suc (suc p))))) l = absurd (omega arith)
+
 -- a dynamic connection has a place
 pub dynamic-place : (c : ℕ) → 2 ≤ c → c ≤ 5 → placeOf c < 5
 unfolding placeOf
