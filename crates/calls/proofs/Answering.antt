@@ -1,13 +1,13 @@
 -- A whole command is answered on octets as in the model: the verdict, the two ends after it, and the packets that go up.
 -- Assumes nothing.
-use Prim.Native.Nat.{ℕ, _+_, _≤_, _<_}
+use Prim.Native.Nat.{ℕ, _+_, _≤_}
 use native.Mathlib.Omega.{arith}
-use mathlib.Core.Path.{_≡_, refl, sym, ap, _∙_}
-use mathlib.Core.Bool.{Bool, true, false}
+use mathlib.Core.Path.{_≡_, refl, ap, _∙_}
+use mathlib.Core.Bool.{false}
 use mathlib.Core.List.{List, [], _∷_, _++_}
 use lib.ListN.{length}
 use lib.Dec.{eqb}
-use Rattle.octets.specs.Octets.{Octets, pick, cut, splice}
+use Rattle.octets.specs.Octets.{Octets, pick}
 use Rattle.octets.specs.Octal.{Octal}
 use Rattle.octets.proofs.Octets.{cut-same}
 use Rattle.packets.specs.Packet.{packetOf}
@@ -17,24 +17,24 @@ use Rattle.state.specs.Conn.{openAt}
 use Rattle.state.proofs.Chains.{on}
 use Rattle.nfcc.specs.Controller.{judgeOf}
 use Rattle.messages.specs.Layout.{Message, Put, responseOf, responseMessage, noticeMessage}
-use Rattle.messages.specs.Packets.{responsePacket, noticePacket, noticePackets}
+use Rattle.messages.specs.Packets.{responsePacket, noticePackets}
 use Rattle.messages.proofs.Lengths.{response-short, notice-short}
 use Rattle.messages.proofs.Small.{response-octal, notice-octal}
 use Rattle.ends.specs.Steps.{verdictOf}
-use Rattle.area.specs.Map.{areaSize, wireSlots}
+use Rattle.area.specs.Map.{wireSlots}
 use Rattle.record.specs.Fit.{Shape, Fit}
 use Rattle.record.specs.Small.{Small}
 use Rattle.record.proofs.Small.{profile-control}
 use Rattle.views.specs.View.{upOf, view}
 use Rattle.views.specs.Moves.{Sound}
-use Rattle.views.proofs.Answers.{Writes, Each, puts-up, puts-long, puts-octal}
+use Rattle.views.proofs.Answers.{Each, puts-up, puts-long, puts-octal}
 use Rattle.model.specs.State as bench
 use Rattle.model.specs.State.{isOpen}
 use Rattle.model.specs.Effects.{Effect, down, taken}
 use Rattle.model.specs.calls.Down.{answers, deciding}
 use Rattle.calls.specs.Seen.{Puts}
 use Rattle.calls.specs.Refines.{Follows, RefinesTo}
-use Rattle.calls.specs.calls.Down.{notePacket, notePackets, answersTo, answeredRecord, answeredArea, answeredBy, answered}
+use Rattle.calls.specs.calls.Down.{notePacket, notePackets, answersTo, answeredRecord, answeredArea, answered}
 use Rattle.calls.proofs.Taken.{added-none, took-refines}
 use Rattle.calls.proofs.Deciding.{verdict-small, decided-shape, decided-fit, decided-small, decided-sound, decided-view}
 

@@ -1,13 +1,13 @@
 -- A command's segment joins the controller's run on octets as in the model, and a whole command is answered.
 -- Assumes nothing.
-use Prim.Native.Nat.{ℕ, _+_, _≤_, _<_}
+use Prim.Native.Nat.{ℕ, _+_, _≤_}
 use native.Mathlib.Omega.{arith}
 use mathlib.Core.Path.{_≡_, refl, sym, ap, _∙_, subst}
-use mathlib.Core.Bool.{Bool, true, false, not, _&&_, false≢true}
+use mathlib.Core.Bool.{Bool, true, false, false≢true}
 use mathlib.Core.List.{List, [], _∷_}
 use lib.ListN.{length}
 use borrow.Author.Tests.{not-true}
-use Rattle.octets.specs.Octets.{Octets, pick, cut}
+use Rattle.octets.specs.Octets.{Octets, cut}
 use Rattle.octets.specs.Octal.{Octal}
 use Rattle.octets.proofs.Octal.{octal-cut}
 use Rattle.packets.specs.Packet.{payloadOf}
@@ -34,9 +34,8 @@ use Rattle.views.proofs.Controls.{control-whole, control-flag}
 use Rattle.model.specs.State as bench
 use Rattle.model.specs.State.{isOpen}
 use Rattle.model.specs.Runs.{runAfter, wholeBy, flagBy}
-use Rattle.model.specs.Effects.{Effect, down, taken, flaggedAs}
+use Rattle.model.specs.Effects.{Effect, down, taken}
 use Rattle.model.specs.calls.Down.{deciding, answering, asked}
-use Rattle.calls.specs.Word.{wordOf}
 use Rattle.calls.specs.Outcome.{Outcome}
 use Rattle.calls.specs.Seen.{Puts}
 use Rattle.calls.specs.Refines.{Follows, RefinesTo}

@@ -1,6 +1,6 @@
 -- up by what the reader found, and that it is the model's up.
 -- Assumes nothing.
-use Prim.Native.Nat.{ℕ, _+_, _%_, _≤_, _<_}
+use Prim.Native.Nat.{ℕ, _≤_}
 use native.Mathlib.Omega.{arith}
 use mathlib.Core.Path.{_≡_, refl, sym, ap, _∙_, subst}
 use mathlib.Core.Bool.{Bool, true, false, not, _&&_}
@@ -11,18 +11,18 @@ use Rattle.octets.specs.Octal.{Octal}
 use Rattle.packets.specs.Segments.{Segment}
 use Rattle.calls.specs.Kinds.{Header, Reading, Record}
 use Rattle.calls.specs.Kinds.reading.{Packet, Drop}
-use Rattle.state.specs.Conn.{placeOf, heldOpen}
+use Rattle.state.specs.Conn.{heldOpen}
 use Rattle.state.proofs.Conns.{held-place}
-use Rattle.area.specs.Map.{messageSize, wireSlots}
+use Rattle.area.specs.Map.{messageSize}
 use Rattle.record.specs.Reading.{decodeOf}
 use Rattle.record.specs.Small.{Small}
 use Rattle.record.proofs.Small.{small-decode}
 use Rattle.wires.specs.Meaning.{Meaning, datum, control, meant, meaning}
-use Rattle.views.specs.View.{upOf, view}
+use Rattle.views.specs.View.{view}
 use Rattle.views.specs.Moves.{Sound}
 use Rattle.model.specs.Effects.{Effect, up, taken, flaggedAs}
 use Rattle.model.specs.Runs.{wholeBy}
-use Rattle.model.specs.calls.Up.{receiving, heard, coming, aboveIn, tooMany, firstTooMany, upRules}
+use Rattle.model.specs.calls.Up.{receiving, heard, coming, aboveIn, tooMany, upRules}
 use Rattle.model.proofs.Order.{need}
 use Rattle.calls.specs.Outcome.{Outcome}
 use Rattle.calls.specs.Seen.{Puts}

@@ -1,31 +1,31 @@
 -- up of a control packet: its segment joins the run, and a whole message is heard as the model hears it.
 -- Assumes nothing.
-use Prim.Native.Nat.{ℕ, _+_, _≤_, _<_}
+use Prim.Native.Nat.{ℕ, _+_, _≤_}
 use native.Mathlib.Omega.{arith}
-use mathlib.Core.Path.{_≡_, refl, sym, ap, _∙_, subst}
+use mathlib.Core.Path.{_≡_, refl, sym, _∙_, subst}
 use mathlib.Core.Bool.{Bool, true, false}
 use mathlib.Core.List.{List, [], _∷_}
 use lib.ListN.{length}
 use Rattle.octets.specs.Octets.{Octets, pick, cut}
 use Rattle.octets.specs.Octal.{Octal}
 use Rattle.octets.proofs.Octal.{octal-cut}
-use Rattle.packets.specs.Segments.{Segment, body, flag}
+use Rattle.packets.specs.Segments.{Segment}
 use Rattle.packets.proofs.Packet.{read-ranged}
 use Rattle.calls.specs.Kinds.{Header, Ends, Record, Heard}
 use Rattle.calls.specs.Kinds.reading.{Packet}
-use Rattle.state.specs.Conn.{placeOf, heldOpen}
+use Rattle.state.specs.Conn.{heldOpen}
 use Rattle.state.specs.Runs.{handedOn, runFor, controlJoined}
 use Rattle.state.proofs.Progress.{control-fits}
-use Rattle.dh.specs.Host.{hostAfter, dropHeard}
+use Rattle.dh.specs.Host.{hostAfter}
 use Rattle.dh.proofs.Limits.{HeardFits, hear-fits}
-use Rattle.ends.specs.Changes.{changeHeard, aboveBy}
+use Rattle.ends.specs.Changes.{changeHeard}
 use Rattle.ends.specs.Steps.{endsHeard, heardIn}
 use Rattle.ends.proofs.Changes.{length-heard}
 use Rattle.area.specs.Map.{areaSize, slotSize, controlSize, hearingAt}
 use Rattle.area.specs.Runs.{runArea}
 use Rattle.area.proofs.Moves.{length-run, octal-run}
 use Rattle.record.specs.Claims.{stored}
-use Rattle.record.specs.Fit.{Shape, Fit, FitEnds}
+use Rattle.record.specs.Fit.{FitEnds}
 use Rattle.record.specs.Small.{Small, SmallEnds}
 use Rattle.record.specs.Plan.{withHearing}
 use Rattle.record.proofs.Taken.{control-octal}
@@ -35,7 +35,7 @@ use Rattle.views.proofs.Whole.{moves}
 use Rattle.model.specs.Connection as connection
 use Rattle.model.specs.State as bench
 use Rattle.model.specs.Changes.{atHost}
-use Rattle.model.specs.Effects.{Effect, up, taken, flaggedAs}
+use Rattle.model.specs.Effects.{Effect, up, taken}
 use Rattle.model.specs.Runs.{runAfter, wholeBy, flagBy}
 use Rattle.model.specs.calls.Up.{understanding, hearing, heard, aboveIn}
 use Rattle.calls.specs.Word.{wordOf}

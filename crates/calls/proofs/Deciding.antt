@@ -2,19 +2,14 @@
 -- Assumes nothing.
 use Prim.Native.Nat.{ℕ, _≤_, _<_, _%_}
 use native.Mathlib.Omega.{arith}
-use mathlib.Core.Path.{_≡_, refl, sym, ap, _∙_, subst}
-use mathlib.Core.Bool.{Bool, true, false}
-use lib.ListN.{length, getD}
+use mathlib.Core.Path.{_≡_, refl, sym, _∙_, subst}
+use lib.ListN.{getD}
 use lib.Dec.{eqb}
 use borrow.Author.Tests.{eqb-true}
-use Rattle.octets.specs.Octets.{Octets, pick}
+use Rattle.octets.specs.Octets.{Octets}
 use Rattle.octets.specs.Octal.{Octal}
-use Rattle.calls.specs.Kinds.{Hand, Counts, Record, Verdict}
-use Rattle.state.specs.declared.kinds.Profile.{Profile}
-use Rattle.state.specs.declared.kinds.Controller.{Controller}
-use Rattle.state.specs.declared.kinds.Pairs.{Pairs}
-use Rattle.state.specs.declared.kinds.Rf.{Rf}
-use Rattle.state.specs.declared.verdict.Verdict.the-variants as verdict
+use Rattle.calls.specs.Kinds.{Hand, Counts, Record, Verdict, Profile, Controller, Pairs, Rf}
+use Rattle.calls.specs.Kinds.verdict as verdict
 use Rattle.state.specs.Conn.{placeOf, countsOf, openAt}
 use Rattle.state.specs.Radio.{isIdle}
 use Rattle.state.proofs.Chains.{on}
@@ -27,10 +22,10 @@ use Rattle.ends.specs.Changes.{Change, stays, opens, closes, gives, changeBy, c
 use Rattle.ends.specs.Steps.{endsAfter, verdictOf}
 use Rattle.ends.proofs.Changes.{counts-after, length-after, endpoint-after}
 use Rattle.area.specs.Map.{places}
-use Rattle.record.specs.Writing.{rfOctets, pairsOctets, controllerOctets}
+use Rattle.record.specs.Writing.{rfOctets, pairsOctets}
 use Rattle.record.specs.Fit.{Shape, Fit, FitHand, FitCounts}
 use Rattle.record.specs.Small.{SmallCounts, Small}
-use Rattle.record.specs.Plan.{withEnds, withConns, withEndpoint}
+use Rattle.record.specs.Plan.{withEnds, withConns}
 use Rattle.record.proofs.Conns.{conns-by}
 use Rattle.record.proofs.Controllers.{steady-fits, fits-steady}
 use Rattle.record.proofs.Small.{SmallController, profile-terms, controller-parts, controller-octal, bare-octal, chosen-octal, none-octal}

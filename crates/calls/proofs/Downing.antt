@@ -4,28 +4,28 @@ use Prim.Native.Nat.{ℕ, _+_, _≤_, _<_}
 use native.Mathlib.Omega.{arith}
 use mathlib.Core.Path.{_≡_, refl, sym, ap, _∙_, subst}
 use mathlib.Core.Bool.{Bool, true, false, not, _&&_}
-use mathlib.Core.List.{List, [], _∷_, _++_}
+use mathlib.Core.List.{List, [], _∷_}
 use lib.ListN.{length, length-set}
 use lib.Dec.{eqb, leb, ltb}
-use borrow.Author.Tests.{eqb-true, eqb-false, eq-eqb, ne-eqb, leb-true, leb-false, lt-ltb, le-ltb, ltb-true, ltb-false}
-use Rattle.octets.specs.Octets.{Octets, pick, cut, splice}
+use borrow.Author.Tests.{eqb-true, eqb-false, eq-eqb, ne-eqb, leb-false, lt-ltb, le-ltb, ltb-true, ltb-false}
+use Rattle.octets.specs.Octets.{Octets, pick, cut}
 use Rattle.octets.specs.Octal.{Octal}
 use Rattle.octets.proofs.Octets.{length-splice}
 use Rattle.octets.proofs.Octal.{octal-cut, octal-splice}
 use Rattle.packets.specs.Packet.{payloadOf}
 use Rattle.packets.specs.Segments.{Segment, segment}
-use Rattle.packets.proofs.Packet.{Ranged, read-ranged}
+use Rattle.packets.proofs.Packet.{read-ranged}
 use Rattle.calls.specs.Kinds.{Header, Reading, Counts, Record}
 use Rattle.calls.specs.Kinds.reading.{Packet, Drop}
 use Rattle.state.specs.Conn.{placeOf, countsOf, openAt}
 use Rattle.state.proofs.Chains.{on}
 use Rattle.state.proofs.Conns.{open-place}
-use Rattle.area.specs.Map.{areaSize, messageSize, slotSize, payloadSize, wireSlots, storeSlots, places, downAt, storeAt}
-use Rattle.area.specs.Ring.{slotPacket, trim, freeAt, putInto, tookFrom, packetsFrom, tab}
+use Rattle.area.specs.Map.{messageSize, slotSize, wireSlots, storeSlots, places, downAt, storeAt}
+use Rattle.area.specs.Ring.{slotPacket, trim, freeAt, putInto}
 use Rattle.area.proofs.Rings.{length-packets, wire, packets-took}
 use Rattle.area.proofs.Moves.{payload-few}
 use Rattle.record.specs.Reading.{decodeOf}
-use Rattle.record.specs.Fit.{Shape, Fit, FitRing, FitCounts}
+use Rattle.record.specs.Fit.{Shape, Fit, FitCounts}
 use Rattle.record.specs.Small.{SmallCounts, Small}
 use Rattle.record.specs.Plan.{withStore}
 use Rattle.record.proofs.Small.{small-decode}

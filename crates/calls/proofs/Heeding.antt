@@ -1,13 +1,13 @@
 -- What the host heard, on the record: each connection changes as the model's does, and the numbers stay such as row 1 lets pass.
 -- Assumes nothing.
-use Prim.Native.Nat.{ℕ, _+_, _%_, _≤_, _<_}
+use Prim.Native.Nat.{ℕ, _+_, _≤_, _<_}
 use native.Mathlib.Omega.{arith}
 use native.Mathlib.Decide.{decLt}
 use mathlib.Core.Path.{_≡_, refl, sym, ap, _∙_, subst}
-use mathlib.Core.Bool.{Bool, true, false, _&&_, false≢true}
+use mathlib.Core.Bool.{true, false, _&&_, false≢true}
 use mathlib.Core.List.{List}
 use lib.ListN.{length}
-use lib.Dec.{eqb, ltb}
+use lib.Dec.{eqb}
 use borrow.Author.Tests.{eqb-true, ltb-false}
 use Rattle.octets.specs.Octets.{Octets, cut}
 use Rattle.octets.specs.Octal.{Octal}
@@ -31,7 +31,6 @@ use Rattle.record.proofs.Conns.{conns-by}
 use Rattle.record.proofs.Hosts.{host-size, settled-octal}
 use Rattle.views.specs.View.{handOf, runOf, hostOf, connectionOf, speechOf, connsOf}
 use Rattle.model.specs.Connection as connection
-use Rattle.model.specs.Connection.{Connection}
 use Rattle.model.specs.Changes.{atHost}
 
 -- ---- one connection

@@ -1,6 +1,6 @@
 -- up of a data packet for a connection that is open at the host: the segment joins the run, as the model's does.
 -- Assumes nothing.
-use Prim.Native.Nat.{ℕ, _+_, _%_, _≤_, _<_}
+use Prim.Native.Nat.{ℕ, _+_, _≤_, _<_}
 use native.Mathlib.Omega.{arith}
 use mathlib.Core.Path.{_≡_, refl, sym, ap, _∙_, subst}
 use mathlib.Core.Bool.{Bool, true, false}
@@ -12,9 +12,8 @@ use Rattle.octets.proofs.Octets.{length-cut, cut-same}
 use Rattle.octets.proofs.Octal.{octal-cut}
 use Rattle.packets.specs.Segments.{Segment, body, flag}
 use Rattle.packets.specs.Reassembly.{finished, flagged}
-use Rattle.calls.specs.Kinds.{Header, Counts, Record, Joined}
+use Rattle.calls.specs.Kinds.{Header, Counts, Record, Joined, Progress}
 use Rattle.calls.specs.Kinds.reading.{Packet}
-use Rattle.state.specs.declared.kinds.Progress.{Progress}
 use Rattle.state.specs.Conn as conn
 use Rattle.state.specs.Conn.{placeOf, countsOf}
 use Rattle.state.specs.Runs.{joinedOf, handedOn}
@@ -23,12 +22,10 @@ use Rattle.state.proofs.Progress.{joined-fits, done-room}
 use Rattle.area.specs.Map.{areaSize, slotSize, messageSize, places, hostRunAt}
 use Rattle.area.specs.Runs.{runArea}
 use Rattle.area.proofs.Moves.{length-run, octal-run}
-use Rattle.record.specs.Claims.{stored}
-use Rattle.record.specs.Fit.{Each, Shape, Fit, FitCounts}
+use Rattle.record.specs.Fit.{Shape, Fit, FitCounts}
 use Rattle.record.specs.Small.{SmallCounts, Small}
 use Rattle.record.specs.Plan.{withConns, withHostRun}
 use Rattle.record.proofs.Conns.{conns-set}
-use Rattle.record.proofs.Taken.{wire-took}
 use Rattle.views.specs.View.{runOf, view}
 use Rattle.views.specs.Moves.{Sound, RunJoined}
 use Rattle.views.proofs.Runs.{run-joined}
@@ -38,7 +35,6 @@ use Rattle.model.specs.Connection as connection
 use Rattle.model.specs.State as bench
 use Rattle.model.specs.Effects.{Effect, up, taken, flaggedAs}
 use Rattle.model.specs.calls.Up.{receiving}
-use Rattle.calls.specs.Outcome.{outcome}
 use Rattle.calls.specs.Seen.{Puts}
 use Rattle.calls.specs.Refines.{Follows, RefinesTo}
 use Rattle.calls.specs.calls.Push.{hostSide}

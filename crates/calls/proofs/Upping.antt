@@ -2,7 +2,7 @@
 -- Assumes nothing.
 use Prim.Native.Nat.{ℕ, _+_, _≤_, _<_}
 use native.Mathlib.Omega.{arith}
-use mathlib.Core.Path.{_≡_, refl, sym, ap, _∙_, subst}
+use mathlib.Core.Path.{_≡_, sym, ap, _∙_}
 use mathlib.Core.Bool.{Bool, true, false, _||_}
 use mathlib.Core.List.{List, _++_}
 use lib.ListN.{length}
@@ -13,7 +13,7 @@ use Rattle.packets.specs.Segments.{Segment, segment, body, flag}
 use Rattle.packets.proofs.Segments.{flag-segment, body-segment}
 use Rattle.calls.specs.Kinds.{Header, Ends, Record, Heard}
 use Rattle.calls.specs.Kinds.reading.{Packet, Drop}
-use Rattle.state.specs.Conn.{placeOf, countsOf}
+use Rattle.state.specs.Conn.{placeOf}
 use Rattle.state.specs.Runs.{within, handedOn, runFor, controlJoined}
 use Rattle.state.proofs.Chains.{or-left, or-right}
 use Rattle.state.proofs.Places.{each-conn}

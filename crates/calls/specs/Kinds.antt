@@ -1,28 +1,33 @@
--- The types that the code of the crates below declares, in one place. The constructors of an enum stand under its name in small letters.
+-- The types that the code of this crate and of those below it declares, in one place. The constructors of an enum stand under its
+-- name in small letters, as `rf.Idle`.
 -- Assumes nothing.
 pub use Rattle.packets.specs.declared.Header.{Header}
 pub use Rattle.packets.specs.declared.Reading.{Reading}
 pub use Rattle.packets.specs.declared.Reading.the-variants as reading
+pub use Rattle.state.specs.declared.kinds.ControlRun.{ControlRun}
+pub use Rattle.state.specs.declared.kinds.Controller.{Controller}
+pub use Rattle.state.specs.declared.kinds.ControllerSide.{ControllerSide}
 pub use Rattle.state.specs.declared.kinds.Counts.{Counts}
 pub use Rattle.state.specs.declared.kinds.Ends.{Ends}
 pub use Rattle.state.specs.declared.kinds.Hand.{Hand}
 pub use Rattle.state.specs.declared.kinds.Host.{Host}
 pub use Rattle.state.specs.declared.kinds.HostSide.{HostSide}
-pub use Rattle.state.specs.declared.kinds.ControllerSide.{ControllerSide}
-pub use Rattle.state.specs.declared.kinds.Profile.{Profile}
+pub use Rattle.state.specs.declared.kinds.Pairs.{Pairs}
 pub use Rattle.state.specs.declared.kinds.Pending.{Pending}
 pub use Rattle.state.specs.declared.kinds.Pending.the-variants as pending
+pub use Rattle.state.specs.declared.kinds.Profile.{Profile}
+pub use Rattle.state.specs.declared.kinds.Progress.{Progress}
 pub use Rattle.state.specs.declared.kinds.Record.{Record}
+pub use Rattle.state.specs.declared.kinds.Rf.{Rf}
 pub use Rattle.state.specs.declared.kinds.Ring.{Ring}
 pub use Rattle.state.specs.declared.runs.ControlJoined.{ControlJoined}
 pub use Rattle.state.specs.declared.runs.Joined.{Joined}
+pub use Rattle.state.specs.declared.verdict.Verdict.{Verdict}
+pub use Rattle.state.specs.declared.verdict.Verdict.the-variants as verdict
+pub use Rattle.messages.specs.declared.layout.Note.{Note}
 pub use Rattle.dh.specs.declared.host.Answer.{Answer}
 pub use Rattle.dh.specs.declared.host.Answer.the-variants as answer
 pub use Rattle.dh.specs.declared.host.Heard.{Heard}
 pub use Rattle.dh.specs.declared.host.Heard.the-variants as heard
 pub use Rattle.ends.specs.declared.message.Heeded.{Heeded}
 pub use Rattle.record.specs.declared.load.Loaded.{Loaded}
-pub use Rattle.state.specs.declared.runs.ControlJoined.{ControlJoined}
-pub use Rattle.state.specs.declared.verdict.Verdict.{Verdict}
-pub use Rattle.messages.specs.declared.layout.Note.{Note}
-pub use Rattle.state.specs.declared.kinds.ControlRun.{ControlRun}

@@ -12,7 +12,6 @@ use lib.Dec.{eqb}
 use borrow.Author.Tests.{eqb-true, eqb-false}
 use Rattle.octets.specs.Octets.{pick}
 use Rattle.state.specs.Kinds.{Counts}
-use Rattle.state.specs.Conn.{placeOf, connOf, closedCounts, countsOf, openAt}
 use Rattle.state.specs.Conn.{placeOf, connOf, closedCounts, countsOf, openAt, heldOpen}
 use Rattle.state.proofs.Places.{conn-place, places-differ}
 

@@ -1,11 +1,10 @@
 -- What a verdict carries is octets.
 -- Assumes nothing.
 use Prim.Native.Nat.{_≤_}
-use Rattle.state.specs.Kinds.{Terms, Rf}
+use Rattle.state.specs.Kinds.{Terms, Rf, Verdict}
 use Rattle.state.specs.Kinds.rf.{Idle, Discovery, W4AllDiscoveries, W4HostSelect, PollActive, ListenActive, ListenSleep}
-use Rattle.state.specs.declared.kinds.Selection.the-variants.{Nothing, Chosen}
-use Rattle.state.specs.declared.verdict.Verdict.{Verdict}
-use Rattle.state.specs.declared.verdict.Verdict.the-variants as verdict
+use Rattle.state.specs.Kinds.selection.{Nothing, Chosen}
+use Rattle.state.specs.Kinds.verdict as verdict
 
 -- an RF state that carries no octet
 abbrev pub Bare : Rf → Type 0

@@ -29,3 +29,5 @@ pub use Rattle.state.specs.declared.kinds.Selection.the-variants as sele
 pub use Rattle.state.specs.declared.kinds.Terms.{Terms}
 pub use Rattle.state.specs.declared.runs.ControlJoined.{ControlJoined}
 pub use Rattle.state.specs.declared.runs.Joined.{Joined}
+pub use Rattle.state.specs.declared.verdict.Verdict.{Verdict}
+pub use Rattle.state.specs.declared.verdict.Verdict.the-variants as verdict
