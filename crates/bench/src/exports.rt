@@ -3,12 +3,20 @@ use crate::entry::enter;
 use crate::fresh;
 use crate::power;
 use crate::report;
+use controller_calls::credit;
+use controller_calls::reply;
+use host_calls::command;
 use host_calls::push;
+use host_calls::send;
 ghost use mathlib.Core.Path.{_≡_};
 ghost use Rattle.calls.specs.Outcome.{outcome};
 ghost use Rattle.calls.specs.calls.Fresh.{freshCall};
 ghost use Rattle.calls.specs.calls.Power.{powerCall};
+ghost use Rattle.calls.specs.calls.Command.{commandCall};
+ghost use Rattle.calls.specs.calls.Send.{sendCall};
 ghost use Rattle.calls.specs.calls.Push.{pushCall};
+ghost use Rattle.calls.specs.calls.Credit.{creditCall};
+ghost use Rattle.calls.specs.calls.Reply.{replyCall};
 ghost use Rattle.calls.specs.calls.Report.{reportCall};
 
 // A new bench with a profile of five octets.
@@ -37,6 +45,42 @@ pub extern "C" fn nci_power(area: &mut [u8], out: &mut [u8]) -> u64
     power::act(area, r)
 }
 
+// All segments of a command go on the down wire.
+#[no_mangle]
+pub extern "C" fn nci_command(area: &mut [u8], out: &mut [u8], gid: u8, oid: u8, payload: &[u8]) -> u64
+    ensures { λ w. ⌜ outcome w (now (area .exit)) (now (out .exit)) ≡ commandCall (now (area .entry)) (now (out .entry)) gid oid (now (payload .entry)) ⌝ }
+{
+    let l = enter(area, out.len());
+    let entry = l.answer;
+    if entry != 0 {
+        return entry as u64;
+    }
+    let r = l.record;
+    let n = command::refusal(r, gid, oid, payload);
+    if n != 0 {
+        return n as u64;
+    }
+    command::act(area, r, gid, oid, payload)
+}
+
+// A message is put in hand.
+#[no_mangle]
+pub extern "C" fn nci_send(area: &mut [u8], out: &mut [u8], conn: u8, message: &[u8]) -> u64
+    ensures { λ w. ⌜ outcome w (now (area .exit)) (now (out .exit)) ≡ sendCall (now (area .entry)) (now (out .entry)) conn (now (message .entry)) ⌝ }
+{
+    let l = enter(area, out.len());
+    let entry = l.answer;
+    if entry != 0 {
+        return entry as u64;
+    }
+    let r = l.record;
+    let n = send::refusal(r, conn, message);
+    if n != 0 {
+        return n as u64;
+    }
+    send::act(area, r, conn, message)
+}
+
 // The next segment of the message in hand of a connection goes down.
 #[no_mangle]
 pub extern "C" fn nci_push(area: &mut [u8], out: &mut [u8], conn: u8) -> u64
@@ -53,6 +97,42 @@ pub extern "C" fn nci_push(area: &mut [u8], out: &mut [u8], conn: u8) -> u64
         return n as u64;
     }
     push::act(area, r, conn)
+}
+
+// One notice of all that is owed goes up.
+#[no_mangle]
+pub extern "C" fn nci_credit(area: &mut [u8], out: &mut [u8]) -> u64
+    ensures { λ w. ⌜ outcome w (now (area .exit)) (now (out .exit)) ≡ creditCall (now (area .entry)) (now (out .entry)) ⌝ }
+{
+    let l = enter(area, out.len());
+    let entry = l.answer;
+    if entry != 0 {
+        return entry as u64;
+    }
+    let r = l.record;
+    let n = credit::refusal(r);
+    if n != 0 {
+        return n as u64;
+    }
+    credit::act(area, r)
+}
+
+// The next segment of the endpoint's message goes up on connection 0.
+#[no_mangle]
+pub extern "C" fn nci_reply(area: &mut [u8], out: &mut [u8]) -> u64
+    ensures { λ w. ⌜ outcome w (now (area .exit)) (now (out .exit)) ≡ replyCall (now (area .entry)) (now (out .entry)) ⌝ }
+{
+    let l = enter(area, out.len());
+    let entry = l.answer;
+    if entry != 0 {
+        return entry as u64;
+    }
+    let r = l.record;
+    let n = reply::refusal(r);
+    if n != 0 {
+        return n as u64;
+    }
+    reply::act(area, r)
 }
 
 // Five numbers of a connection. It is exported with the claim that it belongs to.

@@ -23,3 +23,4 @@ pub mod Upping
 pub mod Receiving
 pub mod Controlling
 pub mod Coming
+pub mod Able

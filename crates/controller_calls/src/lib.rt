@@ -2,4 +2,3 @@
 // defined in calls/specs.
 pub mod credit;
 pub mod reply;
-pub mod down;

@@ -3,5 +3,3 @@
 pub mod command;
 pub mod push;
 pub mod send;
-pub mod up;
-mod word;
