@@ -3,22 +3,30 @@
 use Prim.Native.Nat.{ℕ, zero, suc, _+_, _-_, _≤_, _<_}
 use native.Mathlib.Omega.{arith}
 use mathlib.Core.Path.{_≡_, refl, sym, ap, _∙_}
-use mathlib.Core.Bool.{Bool}
+use mathlib.Core.Bool.{Bool, true}
 use mathlib.Core.List.{List, [], _∷_, _++_, map}
 use lib.ListN.{length, take, drop, set, length-take}
 use lib.Dec.{ltb}
 use borrow.Author.Tests.{lt-ltb, le-ltb}
 use Rattle.octets.specs.Octets.{Octets, pick, cut, over, splice}
-use Rattle.octets.proofs.Octets.{cut-part, length-cut, splice-nil, splice-lent, drop-splice}
+use Rattle.octets.specs.Octal.{Octal}
+use Rattle.octets.proofs.Octets.{cut-part, length-cut, length-splice, splice-nil, splice-lent, drop-splice, cut-grown}
+use Rattle.octets.proofs.Octal.{octal-splice}
 use Rattle.packets.specs.declared.Header.{Header}
-use Rattle.packets.specs.Packet.{packetOf, payloadOf, slotAfter}
+use Rattle.packets.specs.declared.Reading.the-variants.{Packet}
+use Rattle.packets.specs.Packet.{packetOf, readOf, payloadOf, slotAfter}
 use Rattle.packets.specs.Segments.{Segment, body, segments, segmentAt, segmentPacket, packetsOf}
-use Rattle.packets.proofs.Packet.{length-packet, slot-fits}
+use Rattle.packets.proofs.Packet.{length-packet, read-facts, slot-fits}
 use Rattle.packets.proofs.Segments.{body-segment, segments-step}
+use Rattle.state.specs.declared.kinds.Progress.{Progress}
 use Rattle.state.specs.declared.kinds.Ring.{Ring}
+use Rattle.state.specs.Runs.{within}
+use Rattle.state.proofs.Progress.{within-room}
+use Rattle.state.proofs.Chains.{on}
 use Rattle.area.specs.Map.{payloadSize, slotSize, wireSlots, areaSize}
 use Rattle.area.specs.Ring.{freeAt, putInto}
 use Rattle.area.specs.Movers.{zeros, putsAll}
+use Rattle.area.specs.Runs.{runArea}
 
 -- ---- a packet in a slot
 
@@ -41,6 +49,36 @@ pub length-payload : (a : Octets) (slot n : ℕ) → n ≤ payloadSize → slot 
 length-payload a slot n h room =
     let long : length (cut slot slotSize a) ≡ slotSize = length-cut slot slotSize a room in
     length-cut 3 n (cut slot slotSize a) (omega arith)
+
+-- a packet that a slot starts with has no more octets of payload than a slot has room for
+cut-short : (at : ℕ) (l : Octets) → length (cut at slotSize l) ≤ slotSize
+unfolding cut
+cut-short at l = simp length-take (omega arith)
+
+pub payload-few : (a : Octets) (slot : ℕ) (h : Header) (n : ℕ) → readOf (cut slot slotSize a) ≡ Packet h n → n ≤ payloadSize
+payload-few a slot h n e =
+    let f = read-facts (cut slot slotSize a) h n e in
+    omega (arith, f .room, f .size, cut-short slot a)
+
+-- ---- runs
+
+module _ (limit base : ℕ) (a : Octets) (p : Progress) (v : Octets) where
+  -- a run grows inside the area
+  pub length-run : length (runArea limit base a p v) ≡ length a
+  unfolding runArea
+  length-run = on (λ (x : Octets). length x ≡ length a) (within limit p (length v)) (λ _. length-splice a (base + p .len) v) (λ _. refl)
+
+  pub octal-run : Octal a → Octal v → Octal (runArea limit base a p v)
+  unfolding runArea
+  octal-run o k = on Octal (within limit p (length v)) (λ _. octal-splice (base + p .len) o k) (λ _. o)
+
+  -- where the segment is within the limit, the run's octets are those before it and its own
+  pub run-grown : within limit p (length v) ≡ true → base + limit ≤ length a
+      → cut base (p .len + length v) (runArea limit base a p v) ≡ cut base (p .len) a ++ v
+  unfolding runArea
+  run-grown e room =
+      let fits = within-room limit p (length v) e in
+      ap (λ (b : Bool). cut base (p .len + length v) (pick b (splice a (base + p .len) v) a)) e ∙ cut-grown a base (p .len) v (omega arith)
 
 -- ---- zeros
 

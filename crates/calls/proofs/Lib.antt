@@ -3,5 +3,7 @@ pub mod Called
 pub mod Words
 pub mod Refining
 pub mod Taken
+pub mod Handed
 pub mod Pushing
 pub mod Crediting
+pub mod Consuming

@@ -10,3 +10,5 @@ pub use Rattle.state.specs.declared.kinds.ControllerSide.{ControllerSide}
 pub use Rattle.state.specs.declared.kinds.Record.{Record}
 pub use Rattle.state.specs.declared.kinds.Ring.{Ring}
 pub use Rattle.record.specs.declared.load.Loaded.{Loaded}
+pub use Rattle.state.specs.declared.kinds.Progress.{Progress}
+pub use Rattle.state.specs.declared.runs.Joined.{Joined}

@@ -1,2 +1,3 @@
 pub mod Push
 pub mod Credit
+pub mod Consume

@@ -4,14 +4,15 @@ use Prim.Native.Nat.{ℕ, _+_, _-_, _≤_}
 use native.Mathlib.Decide.{decLe}
 use native.Mathlib.Omega.{arith}
 use mathlib.Core.Path.{_≡_, refl, sym, _∙_}
-use mathlib.Core.Bool.{Bool, true, false, not, _&&_}
+use mathlib.Core.Bool.{Bool, true, false, not, _&&_, false≢true}
 use lib.ListN.{length, length-append}
 use lib.Dec.{leb, ltb}
 use borrow.Author.Tests.{le-leb, lt-leb, leb-true, lt-ltb, le-ltb}
 use Rattle.packets.specs.Segments.{Segment, more, last}
 use Rattle.packets.specs.Reassembly.{Run, run, lost}
-use Rattle.state.specs.Kinds.{Progress}
-use Rattle.state.specs.Runs.{within, joinedOf, JoinsAs}
+use Rattle.state.specs.Kinds.{Header, Progress, ControlRun, Joined}
+use Rattle.state.specs.Runs.{controlLimit, within, sameRun, runFor, joinedOf, controlJoined, JoinsAs}
+use Rattle.state.proofs.Chains.{on}
 
 -- ---- within
 
@@ -58,3 +59,46 @@ joins limit (run r) (last b) = go (ltb limit (length r + length b)) (tested limi
     go false e = record { next = rw (e .shorter); done = rw (e .shorter, e .longer); dropped = rw (e .shorter, e .longer) }
 joins limit lost (more b) = record { next = refl; done = refl; dropped = refl }
 joins limit lost (last b) = record { next = refl; done = refl; dropped = refl }
+
+-- ---- limits of a run after a segment
+
+module _ (limit : ℕ) (p : Progress) (b : Bool) (n : ℕ) where
+  -- a run within its limit stays within it
+  pub joined-fits : joinedOf limit p b n .next .len ≤ limit
+  unfolding joinedOf
+  joined-fits =
+      on (λ (j : Joined). j .next .len ≤ limit) (within limit p n)
+      (λ e. on (λ (q : Progress). q .len ≤ limit) b (λ _. within-room limit p n e) (λ _. omega arith))
+      (λ _. omega arith)
+
+  -- a message that is whole is within it
+  pub done-within : joinedOf limit p b n .done ≡ true → within limit p n ≡ true
+  unfolding joinedOf
+  done-within e = go (within limit p n) refl
+    where
+      go : (w : Bool) → within limit p n ≡ w → w ≡ true
+      go true q = refl
+      go false q = absurd (false≢true (rw q at e))
+
+  pub done-room : joinedOf limit p b n .done ≡ true → p .len + n ≤ limit
+  done-room e = within-room limit p n (done-within e)
+
+-- and so with control runs
+module _ (k : ControlRun) (h : Header) (n : ℕ) where
+  pub run-fits : k .run .len ≤ controlLimit → runFor k h .len ≤ controlLimit
+  run-fits e = on (λ (p : Progress). p .len ≤ controlLimit) (sameRun k h) (λ _. e) (λ _. omega arith)
+
+  pub control-fits : controlJoined k h n .next .run .len ≤ controlLimit
+  unfolding controlJoined
+  control-fits = joined-fits controlLimit (runFor k h) (h .pbf) n
+
+  pub control-within : controlJoined k h n .done ≡ true → within controlLimit (runFor k h) n ≡ true
+  unfolding controlJoined
+  control-within e = done-within controlLimit (runFor k h) (h .pbf) n e
+
+  pub control-room : controlJoined k h n .done ≡ true → runFor k h .len + n ≤ controlLimit
+  control-room e = within-room controlLimit (runFor k h) n (control-within e)
+
+  pub control-base : controlJoined k h n .base ≡ runFor k h .len
+  unfolding controlJoined
+  control-base = refl
