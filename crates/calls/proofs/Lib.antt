@@ -3,6 +3,7 @@ pub mod Called
 pub mod Words
 pub mod Refining
 pub mod Taken
+pub mod Handed
 pub mod Pushing
 pub mod Starting
 pub mod Reporting
@@ -24,3 +25,4 @@ pub mod Receiving
 pub mod Controlling
 pub mod Coming
 pub mod Able
+pub mod Consuming

@@ -90,6 +90,14 @@ at-const c f g i d = go (eqb c d) refl i
     go true e = ap (λ (x : ℕ). f (g x)) (eqb-true c d e)
     go false e = refl
 
+-- a connection changed twice
+pub at-twice : (c : ℕ) (f h : Connection → Connection) (g : ℕ → Connection) → at c h (at c f g) ≡ at c (λ k. h (f k)) g
+at-twice c f h g i d = go (eqb c d) i
+  where
+    go : (b : Bool) → pick b (h (pick b (f (g d)) (g d))) (pick b (f (g d)) (g d)) ≡ pick b (h (f (g d))) (g d)
+    go true = refl
+    go false = refl
+
 -- ---- a call
 
 module _ (c : Call) (o : Outcome) (p : Puts) (a out : Octets) (g : Good a) (room : messageSize ≤ length out) (al : Along p a) where

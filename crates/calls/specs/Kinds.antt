@@ -31,3 +31,5 @@ pub use Rattle.dh.specs.declared.host.Heard.{Heard}
 pub use Rattle.dh.specs.declared.host.Heard.the-variants as heard
 pub use Rattle.ends.specs.declared.message.Heeded.{Heeded}
 pub use Rattle.record.specs.declared.load.Loaded.{Loaded}
+pub use Rattle.state.specs.declared.kinds.Progress.{Progress}
+pub use Rattle.state.specs.declared.runs.Joined.{Joined}

@@ -9,3 +9,4 @@ pub mod Air
 pub mod Command
 pub mod Down
 pub mod Up
+pub mod Consume
