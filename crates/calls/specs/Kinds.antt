@@ -14,3 +14,6 @@ pub use Rattle.state.specs.declared.runs.ControlJoined.{ControlJoined}
 pub use Rattle.state.specs.declared.verdict.Verdict.{Verdict}
 pub use Rattle.messages.specs.declared.layout.Note.{Note}
 pub use Rattle.state.specs.declared.kinds.ControlRun.{ControlRun}
+pub use Rattle.ends.specs.declared.command.Answered.{Answered}
+pub use Rattle.ends.specs.declared.command.Decision.{Decision}
+pub use Rattle.state.specs.declared.kinds.Ends.{Ends}

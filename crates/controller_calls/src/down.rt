@@ -161,7 +161,7 @@ fn join(area: &mut [u8], asking: ControlRun, slot: usize, h: Header, n: usize)
 }
 
 // A control message of the controller is one packet, in the first free slot of the up wire.
-fn put_note(area: &mut [u8], up: Ring, mt: u8, note: Note, m: &[u8; 255])
+fn put_note(area: &mut [u8], up: Ring, mt: u8, note: Note, m: &[u8])
     requires { ⌜ (areaSize ≤ length (now area)) × FitRing wireSlots up × (note .len ≤ controlSize) ⌝ }
     ensures { λ _. ⌜ now (area .exit) ≡ splice (now (area .entry)) (freeAt upAt wireSlots up) (notePacket mt note (now (m .entry))) ⌝ }
 {
@@ -174,11 +174,11 @@ fn put_note(area: &mut [u8], up: Ring, mt: u8, note: Note, m: &[u8; 255])
         oid: note.oid,
         spare: 0,
     };
-    movers::put_packet(area, slot, h, &m[0..len]);
+    movers::put_packet(area, slot, h, octets::window(m, 0, len));
 }
 
 // The response, and the notification after it where there is one. How many packets they are.
-fn put_answers(area: &mut [u8], up: Ring, response: Note, rsp: &[u8; 255], notice: Note, ntf: &[u8; 255]) -> usize
+fn put_answers(area: &mut [u8], up: Ring, response: Note, rsp: &[u8], notice: Note, ntf: &[u8]) -> usize
     requires { ⌜ (areaSize ≤ length (now area)) × FitRing wireSlots up × (up .count + 2 ≤ wireSlots) × (response .len ≤ controlSize) × (notice .len ≤ controlSize) ⌝ }
     ensures { λ x. ⌜ (x ≡ length (notePackets response (now (rsp .entry)) notice (now (ntf .entry)))) × (now (area .exit) ≡ putsAll upAt (now (area .entry)) up (notePackets response (now (rsp .entry)) notice (now (ntf .entry)))) ⌝ }
 {
