@@ -4,15 +4,18 @@ use Prim.Native.Nat.{ℕ, _+_, _≤_}
 use native.Mathlib.Omega.{arith}
 use mathlib.Core.Path.{_≡_, refl, ap, _∙_}
 use mathlib.Core.Bool.{false}
+use Prim.Native.Nat.{ℕ, _+_, _*_, _≤_, _<_}
+use mathlib.Core.Path.{_≡_, refl, sym, ap, subst, _∙_}
+use mathlib.Core.Bool.{Bool, true, false}
 use mathlib.Core.List.{List, [], _∷_, _++_}
-use lib.ListN.{length}
+use lib.ListN.{length, length-take}
 use lib.Dec.{eqb}
 use Rattle.octets.specs.Octets.{Octets, pick}
 use Rattle.octets.specs.Octal.{Octal}
 use Rattle.octets.proofs.Octets.{cut-same}
 use Rattle.packets.specs.Packet.{packetOf}
 use Rattle.packets.specs.Headers.{controlHeader}
-use Rattle.calls.specs.Kinds.{Header, Record, Verdict, Note}
+use Rattle.calls.specs.Kinds.{Header, Ends, Record, Verdict, Note, Decision, Answered}
 use Rattle.state.specs.Conn.{openAt}
 use Rattle.state.proofs.Chains.{on}
 use Rattle.nfcc.specs.Controller.{judgeOf}
@@ -22,6 +25,11 @@ use Rattle.messages.proofs.Lengths.{response-short, notice-short}
 use Rattle.messages.proofs.Small.{response-octal, notice-octal}
 use Rattle.ends.specs.Steps.{verdictOf}
 use Rattle.area.specs.Map.{wireSlots}
+use Rattle.ends.specs.Steps.{verdictOf, decided, Answers}
+use Rattle.area.specs.Map.{areaSize, wireSlots, controlSize, upAt}
+use Rattle.area.specs.Movers.{putsAll}
+use Rattle.record.specs.Layout.{bit}
+use Rattle.record.specs.Claims.{stored}
 use Rattle.record.specs.Fit.{Shape, Fit}
 use Rattle.record.specs.Small.{Small}
 use Rattle.record.proofs.Small.{profile-control}
@@ -32,9 +40,12 @@ use Rattle.model.specs.State as bench
 use Rattle.model.specs.State.{isOpen}
 use Rattle.model.specs.Effects.{Effect, down, taken}
 use Rattle.model.specs.calls.Down.{answers, deciding}
+use Rattle.calls.specs.Word.{upUnit, wordOf}
+use Rattle.calls.specs.Outcome.{outcome, ComesTo}
 use Rattle.calls.specs.Seen.{Puts}
 use Rattle.calls.specs.Refines.{Follows, RefinesTo}
 use Rattle.calls.specs.calls.Down.{notePacket, notePackets, answersTo, answeredRecord, answeredArea, answered}
+use Rattle.calls.specs.calls.Down.{notePacket, notePackets, answersTo, moreUp, answeredRecord, answeredArea, answeredBy, answered}
 use Rattle.calls.proofs.Taken.{added-none, took-refines}
 use Rattle.calls.proofs.Deciding.{verdict-small, decided-shape, decided-fit, decided-small, decided-sound, decided-view}
 
@@ -50,13 +61,58 @@ note-packet mt out after m note p room =
 pub note-length : (out after : Octets) (m : Message) (note : Note) → Put out m note after → note .len ≡ length (m .payload)
 note-length out after m note p = ap (λ (x : Note). x .len) (p .head)
 
+-- what is noted of a short message is short, and its part of the buffer too
+pub cut-few : (at n : ℕ) (l : Octets) → length (cut at n l) ≤ n
+unfolding cut
+cut-few at n l = simp length-take (omega arith)
+
 -- the answer: the response, and the notification after it where there is one
 pub note-packets : (out after out′ after′ : Octets) (m m′ : Message) (note note′ : Note) → Put out m note after → Put out′ m′ note′ after′
     → length (m .payload) ≤ length out → length (m′ .payload) ≤ length out′
     → notePackets note after note′ after′ ≡ responsePacket m ∷ noticePackets m′
+unfolding notePackets
 note-packets out after out′ after′ m m′ note note′ p q room room′ i =
     note-packet 2 out after m note p room i
     ∷ pick (eqb (note-length out′ after′ m′ note′ q i) 0) [] (note-packet 3 out′ after′ m′ note′ q room′ i ∷ [])
+
+pub notes-few : (response notice : Note) (rsp ntf : Octets) → length (notePackets response rsp notice ntf) ≤ 2
+unfolding notePackets
+notes-few response notice rsp ntf =
+    on (λ (l : List Octets). length (notePacket 2 response rsp ∷ l) ≤ 2) (eqb (notice .len) 0) (λ _. omega arith) (λ _. omega arith)
+
+-- both messages have room in a slot
+pub answers-short : (e : Ends) (gid oid : ℕ) (d : Decision) (r : Answered) (rsp ntf rsp′ ntf′ : Octets) → Answers e gid oid d r rsp ntf rsp′ ntf′
+    → (r .response .len ≤ controlSize) × (r .notice .len ≤ controlSize)
+answers-short e gid oid d r rsp ntf rsp′ ntf′ w =
+    (omega (arith, note-length rsp rsp′ (responseMessage gid oid (e .profile) (d .verdict)) (r .response) (w .response), response-short (e .profile) (d .verdict)),
+    omega (arith, note-length ntf ntf′ (noticeMessage (d .verdict)) (r .notice) (w .notice), notice-short (d .verdict)))
+
+-- what is answered to a command, noted, put up and written with the record, is the answer to it: n packets, in two buffers of room for any
+-- message, where m′ is the command in a local array; b is the area with them, and c with the record too
+pub answer-made : (t : Record) (h : Header) (m m′ a b c : Octets) (r : Answered) (rsp ntf rsp′ ntf′ : Octets) (n : ℕ)
+    → m′ ≡ m → Answers (t .ends) (h .id) (h .oid) (decided (t .ends) (h .id) (h .oid) m′) r rsp ntf rsp′ ntf′
+    → length rsp ≡ controlSize → length ntf ≡ controlSize
+    → n ≡ length (notePackets (r .response) rsp′ (r .notice) ntf′)
+    → b ≡ putsAll upAt a (t .up) (notePackets (r .response) rsp′ (r .notice) ntf′)
+    → c ≡ stored b (record { ends = r .decision .next; down = t .down; up = moreUp n (t .up) })
+    → ComesTo (n * upUnit) c (answered t h m a)
+unfolding wordOf bit
+answer-made t h m m′ a b c r rsp ntf rsp′ ntf′ n same made lr ln many put after =
+    let w = subst (λ (x : Octets). Answers (t .ends) (h .id) (h .oid) (decided (t .ends) (h .id) (h .oid) x) r rsp ntf rsp′ ntf′) same made in
+    let v : Verdict = verdictOf (t .ends) (h .id) (h .oid) m in
+    let response : Message = responseMessage (h .id) (h .oid) (t .ends .profile) v in
+    let ps : notePackets (r .response) rsp′ (r .notice) ntf′ ≡ answersTo t h v =
+    note-packets rsp rsp′ ntf ntf′ response (noticeMessage v) (r .response) (r .notice) (w .response) (w .notice)
+    (omega (arith, response-short (t .ends .profile) v)) (omega (arith, notice-short v))
+    in
+    let count : n ≡ length (answersTo t h v) = many ∙ ap length ps in
+    let word : n * upUnit ≡ wordOf false false 0 0 (length (answersTo t h v)) = omega (arith, count) in
+    let area : c ≡ stored (answeredArea t h v a) (answeredRecord t h v) =
+    after
+    ∙ (λ i. stored (put i) (record { ends = w .decision i .next; down = t .down; up = moreUp (count i) (t .up) }))
+    ∙ (λ i. stored (putsAll upAt a (t .up) (ps i)) (answeredRecord t h v))
+    in
+    λ out i. outcome (word i) (area i) out
 
 -- at most two, each of octets and short enough for a slot
 answers-few : (gid oid : ℕ) (t : Record) (v : Verdict) → length (answers gid oid (t .ends .profile) v) ≤ 2

@@ -44,7 +44,7 @@ use Rattle.model.specs.Refusals.{Rule, rule, first, isNil, full}
 use Rattle.model.specs.calls.Down.{needsTwo, tooTight, storeFull, firstFull, asked, storing, arriving, taking, downRules}
 use Rattle.model.specs.Bench.{act}
 use Rattle.model.proofs.Order.{need}
-use Rattle.calls.specs.Outcome.{Outcome}
+use Rattle.calls.specs.Outcome.{Outcome, lowest}
 use Rattle.calls.specs.Seen.{Puts}
 use Rattle.calls.specs.Refines.{Good, Follows, Along, RefinesTo, Refines}
 use Rattle.calls.specs.calls.Down.{downSlot, downRead, tookDown, downDropped, controllerSide, storedRecord, storedSlot, dataStored, dataDown, commandDown, arrived, downed, downCall, Arrivable, Downable}
@@ -157,6 +157,16 @@ module _ (a : Octets) (r : Record) where
           (λ i. rule 4 (tooTight s (took i)) ∷ rule 8 (isNil (took i)) ∷ rule 12 (firstFull s (took i)) ∷ [])
           ∙ (λ i. rule 4 (tight-is x refl i) ∷ rule 8 false ∷ rule 12 (full-is x refl i) ∷ [])
           ∙ sym (λ i. rule 4 (not (e i) && tightBy r x) ∷ rule 8 (e i) ∷ rule 12 (not (e i) && fullBy r x) ∷ [])
+
+  -- the number of the first that applies: for an empty wire, and by what was read
+  pub down-empty : r .down .head < wireSlots → eqb (r .down .count) 0 ≡ true → 8 ≡ lowest (downRules (view a r))
+  unfolding lowest
+  down-empty low e = rw e at (sym (ap lowest (down-tests low)))
+
+  pub down-lowest : r .down .head < wireSlots → eqb (r .down .count) 0 ≡ false → (x : Reading) → downRead r a ≡ x
+      → pick (tightBy r x) 4 (pick (fullBy r x) 12 0) ≡ lowest (downRules (view a r))
+  unfolding lowest
+  down-lowest low e x f = rw e at (sym (ap lowest (down-tests low ∙ ap (downTests r) f)))
 
   -- ---- what is known where none applies
 

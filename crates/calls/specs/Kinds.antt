@@ -33,3 +33,5 @@ pub use Rattle.ends.specs.declared.message.Heeded.{Heeded}
 pub use Rattle.record.specs.declared.load.Loaded.{Loaded}
 pub use Rattle.state.specs.declared.kinds.Progress.{Progress}
 pub use Rattle.state.specs.declared.runs.Joined.{Joined}
+pub use Rattle.ends.specs.declared.command.Answered.{Answered}
+pub use Rattle.ends.specs.declared.command.Decision.{Decision}

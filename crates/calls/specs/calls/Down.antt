@@ -90,7 +90,7 @@ abbrev pub notePacket : ℕ → Note → Octets → Octets
 notePacket mt note m = packetOf (controlHeader mt (note .gid) (note .oid)) (cut 0 (note .len) m)
 
 -- a response, and a notification where its length is not 0
-abbrev pub notePackets : Note → Octets → Note → Octets → List Octets
+unfoldable pub notePackets : Note → Octets → Note → Octets → List Octets
 notePackets response rsp notice ntf =
     notePacket 2 response rsp ∷ pick (eqb (notice .len) 0) [] (notePacket 3 notice ntf ∷ [])
 
