@@ -28,7 +28,7 @@ ghost use Rattle.views.specs.View.{view};
 ghost use Rattle.model.specs.calls.Consume.{isLoop, consumeRules};
 ghost use Rattle.calls.specs.Word.{wordOf};
 ghost use Rattle.calls.specs.Outcome.{outcome, Lowest};
-ghost use Rattle.calls.specs.calls.Consume.{controllerSide, oldestAt, consumedSide, consumedRecord, consumedRun, echoedSlot, consumedWord, consumedAs, joinedBy, consumed, Consumable};
+ghost use Rattle.calls.specs.calls.Consume.{controllerSide, oldestAt, oldestRead, consumedSide, consumedRecord, consumedRun, echoedSlot, consumedWord, consumedAs, joinedBy, consumed, Consumable};
 
 // ---- what refuses it
 
@@ -91,7 +91,7 @@ fn consumed_side(k: ControllerSide, next: Progress) -> ControllerSide
 
 // The up wire after it: on a loopback it has one packet more.
 fn up_after(up: Ring, conn: u8) -> Ring
-    requires { ⌜ isLoop conn ≡ true → up .count < wireSlots ⌝ }
+    requires { ⌜ (isLoop conn ≡ true → up .count < wireSlots) ⌝ }
     ensures { λ x. ⌜ x ≡ pick (isLoop conn) (putInto up) up ⌝ }
 {
     let loops = 0 != conn;
@@ -136,6 +136,15 @@ fn oldest_at(r: Record, conn: u8) -> usize
     ring::first_at(base, store)
 }
 
+// What the reader finds there.
+fn read(area: &[u8], r: Record, conn: u8) -> Reading
+    requires { ⌜ Consumable r conn ⌝ }
+    ensures { λ x. ⌜ x ≡ oldestRead r conn (now (area .entry)) ⌝ }
+{
+    let slot = oldest_at(r, conn);
+    movers::read_slot(area, slot)
+}
+
 // On a loopback the slot is copied into the first free slot of the up wire.
 fn echo(area: &mut [u8], r: Record, conn: u8)
     requires { ⌜ (areaSize ≤ length (now area)) × Consumable r conn ⌝ }
@@ -150,6 +159,14 @@ fn echo(area: &mut [u8], r: Record, conn: u8)
     }
 }
 
+// How many packets it puts on the up wire.
+fn ups(conn: u8) -> usize
+    ensures { λ x. ⌜ x ≡ pick (isLoop conn) 1 0 ⌝ }
+{
+    let loops = 0 != conn;
+    if loops { 1 } else { 0 }
+}
+
 // The area after it, and the word, from the run after it. len: of the message that was handed out, 0 for none.
 fn leave(area: &mut [u8], r: Record, conn: u8, j: Joined, len: usize) -> u64
     requires { ⌜ (areaSize ≤ length (now area)) × Consumable r conn × (len ≤ messageSize) ⌝ }
@@ -159,7 +176,7 @@ fn leave(area: &mut [u8], r: Record, conn: u8, j: Joined, len: usize) -> u64
     echo(area, r, conn);
     let next = plan(r, conn, progress);
     write::encode(area, next);
-    let up = if 0 != conn { 1 } else { 0 };
+    let up = ups(conn);
     word::answer(j.dropped, j.done, len, up)
 }
 
@@ -182,6 +199,7 @@ fn join(area: &mut [u8], r: Record, conn: u8, n: usize)
 fn deliver(area: &[u8], out: &mut [u8], conn: u8, done: bool, len: usize) -> usize
     requires { ⌜ (areaSize ≤ length (now area)) × (messageSize ≤ length (now out)) × (placeOf conn < places) × (done ≡ true → len ≤ messageSize) ⌝ }
     ensures length { λ x. ⌜ x ≡ pick done len 0 ⌝ }
+    ensures short { λ x. ⌜ x ≤ messageSize ⌝ }
     ensures octets { λ _. ⌜ now (out .exit) ≡ pick done (splice (now (out .entry)) 0 (cut (controllerRunAt (placeOf conn)) len (now (area .entry)))) (now (out .entry)) ⌝ }
 {
     if done {
@@ -226,8 +244,7 @@ pub fn act(area: &mut [u8], out: &mut [u8], r: Record, conn: u8) -> u64
     requires { ⌜ (areaSize ≤ length (now area)) × (messageSize ≤ length (now out)) × Consumable r conn ⌝ }
     ensures { λ w. ⌜ outcome w (now (area .exit)) (now (out .exit)) ≡ consumed r conn (now (area .entry)) (now (out .entry)) ⌝ }
 {
-    let slot = oldest_at(r, conn);
-    let got = movers::read_slot(area, slot);
+    let got = read(area, r, conn);
     let Reading::Packet(h, n) = got else {
         return discard(area, r, conn);
     };

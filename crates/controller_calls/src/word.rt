@@ -1,11 +1,12 @@
 // The word that a call which is taken answers.
 ghost use mathlib.Core.Path.{_≡_};
-ghost use Prim.Native.Nat.{_<_};
+ghost use Prim.Native.Nat.{_≤_, _<_};
 ghost use Rattle.record.specs.Layout.{bit};
 ghost use Rattle.calls.specs.Word.{wordOf};
 
 fn flag(b: bool) -> u64
-    ensures { λ w. ⌜ w ≡ bit b ⌝ }
+    ensures bit { λ w. ⌜ w ≡ bit b ⌝ }
+    ensures least { λ w. ⌜ w ≤ 1 ⌝ }
 {
     if b { 1 } else { 0 }
 }
