@@ -4,6 +4,8 @@ use Prim.Native.Nat.{ℕ, _+_, _≤_, _<_}
 use native.Mathlib.Omega.{arith}
 use mathlib.Core.Path.{_≡_, sym, ap, _∙_}
 use mathlib.Core.Bool.{Bool, true, false, _||_}
+use mathlib.Core.Path.{_≡_, refl, sym, ap, _∙_, subst}
+use mathlib.Core.Bool.{Bool, true, false, not, _&&_, _||_}
 use mathlib.Core.List.{List, _++_}
 use lib.ListN.{length}
 use lib.Dec.{eqb}
@@ -30,7 +32,7 @@ use Rattle.record.specs.Fit.{Each, Shape, Fit, FitCounts, FitEnds}
 use Rattle.record.specs.Small.{SmallCounts, SmallEnds, Small}
 use Rattle.record.specs.Layout.{pairsRoom}
 use Rattle.record.proofs.Taken.{wire-took}
-use Rattle.wires.specs.Meaning.{junk, meant, meaning}
+use Rattle.wires.specs.Meaning.{datum, control, junk, meant, meaning}
 use Rattle.wires.proofs.Slots.{first-slot, meaning-junk, meaning-packet}
 use Rattle.views.specs.View.{upOf, view}
 use Rattle.views.specs.Moves.{Sound}
@@ -155,6 +157,40 @@ module _ (a : Octets) (r : Record) (s : Sound a r) (h : Header) (n : ℕ) (e : u
       let g4 = or-right (t 3) _ g3 in
       let g5 = or-right (t 4) _ g4 in
       each-conn (λ c. aboveBy (r .ends .conns) m x c ≡ false) (or-left (t 0) _ g) (or-left (t 2) _ g2) (or-left (t 3) _ g3) (or-left (t 4) _ g4) (or-left (t 5) _ g5)
+
+-- ---- refusal 13 by what the reader found
+
+module _ (a : Octets) (r : Record) (s : Sound a r) (some : 0 < r .up .count) where
+  abbrev many : Bool
+  many = firstTooMany (view a r) (upOf a r)
+
+  pub many-dropped : upRead r a ≡ Drop → false ≡ many
+  many-dropped e = sym (up-many a r s some ∙ ap (tooMany (view a r)) (packet-dropped a r e))
+
+  module _ (h : Header) (n : ℕ) (e : upRead r a ≡ Packet h n) where
+    abbrev x : Segment
+    x = upSegment a r s h n e
+
+    abbrev aboveBoth : Bool → Bool → Bool
+    aboveBoth b c =
+        pick b false (not c && aboveIn (view a r) (h .mt) (h .id) (h .oid) (wholeBy (view a r .hearing) (h .mt) (h .id) (h .oid) x))
+
+    many-read : many ≡ aboveBoth (eqb (h .mt) 0) (eqb (h .mt) 1)
+    many-read = up-many a r s some ∙ ap (tooMany (view a r)) (packet-read a r h n e) ∙ go (eqb (h .mt) 0)
+      where
+        go : (b : Bool) → tooMany (view a r) (pick b (datum (h .id) x) (control (h .mt) (h .id) (h .oid) x)) ≡ aboveBoth b (eqb (h .mt) 1)
+        go true = refl
+        go false = refl
+
+    pub many-data : h .mt ≡ 0 → false ≡ many
+    many-data m = sym (many-read ∙ ap (λ (b : Bool). aboveBoth b (eqb (h .mt) 1)) (eq-eqb (h .mt) 0 m))
+
+    pub many-command : (h .mt ≡ 0 → ⊥) → h .mt ≡ 1 → false ≡ many
+    many-command z m = sym (many-read ∙ (λ i. aboveBoth (ne-eqb (h .mt) 0 z i) (eq-eqb (h .mt) 1 m i)))
+
+    pub many-control : (h .mt ≡ 0 → ⊥) → (h .mt ≡ 1 → ⊥)
+        → aboveIn (view a r) (h .mt) (h .id) (h .oid) (wholeBy (view a r .hearing) (h .mt) (h .id) (h .oid) x) ≡ many
+    many-control z m = sym (many-read ∙ (λ i. aboveBoth (ne-eqb (h .mt) 0 z i) (ne-eqb (h .mt) 1 m i)))
 
 -- ---- the rules
 

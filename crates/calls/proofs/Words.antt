@@ -15,7 +15,7 @@ use Rattle.calls.specs.Word.{dropBit, handedBit, wordOf, answerIn, dropp
 use Rattle.calls.specs.Outcome.{outcome}
 use Rattle.calls.specs.Seen.{Puts, noPuts, starts, restarts, putsAfter, seenBy}
 
-bit-least : (b : Bool) → bit b ≤ 1
+pub bit-least : (b : Bool) → bit b ≤ 1
 unfolding bit
 bit-least true = omega arith
 bit-least false = omega arith
