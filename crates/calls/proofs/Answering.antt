@@ -1,16 +1,13 @@
 -- A whole command is answered on octets as in the model: the verdict, the two ends after it, and the packets that go up.
 -- Assumes nothing.
-use Prim.Native.Nat.{ℕ, _+_, _≤_}
+use Prim.Native.Nat.{ℕ, _+_, _≤_, _*_}
 use native.Mathlib.Omega.{arith}
-use mathlib.Core.Path.{_≡_, refl, ap, _∙_}
+use mathlib.Core.Path.{_≡_, refl, ap, _∙_, subst}
 use mathlib.Core.Bool.{false}
-use Prim.Native.Nat.{ℕ, _+_, _*_, _≤_, _<_}
-use mathlib.Core.Path.{_≡_, refl, sym, ap, subst, _∙_}
-use mathlib.Core.Bool.{Bool, true, false}
 use mathlib.Core.List.{List, [], _∷_, _++_}
 use lib.ListN.{length, length-take}
 use lib.Dec.{eqb}
-use Rattle.octets.specs.Octets.{Octets, pick}
+use Rattle.octets.specs.Octets.{Octets, cut, pick}
 use Rattle.octets.specs.Octal.{Octal}
 use Rattle.octets.proofs.Octets.{cut-same}
 use Rattle.packets.specs.Packet.{packetOf}
@@ -23,10 +20,8 @@ use Rattle.messages.specs.Layout.{Message, Put, responseOf, responseMessage, no
 use Rattle.messages.specs.Packets.{responsePacket, noticePackets}
 use Rattle.messages.proofs.Lengths.{response-short, notice-short}
 use Rattle.messages.proofs.Small.{response-octal, notice-octal}
-use Rattle.ends.specs.Steps.{verdictOf}
-use Rattle.area.specs.Map.{wireSlots}
 use Rattle.ends.specs.Steps.{verdictOf, decided, Answers}
-use Rattle.area.specs.Map.{areaSize, wireSlots, controlSize, upAt}
+use Rattle.area.specs.Map.{wireSlots, controlSize, upAt}
 use Rattle.area.specs.Movers.{putsAll}
 use Rattle.record.specs.Layout.{bit}
 use Rattle.record.specs.Claims.{stored}
@@ -44,8 +39,7 @@ use Rattle.calls.specs.Word.{upUnit, wordOf}
 use Rattle.calls.specs.Outcome.{outcome, ComesTo}
 use Rattle.calls.specs.Seen.{Puts}
 use Rattle.calls.specs.Refines.{Follows, RefinesTo}
-use Rattle.calls.specs.calls.Down.{notePacket, notePackets, answersTo, answeredRecord, answeredArea, answered}
-use Rattle.calls.specs.calls.Down.{notePacket, notePackets, answersTo, moreUp, answeredRecord, answeredArea, answeredBy, answered}
+use Rattle.calls.specs.calls.Down.{notePacket, notePackets, answersTo, answeredRecord, answeredArea, answered, moreUp}
 use Rattle.calls.proofs.Taken.{added-none, took-refines}
 use Rattle.calls.proofs.Deciding.{verdict-small, decided-shape, decided-fit, decided-small, decided-sound, decided-view}
 

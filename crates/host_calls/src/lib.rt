@@ -3,3 +3,5 @@
 pub mod command;
 pub mod push;
 pub mod send;
+pub mod up;
+mod word;

@@ -1,11 +1,10 @@
 -- `bench::exports::nci_credit` meets its contract: not entered, refused, or taken.
 -- Assumes nothing.
-use Rattle.record.specs.Fit.{Shape}
+use Rattle.record.specs.Fit.{Shape, Fit}
 use Rattle.model.specs.calls.Credit.{creditRules}
 use Rattle.calls.specs.calls.Credit.{credited, creditCall}
 use Rattle.calls.proofs.Able.{credit-able}
 use mathlib.Core.Path.{subst}
-use Rattle.record.specs.Fit.{Fit}
 use mathlib.Core.Path.{refl, sym, _∙_}
 use denote.Ref.{now}
 use lib.ListN.{length}

@@ -9,7 +9,7 @@ use Rattle.packets.specs.declared.Reading.the-variants.{Packet}
 use Rattle.octets.specs.Octets.{cut}
 use denote.Ref.{now}
 use native.Mathlib.Omega.{arith}
-use mathlib.Core.Path.{_≡_, refl, sym, ap, subst, _∙_}
+use mathlib.Core.Path.{sym, subst, _∙_}
 use borrow.Author.Needs.{needs}
 use Rattle.controller_calls.proofs.down.act.Statement.{statement}
 use Rattle.controller_calls.proofs.down.act.Tie as tie

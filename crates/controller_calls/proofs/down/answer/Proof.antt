@@ -9,7 +9,7 @@ use lib.ListN.{length}
 use Prim.Native.Nat.{ℕ, _≤_}
 use denote.Ref.{now}
 use native.Mathlib.Omega.{arith}
-use mathlib.Core.Path.{_≡_, refl, sym, ap, subst, _∙_}
+use mathlib.Core.Path.{refl, sym, ap, subst}
 use borrow.Author.Needs.{needs}
 use Rattle.controller_calls.proofs.down.answer.Statement.{statement}
 use Rattle.controller_calls.proofs.down.answer.Tie as tie

@@ -11,7 +11,7 @@ use Rattle.state.specs.declared.runs.ControlJoined.{ControlJoined}
 use mathlib.Core.Bool.{false}
 use Prim.Native.Nat.{_+_}
 use native.Mathlib.Omega.{arith}
-use mathlib.Core.Path.{_≡_, refl, sym, ap, subst, _∙_}
+use mathlib.Core.Path.{sym, ap, _∙_}
 use borrow.Author.Needs.{needs}
 use Rattle.controller_calls.proofs.down.command_packet.Statement.{statement}
 use Rattle.controller_calls.proofs.down.command_packet.Tie as tie

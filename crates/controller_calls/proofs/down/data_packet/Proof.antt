@@ -5,8 +5,8 @@ use Rattle.calls.specs.Outcome.{outcome}
 use Rattle.record.specs.Layout.{bit}
 use Rattle.calls.specs.Word.{wordOf}
 use Rattle.calls.specs.calls.Down.{dataDown}
-use borrow.Author.Tests.{eq-eqb, ne-eqb, not-true, not-false}
-use mathlib.Core.Path.{_≡_, refl, sym, ap, subst, _∙_}
+use borrow.Author.Tests.{not-true, not-false}
+use mathlib.Core.Path.{sym, _∙_}
 use borrow.Author.Needs.{needs}
 use Rattle.controller_calls.proofs.down.data_packet.Statement.{statement}
 use Rattle.controller_calls.proofs.down.data_packet.Tie as tie

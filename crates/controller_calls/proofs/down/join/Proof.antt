@@ -5,7 +5,7 @@ use Rattle.area.specs.Map.{slotSize, controlSize, askingAt}
 use Rattle.packets.specs.Packet.{payloadOf}
 use Rattle.octets.specs.Octets.{cut}
 use denote.Ref.{now}
-use mathlib.Core.Path.{_≡_, refl, sym, ap, subst, _∙_}
+use mathlib.Core.Path.{_∙_}
 use borrow.Author.Needs.{needs}
 use Rattle.controller_calls.proofs.down.join.Statement.{statement}
 use Rattle.controller_calls.proofs.down.join.Tie as tie

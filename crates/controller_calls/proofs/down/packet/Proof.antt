@@ -1,7 +1,7 @@
 -- `controller_calls::down::packet` meets its contract, by its message type.
 -- Assumes nothing.
 use Rattle.calls.specs.calls.Down.{arrived}
-use borrow.Author.Tests.{eq-eqb, ne-eqb, not-true, not-false}
+use borrow.Author.Tests.{eq-eqb, ne-eqb}
 use borrow.Author.Needs.{needs}
 use Rattle.controller_calls.proofs.down.packet.Statement.{statement}
 use Rattle.controller_calls.proofs.down.packet.Tie as tie

@@ -6,10 +6,10 @@ use Rattle.record.specs.Fit.{FitRing}
 use Rattle.area.specs.Movers.{putsAll}
 use Rattle.area.specs.Ring.{freeAt}
 use Rattle.area.specs.Map.{wireSlots, upAt}
-use borrow.Author.Tests.{eq-eqb, ne-eqb, not-true, not-false}
+use borrow.Author.Tests.{eq-eqb, ne-eqb}
 use denote.Ref.{now}
 use native.Mathlib.Omega.{arith}
-use mathlib.Core.Path.{_≡_, refl, sym, ap, subst, _∙_}
+use mathlib.Core.Path.{sym, subst, _∙_}
 use borrow.Author.Needs.{needs}
 use Rattle.controller_calls.proofs.down.put_answers.Statement.{statement}
 use Rattle.controller_calls.proofs.down.put_answers.Tie as tie

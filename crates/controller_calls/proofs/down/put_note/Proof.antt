@@ -7,7 +7,7 @@ use Rattle.octets.specs.Octets.{splice}
 use lib.ListN.{length}
 use denote.Ref.{now}
 use native.Mathlib.Omega.{arith}
-use mathlib.Core.Path.{_≡_, refl, sym, ap, subst, _∙_}
+use mathlib.Core.Path.{ap, _∙_}
 use borrow.Author.Needs.{needs}
 use Rattle.controller_calls.proofs.down.put_note.Statement.{statement}
 use Rattle.controller_calls.proofs.down.put_note.Tie as tie

@@ -6,8 +6,8 @@ use Rattle.packets.specs.Packet.{readOf}
 use Rattle.packets.specs.declared.Reading.the-variants.{Packet, Drop}
 use Rattle.octets.specs.Octets.{pick, cut}
 use denote.Ref.{now}
-use borrow.Author.Tests.{eq-eqb, ne-eqb, not-true, not-false}
-use mathlib.Core.Path.{_≡_, refl, sym, ap, subst, _∙_}
+use borrow.Author.Tests.{eq-eqb, ne-eqb}
+use mathlib.Core.Path.{sym, _∙_}
 use borrow.Author.Needs.{needs}
 use Rattle.controller_calls.proofs.down.refusal.Statement.{statement}
 use Rattle.controller_calls.proofs.down.refusal.Tie as tie

@@ -7,7 +7,7 @@ use Rattle.record.specs.Fit.{FitRing}
 use Rattle.state.specs.declared.kinds.Counts.{Counts}
 use denote.Ref.{now}
 use native.Mathlib.Omega.{arith}
-use mathlib.Core.Path.{_≡_, refl, sym, ap, subst, _∙_}
+use mathlib.Core.Path.{sym, ap, subst, _∙_}
 use borrow.Author.Needs.{needs}
 use Rattle.controller_calls.proofs.down.store.Statement.{statement}
 use Rattle.controller_calls.proofs.down.store.Tie as tie

@@ -2,7 +2,7 @@
 -- Assumes nothing.
 use Rattle.state.specs.declared.kinds.Counts.{Counts}
 use native.Mathlib.Omega.{arith}
-use mathlib.Core.Path.{_≡_, refl, sym, ap, subst, _∙_}
+use mathlib.Core.Path.{ap}
 use borrow.Author.Needs.{needs}
 use Rattle.controller_calls.proofs.down.stored_record.Statement.{statement}
 use Rattle.controller_calls.proofs.down.stored_record.Tie as tie
