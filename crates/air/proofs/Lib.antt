@@ -1,2 +1,4 @@
 pub mod Room
 pub mod Taken
+pub mod Spoken
+pub mod Small

@@ -2,7 +2,7 @@
 -- Assumes nothing.
 use Prim.Native.Nat.{ℕ, zero, suc, _≤_}
 use native.Mathlib.Omega.{arith}
-use mathlib.Core.List.{_++_}
+use mathlib.Core.List.{[], _∷_, _++_}
 use lib.ListN.{getD, take, drop}
 use Rattle.octets.specs.Octets.{Octets, cut, over, splice}
 use Rattle.octets.specs.Octal.{Octal, octal-nil, octal-cons}
@@ -16,12 +16,21 @@ pub octal-append : {l m : Octets} → Octal l → Octal m → Octal (l ++ m)
 octal-append octal-nil k = k
 octal-append (octal-cons h t) k = octal-cons h (octal-append t k)
 
+-- and each part of such a list
+pub octal-left : (l m : Octets) → Octal (l ++ m) → Octal l
+octal-left [] m h = octal-nil
+octal-left (x ∷ l) m (octal-cons h t) = octal-cons h (octal-left l m t)
+
+pub octal-right : (l m : Octets) → Octal (l ++ m) → Octal m
+octal-right [] m h = h
+octal-right (x ∷ l) m (octal-cons h t) = octal-right l m t
+
 octal-take : (n : ℕ) {l : Octets} → Octal l → Octal (take n l)
 octal-take zero h = octal-nil
 octal-take (suc n) octal-nil = octal-nil
 octal-take (suc n) (octal-cons h t) = octal-cons h (octal-take n t)
 
-octal-drop : (n : ℕ) {l : Octets} → Octal l → Octal (drop n l)
+pub octal-drop : (n : ℕ) {l : Octets} → Octal l → Octal (drop n l)
 octal-drop zero h = h
 octal-drop (suc n) octal-nil = octal-nil
 octal-drop (suc n) (octal-cons h t) = octal-drop n t

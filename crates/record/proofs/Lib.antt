@@ -7,3 +7,5 @@ pub mod Conns
 pub mod Stored
 pub mod Outside
 pub mod Claims
+pub mod Controllers
+pub mod Pairs

@@ -3,16 +3,20 @@
 use Prim.Native.Nat.{ℕ, zero, suc, _+_, _≤_, _<_}
 use native.Mathlib.Omega.{arith}
 use mathlib.Core.Bool.{Bool, true, false}
-use mathlib.Core.List.{[], _∷_}
+use mathlib.Core.List.{[], _∷_, _++_}
 use lib.ListN.{getD}
 use lib.Dec.{eqb}
 use Rattle.octets.specs.Octets.{Octets, cut}
 use Rattle.octets.specs.Octal.{Octal, octal-nil, octal-cons}
-use Rattle.octets.proofs.Octal.{octal-at, octal-append, octal-cut}
-use Rattle.record.specs.Kinds.{Phase, Pending, Rf, Progress, Hand, Ring, Counts, Record}
+use Rattle.octets.proofs.Octal.{octal-at, octal-append, octal-left, octal-right, octal-cut}
+use Rattle.record.specs.Kinds.{Profile, Pair, Phase, Pending, Rf, Progress, Controller, Hand, Ring, Counts, Record}
+use Rattle.record.specs.Kinds.selection as selection
+use Rattle.record.specs.Kinds.rf.{Idle, Discovery, W4AllDiscoveries, W4HostSelect, PollActive, ListenActive, ListenSleep}
 use Rattle.record.specs.Kinds.phase.{Cold, Reset, Ready}
-use Rattle.state.specs.Conn.{closedCounts}
+use Rattle.state.specs.Conn.{termsOf, closedCounts}
+use Rattle.state.specs.Radio.{noPairs}
 use Rattle.state.proofs.Chains.{on}
+use Rattle.state.proofs.Small.{Bare, SmallTerms}
 use Rattle.area.specs.Map.{recordAt, recordRoom, places}
 use Rattle.record.specs.Layout.{slot, rfPart, selectedPart, pairsPart, pendingPart, runPart, hostSideSize, countsPart, profilePlace, hostPlace, hearingPlace, controllerPlace, askingPlace, connsPlace, high, low, bit}
 use Rattle.record.specs.Reading.{pendingOf, phaseOf, rfOf, profileAt, progressAt, controlRunAt, hostAt, pairAt, pairsAt, controllerAt, hostSideAt, controllerSideAt, countsAt, connsAt, endsOf, recordOf, decodeOf}
@@ -169,3 +173,56 @@ small-decode a h =
           };
       conns = conns-small s o connsPlace;
     }
+
+-- ---- the parts of what is octets
+
+pub profile-control : (p : Profile) → Octal (profileOctets p) → p .control ≤ 255
+unfolding profileOctets
+profile-control p o = octal-at o 0
+
+pub profile-terms : (p : Profile) → Octal (profileOctets p) → (c : ℕ) → SmallTerms (termsOf p c)
+unfolding profileOctets termsOf
+profile-terms p o c =
+    on SmallTerms (eqb c 0)
+    (λ _. record { payload = octal-at o 3; credits = octal-at o 4 })
+    (λ _. record { payload = octal-at o 1; credits = octal-at o 2 })
+
+-- of the controller, apart from its phase
+pub record SmallController (k : Controller) : Type 0 where
+  pub given : k .given ≤ 255
+  pub rf : Octal (rfOctets (k .rf))
+  pub pairs : Octal (pairsOctets (k .pairs))
+
+pub controller-parts : (k : Controller) → Octal (controllerOctets k) → SmallController k
+unfolding controllerOctets
+controller-parts k o =
+    let front : Octets = phaseOctet (k .phase) ∷ k .given ∷ [] in
+    let both = octal-left (front ++ rfOctets (k .rf)) (pairsOctets (k .pairs)) o in
+    record { given = octal-at both 1; rf = octal-right front (rfOctets (k .rf)) both; pairs = octal-right (front ++ rfOctets (k .rf)) (pairsOctets (k .pairs)) o }
+
+pub controller-octal : (k : Controller) → SmallController k → Octal (controllerOctets k)
+unfolding controllerOctets
+controller-octal k s = octal-append (octal-append (octal-cons (phase-small (k .phase)) (octal-cons (s .given) octal-nil)) (s .rf)) (s .pairs)
+
+-- an RF state that carries no octet, and one with a selection
+pub bare-octal : (rf : Rf) → Bare rf → Octal (rfOctets rf)
+unfolding rfOctets
+bare-octal Idle b = case 0 (omega arith)
+bare-octal Discovery b = case 1 (omega arith)
+bare-octal W4AllDiscoveries b = case 2 (omega arith)
+bare-octal (W4HostSelect selection.Nothing) b = case 3 (omega arith)
+bare-octal (W4HostSelect (selection.Chosen p)) b = absurd b
+bare-octal (PollActive a) b = absurd b
+bare-octal (ListenActive a) b = absurd b
+bare-octal ListenSleep b = case 6 (omega arith)
+
+pub chosen-octal : (p : Pair) → p .id ≤ 255 → p .protocol ≤ 255 → Octal (rfOctets (W4HostSelect (selection.Chosen p)))
+unfolding rfOctets
+chosen-octal p h i = four 3 1 (p .id) (p .protocol) (omega arith) (omega arith) h i
+
+pub none-octal : Octal (pairsOctets noPairs)
+unfolding pairsOctets
+none-octal = zeros (zeros (zeros (zeros (octal-cons {x = 0} (omega arith) octal-nil))))
+  where
+    zeros : {l : Octets} → Octal l → Octal (0 ∷ 0 ∷ 0 ∷ 0 ∷ l)
+    zeros t = octal-append (case 0 (omega arith)) t

@@ -4,3 +4,5 @@ pub mod Places
 pub mod Limits
 pub mod Conns
 pub mod Steady
+pub mod Small
+pub mod Targets

@@ -9,3 +9,4 @@ pub mod Whole
 pub mod Stored
 pub mod Tests
 pub mod Changed
+pub mod Controllers
