@@ -3,6 +3,9 @@ pub mod Called
 pub mod Words
 pub mod Refining
 pub mod Taken
+pub mod Controllers
 pub mod Changing
+pub mod Meeting
+pub mod Airing
 pub mod Pushing
 pub mod Replying

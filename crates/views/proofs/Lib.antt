@@ -9,4 +9,3 @@ pub mod Whole
 pub mod Stored
 pub mod Tests
 pub mod Changed
-pub mod Controllers

@@ -9,7 +9,7 @@ use lib.Dec.{eqb}
 use borrow.Author.Tests.{eqb-true}
 use Rattle.octets.specs.Octets.{Octets, pick, cut}
 use Rattle.packets.specs.Segments.{Segment}
-use Rattle.views.specs.Kinds.{Hand, ControllerSide, Counts, Record}
+use Rattle.calls.specs.Kinds.{Hand, ControllerSide, Counts, Record}
 use Rattle.state.specs.Conn.{placeOf, countsOf}
 use Rattle.ends.specs.Changes.{Change, stays, opens, closes, gives, changedController, countsAtController, endpointBy}
 use Rattle.area.specs.Map.{places, payloadSize, endpointAt}
