@@ -99,15 +99,15 @@ aired-controller k Speaks n s o = o
 
 -- ---- the record after an event m was met
 
+abbrev pub metRecord : Record → Octets → Record
+metRecord r m = withEnds (met (r .ends) m .next) r
+
 module _ (a : Octets) (r : Record) (s : Sound a r) (small : Small r) (m : Octets) (o : Octal m) where
   abbrev x : Aired
   x = airedIn (r .ends) (eventOf m)
 
   abbrev t : Terms
   t = termsOf (r .ends .profile) 0
-
-  abbrev pub metRecord : Record
-  metRecord = withEnds (met (r .ends) m .next) r
 
   spoken : Spoken (eventOf m) x
   spoken = aired-spoken (r .ends .controller .rf) (r .ends .controller .pairs) (eventOf m)
@@ -118,10 +118,10 @@ module _ (a : Octets) (r : Record) (s : Sound a r) (small : Small r) (m : Octets
   steady-after : Steady (controllerAired (r .ends .controller) x)
   steady-after = aired-steady (r .ends .controller) x (fits-steady (r .ends .controller) (s .fit .own .controller) (s .shape .pairs))
 
-  pub met-shape : Shape metRecord
+  pub met-shape : Shape (metRecord r m)
   met-shape = record { pairs = steady-after .places; conns = length-aired (r .ends .profile) (r .ends .conns) x ∙ s .shape .conns }
 
-  pub met-fit : Fit metRecord
+  pub met-fit : Fit (metRecord r m)
   met-fit =
       let f = s .fit in
       let h = r .ends .endpoint in
@@ -145,7 +145,7 @@ module _ (a : Octets) (r : Record) (s : Sound a r) (small : Small r) (m : Octets
             (f .conns);
       }
 
-  pub met-small : Small metRecord
+  pub met-small : Small (metRecord r m)
   met-small =
       let w = small .own in
       let terms : SmallTerms t = profile-terms (r .ends .profile) (w .profile) 0 in
@@ -167,20 +167,20 @@ module _ (a : Octets) (r : Record) (s : Sound a r) (small : Small r) (m : Octets
             (small .conns);
       }
 
-  pub met-sound : Sound a metRecord
+  pub met-sound : Sound a (metRecord r m)
   met-sound = record { room = s .room; fit = met-fit; shape = met-shape }
 
 -- ---- what it stands for
 
+-- both ends after the event, in the model
+abbrev pub stands : Octets → Record → Octets → Aired → bench.State
+stands a r m x =
+    bench.withControllerState (controllerAired (r .ends .controller) x)
+    (bench.withConns (airedConns (termsOf (r .ends .profile) 0) x m (view a r .conns)) (view a r))
+
 module _ (a : Octets) (r : Record) (s : Sound a r) (m : Octets) where
   abbrev after : Aired → Record
   after x = withEnds (endsAired (r .ends) x (length m - 1)) r
-
-  -- both ends after the event, in the model
-  abbrev pub stands : Aired → bench.State
-  stands x =
-      bench.withControllerState (controllerAired (r .ends .controller) x)
-      (bench.withConns (airedConns (termsOf (r .ends .profile) 0) x m (view a r .conns)) (view a r))
 
   -- the message in hand follows connection 0 where the endpoint does not speak
   changed : (x : Aired) → endpointAired (r .ends .endpoint) x (length m - 1) ≡ endpointBy (changeAired (termsOf (r .ends .profile) 0) x 0) (r .ends .endpoint)
@@ -197,7 +197,7 @@ module _ (a : Octets) (r : Record) (s : Sound a r) (m : Octets) where
       λ i. bench.withControllerState (controllerAired (r .ends .controller) x) (all i)
 
   -- an event that is notified
-  pub told-view : (x : Aired) → isRefused x ≡ false → Spoken (eventOf m) x → eqb (kindOf (eventOf m)) 8 ≡ false → view a (after x) ≡ stands x
+  pub told-view : (x : Aired) → isRefused x ≡ false → Spoken (eventOf m) x → eqb (kindOf (eventOf m)) 8 ≡ false → view a (after x) ≡ stands a r m x
   unfolding endpointAired
   told-view Refused t w k = absurd (false≢true (sym t))
   told-view (Goes rf l) t w k = changed (Goes rf l) refl
@@ -206,7 +206,7 @@ module _ (a : Octets) (r : Record) (s : Sound a r) (m : Octets) where
   told-view Speaks t w k = absurd (false≢true (sym k ∙ w))
 
   -- the endpoint's message, in its place
-  pub spoken-view : (x : Aired) → isRefused x ≡ false → Spoken (eventOf m) x → eqb (kindOf (eventOf m)) 8 ≡ true → view (splice a endpointAt (drop 1 m)) (after x) ≡ stands x
+  pub spoken-view : (x : Aired) → isRefused x ≡ false → Spoken (eventOf m) x → eqb (kindOf (eventOf m)) 8 ≡ true → view (splice a endpointAt (drop 1 m)) (after x) ≡ stands a r m x
   unfolding controllerAired connsAired endpointAired
   spoken-view Refused t w k = absurd (false≢true (sym t))
   spoken-view (Goes rf l) t w k = absurd (false≢true (sym w ∙ k))
