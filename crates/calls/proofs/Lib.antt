@@ -4,6 +4,10 @@ pub mod Words
 pub mod Refining
 pub mod Taken
 pub mod Handed
+pub mod Controllers
+pub mod Changing
+pub mod Meeting
+pub mod Airing
 pub mod Pushing
 pub mod Starting
 pub mod Reporting

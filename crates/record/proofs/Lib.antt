@@ -11,3 +11,4 @@ pub mod Outside
 pub mod Claims
 pub mod Asked
 pub mod Controllers
+pub mod Pairs

@@ -6,3 +6,4 @@ pub mod Conns
 pub mod Steady
 pub mod Small
 pub mod SmallVerdicts
+pub mod Targets
