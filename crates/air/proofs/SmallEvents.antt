@@ -20,7 +20,7 @@ use Rattle.state.specs.Radio.{isActive, isListening, isAsleep, polls, listens, 
 use Rattle.state.proofs.Chains.{on}
 use Rattle.state.proofs.SmallVerdicts.{SmallTerms}
 use Rattle.state.proofs.Targets.{SmallPair, SmallTarget, SmallRf}
-use Rattle.air.specs.Air.{targetOf, foundIn, pollIn, listenIn, eventOf, noRoom, foundTo, foundBy, pollBy, listenBy, failedBy, airedBy, airMessage}
+use Rattle.air.specs.Air.{targetOf, foundIn, pollIn, listenIn, eventOf, noRoom, foundBy, pollBy, listenBy, failedBy, airedBy, airMessage}
 use Rattle.air.proofs.Taken.{Within, event-within}
 
 -- ---- an event

@@ -15,20 +15,19 @@ use Rattle.octets.proofs.Octal.{octal-drop, octal-splice}
 use Rattle.packets.specs.Headers.{controlHeader}
 use Rattle.packets.proofs.Packet.{octal-packet}
 use Rattle.messages.specs.Layout.{Message}
-use Rattle.calls.specs.Kinds.{Record}
-use Rattle.air.specs.declared.events.Aired.{Aired}
+use Rattle.calls.specs.Kinds.{Record, Aired}
 use Rattle.state.proofs.Chains.{on}
 use Rattle.air.specs.Air.{eventOf, kindOf, isRefused, airMessage}
 use Rattle.air.proofs.Room.{message-short}
 use Rattle.air.proofs.Spoken.{kind-told, aired-spoken, taken-known, notified}
 use Rattle.air.proofs.SmallEvents.{event-octal}
-use Rattle.ends.specs.Steps.{airedIn, met}
+use Rattle.ends.specs.Steps.{airedIn}
 use Rattle.area.specs.Map.{areaSize, messageSize, payloadSize, wireSlots, downAt, upAt, endpointAt}
 use Rattle.area.specs.Ring.{freeAt, putInto}
 use Rattle.record.specs.Reading.{decodeOf}
 use Rattle.record.specs.Fit.{Shape, Fit, FitRing}
 use Rattle.record.specs.Small.{Small}
-use Rattle.record.specs.Plan.{withUp, withEnds}
+use Rattle.record.specs.Plan.{withUp}
 use Rattle.record.proofs.Small.{small-decode, profile-terms}
 use Rattle.views.specs.View.{upOf, view}
 use Rattle.views.specs.Moves.{Sound}

@@ -1,28 +1,21 @@
 -- The record after an event of the air was met: it is one that row 1 lets pass, of octets, and stands for what the model makes of the event.
 -- Assumes nothing.
-use Prim.Native.Nat.{ℕ, _-_, _≤_, _<_}
+use Prim.Native.Nat.{ℕ, _-_, _<_}
 use native.Mathlib.Omega.{arith}
-use mathlib.Core.Path.{_≡_, refl, sym, ap, _∙_, subst}
+use mathlib.Core.Path.{_≡_, refl, sym, _∙_, subst}
 use mathlib.Core.Bool.{true, false, false≢true}
 use lib.ListN.{length, drop, length-drop}
 use lib.Dec.{eqb}
 use borrow.Author.Tests.{eqb-true}
 use Rattle.octets.specs.Octets.{Octets, splice}
 use Rattle.octets.specs.Octal.{Octal}
-use Rattle.calls.specs.Kinds.{Hand, Record}
-use Rattle.state.specs.declared.kinds.Controller.{Controller}
-use Rattle.state.specs.declared.kinds.Pairs.{Pairs}
-use Rattle.state.specs.declared.kinds.Rf.{Rf}
-use Rattle.state.specs.declared.kinds.Terms.{Terms}
-use Rattle.air.specs.declared.events.Listing.{Listing}
-use Rattle.air.specs.declared.events.Listing.the-variants.{Keeps, Starts, Adds}
-use Rattle.air.specs.declared.events.Aired.{Aired}
-use Rattle.air.specs.declared.events.Aired.the-variants.{Refused, Goes, Activates, Ends, Speaks}
+use Rattle.calls.specs.Kinds.{Hand, Record, Controller, Pairs, Terms, Listing, Aired}
+use Rattle.calls.specs.Kinds.listing.{Keeps, Starts, Adds}
+use Rattle.calls.specs.Kinds.aired.{Refused, Goes, Activates, Ends, Speaks}
 use Rattle.state.specs.Conn.{placeOf, termsOf, countsOf, handWith}
 use Rattle.state.proofs.Chains.{on}
 use Rattle.state.proofs.SmallVerdicts.{SmallTerms}
 use Rattle.state.proofs.Steady.{Steady}
-use Rattle.state.proofs.Targets.{SmallRf}
 use Rattle.air.specs.Air.{eventOf, kindOf, isRefused, listedAfter, controllerAired, connsAired, endpointAired}
 use Rattle.air.proofs.Taken.{aired-steady}
 use Rattle.air.proofs.Spoken.{spoken-short, Spoken, aired-spoken}
@@ -30,7 +23,7 @@ use Rattle.air.proofs.SmallEvents.{event-small, SmallListing, SmallAired, aired
 use Rattle.ends.specs.Changes.{Change, changeAired, countsAtController, endpointBy, spokenBy}
 use Rattle.ends.specs.Steps.{endsAired, airedIn, met}
 use Rattle.ends.proofs.Changes.{counts-aired, length-aired, endpoint-aired}
-use Rattle.area.specs.Map.{places, messageSize, endpointAt}
+use Rattle.area.specs.Map.{places, endpointAt}
 use Rattle.record.specs.Layout.{pairsRoom}
 use Rattle.record.specs.Writing.{pairsOctets}
 use Rattle.record.specs.Fit.{Shape, Fit, FitHand, FitCounts}

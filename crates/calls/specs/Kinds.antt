@@ -20,18 +20,21 @@ pub use Rattle.state.specs.declared.kinds.Progress.{Progress}
 pub use Rattle.state.specs.declared.kinds.Record.{Record}
 pub use Rattle.state.specs.declared.kinds.Rf.{Rf}
 pub use Rattle.state.specs.declared.kinds.Ring.{Ring}
+pub use Rattle.state.specs.declared.kinds.Terms.{Terms}
 pub use Rattle.state.specs.declared.runs.ControlJoined.{ControlJoined}
 pub use Rattle.state.specs.declared.runs.Joined.{Joined}
 pub use Rattle.state.specs.declared.verdict.Verdict.{Verdict}
 pub use Rattle.state.specs.declared.verdict.Verdict.the-variants as verdict
 pub use Rattle.messages.specs.declared.layout.Note.{Note}
+pub use Rattle.air.specs.declared.events.Aired.{Aired}
+pub use Rattle.air.specs.declared.events.Aired.the-variants as aired
+pub use Rattle.air.specs.declared.events.Listing.{Listing}
+pub use Rattle.air.specs.declared.events.Listing.the-variants as listing
 pub use Rattle.dh.specs.declared.host.Answer.{Answer}
 pub use Rattle.dh.specs.declared.host.Answer.the-variants as answer
 pub use Rattle.dh.specs.declared.host.Heard.{Heard}
 pub use Rattle.dh.specs.declared.host.Heard.the-variants as heard
-pub use Rattle.ends.specs.declared.message.Heeded.{Heeded}
-pub use Rattle.record.specs.declared.load.Loaded.{Loaded}
-pub use Rattle.state.specs.declared.kinds.Progress.{Progress}
-pub use Rattle.state.specs.declared.runs.Joined.{Joined}
 pub use Rattle.ends.specs.declared.command.Answered.{Answered}
 pub use Rattle.ends.specs.declared.command.Decision.{Decision}
+pub use Rattle.ends.specs.declared.message.Heeded.{Heeded}
+pub use Rattle.record.specs.declared.load.Loaded.{Loaded}

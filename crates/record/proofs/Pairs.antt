@@ -12,8 +12,7 @@ use borrow.Author.Tests.{eqb-true, eqb-false, ltb-true}
 use Rattle.octets.specs.Octets.{Octets}
 use Rattle.octets.specs.Octal.{Octal, octal-nil, octal-cons}
 use Rattle.octets.proofs.Octal.{octal-at}
-use Rattle.state.specs.declared.kinds.Activation.{Activation}
-use Rattle.record.specs.Kinds.{Pair, Pairs, Rf}
+use Rattle.record.specs.Kinds.{Activation, Pair, Pairs, Rf}
 use Rattle.record.specs.Kinds.selection as selection
 use Rattle.record.specs.Kinds.rf.{Idle, Discovery, W4AllDiscoveries, W4HostSelect, PollActive, ListenActive, ListenSleep}
 use Rattle.state.specs.Radio.{noPair, noPairs, startedWith, addedTo}

@@ -1,6 +1,7 @@
 -- The types that the code of this crate and of those below it declares, in one place. The constructors of an enum stand under its
 -- name in small letters, as `rf.Idle`.
 -- Assumes nothing.
+pub use Rattle.state.specs.declared.kinds.Activation.{Activation}
 pub use Rattle.state.specs.declared.kinds.Asked.{Asked}
 pub use Rattle.state.specs.declared.kinds.ControlRun.{ControlRun}
 pub use Rattle.state.specs.declared.kinds.Controller.{Controller}

@@ -3,7 +3,7 @@
 use Prim.Native.Nat.{_≤_}
 use Rattle.state.specs.Kinds.{Pair, Activation, Rf}
 use Rattle.state.specs.Kinds.rf.{Idle, Discovery, W4AllDiscoveries, W4HostSelect, PollActive, ListenActive, ListenSleep}
-use Rattle.state.specs.declared.kinds.Selection.the-variants.{Nothing, Chosen}
+use Rattle.state.specs.Kinds.selection.{Nothing, Chosen}
 
 abbrev pub SmallPair : Pair → Type 0
 SmallPair p = (p .id ≤ 255) × (p .protocol ≤ 255)
