@@ -6,4 +6,5 @@ pub mod Taken
 pub mod Handed
 pub mod Pushing
 pub mod Crediting
+pub mod Consumed
 pub mod Consuming
