@@ -8,20 +8,30 @@ use Rattle.calls.specs.Kinds.{Record}
 use Rattle.area.specs.Map.{places}
 use Rattle.record.specs.Fit.{Fit}
 use Rattle.views.specs.View.{view}
+use Rattle.views.specs.Moves.{Sound}
 use Rattle.model.specs.calls.Command.{commandRules}
 use Rattle.model.specs.calls.Send.{sendRules}
 use Rattle.model.specs.calls.Credit.{creditRules}
 use Rattle.model.specs.calls.Reply.{replyRules}
+use Rattle.model.specs.calls.Down.{downRules}
+use Rattle.model.specs.calls.Consume.{consumeRules}
+use Rattle.model.specs.calls.Up.{upRules}
 use Rattle.calls.specs.Outcome.{lowest}
 use Rattle.calls.specs.calls.Command.{Commandable}
 use Rattle.calls.specs.calls.Send.{Sendable}
 use Rattle.calls.specs.calls.Credit.{Creditable}
 use Rattle.calls.specs.calls.Reply.{Replyable}
+use Rattle.calls.specs.calls.Down.{downRead, Downable}
+use Rattle.calls.specs.calls.Consume.{Consumable}
+use Rattle.calls.specs.calls.Up.{Uppable}
 use Rattle.calls.proofs.Rules.{first-taken}
 use Rattle.calls.proofs.Commanding.{commandTests, command-tests, command-facts}
 use Rattle.calls.proofs.Sending.{sendTests, send-tests, send-facts}
 use Rattle.calls.proofs.Crediting.{creditTests, credit-tests, credit-facts}
 use Rattle.calls.proofs.Replying.{replyTests, reply-tests, reply-facts}
+use Rattle.calls.proofs.Downing.{downTests, down-tests, down-facts}
+use Rattle.calls.proofs.Consuming.{consumeTests, consume-tests, consume-facts}
+use Rattle.calls.proofs.Upping.{up-facts}
 
 pub command-able : (a : Octets) (r : Record) (gid oid : ℕ) (m : Octets) → Fit r → 0 ≡ lowest (commandRules gid oid m (view a r)) → Commandable r gid oid m
 command-able a r gid oid m f e =
@@ -35,3 +45,13 @@ credit-able a r f five e = credit-facts r f (first-taken (creditTests r) refl (e
 
 pub reply-able : (a : Octets) (r : Record) → Fit r → 0 ≡ lowest (replyRules (view a r)) → Replyable r
 reply-able a r f e = reply-facts r f (first-taken (replyTests r) refl (e ∙ ap lowest (reply-tests a r)))
+
+pub consume-able : (a : Octets) (r : Record) (c : ℕ) → Fit r → 0 ≡ lowest (consumeRules c (view a r)) → Consumable r c
+consume-able a r c f e = consume-facts r c f (first-taken (consumeTests r c) refl (e ∙ ap lowest (consume-tests a r c)))
+
+pub down-able : (a : Octets) (r : Record) → Sound a r → 0 ≡ lowest (downRules (view a r)) → Downable r a
+down-able a r s e =
+    down-facts a r s (first-taken (downTests r (downRead r a)) refl (e ∙ ap lowest (down-tests a r (s .fit .down .head))))
+
+pub up-able : (a : Octets) (r : Record) → Sound a r → 0 ≡ lowest (upRules (view a r)) → Uppable r
+up-able a r s e = up-facts a r (s .fit) (s .shape) (first-taken (upRules (view a r)) refl e)

@@ -1,15 +1,14 @@
--- consume: the tests of its rules on numbers, what is known where none applies, the record after it, and that it is the model's consume.
+-- consume on octets is the model's consume: the packet, the connection after it, and the echo on a loopback.
 -- Assumes nothing.
 use Prim.Native.Nat.{ℕ, _+_, _≤_, _<_}
 use native.Mathlib.Omega.{arith}
 use mathlib.Core.Path.{_≡_, refl, sym, ap, _∙_, subst}
 use mathlib.Core.Logic.{inl}
-use mathlib.Core.Bool.{Bool, true, false, not, _&&_, false≢true}
+use mathlib.Core.Bool.{Bool, true, false}
 use mathlib.Core.List.{List, [], _∷_, _++_, append-nil}
-use lib.ListN.{length, set, length-set}
+use lib.ListN.{length, set}
 use lib.Seq.{getD-set-same, set-set}
-use lib.Dec.{eqb, leb}
-use borrow.Author.Tests.{leb-false, eqb-false}
+use lib.Dec.{eqb}
 use Rattle.octets.specs.Octets.{Octets, pick, cut, splice}
 use Rattle.octets.specs.Octal.{Octal}
 use Rattle.octets.proofs.Octets.{length-splice, length-cut}
@@ -22,147 +21,39 @@ use Rattle.wires.specs.Meaning.{datum, control, meaning}
 use Rattle.wires.proofs.Slots.{first-slot, meaning-junk, meaning-packet}
 use Rattle.calls.specs.Kinds.{Header, Reading, Progress, Joined, Ring, Counts, Record}
 use Rattle.calls.specs.Kinds.reading.{Packet, Drop}
-use Rattle.state.specs.Conn.{placeOf, closedCounts, countsOf, flows}
+use Rattle.state.specs.Conn.{placeOf, closedCounts}
 use Rattle.state.specs.Runs.{joinedOf, handedOn}
 use Rattle.state.proofs.Chains.{on}
 use Rattle.state.proofs.Progress.{joined-fits, done-room}
-use Rattle.area.specs.Map.{areaSize, slotSize, wireSlots, storeSlots, messageSize, places, upAt, storeAt, controllerRunAt}
+use Rattle.area.specs.Map.{areaSize, slotSize, wireSlots, storeSlots, messageSize, upAt, storeAt, controllerRunAt}
 use Rattle.area.specs.Ring.{trim, slotPacket, packetsIn, freeAt, tookFrom, putInto}
 use Rattle.area.specs.Runs.{runArea}
 use Rattle.area.proofs.Moves.{length-payload, payload-few, length-run, octal-run}
 use Rattle.record.specs.Reading.{decodeOf}
-use Rattle.record.specs.Fit.{Shape, Fit, FitRing, FitCounts}
-use Rattle.record.specs.Small.{SmallCounts, Small}
+use Rattle.record.specs.Fit.{Shape}
+use Rattle.record.specs.Small.{Small}
 use Rattle.record.specs.Plan.{withUp, withConns, withControllerRun}
 use Rattle.record.proofs.Small.{small-decode}
-use Rattle.record.proofs.Conns.{conns-set}
 use Rattle.views.specs.View.{runOf, upOf, view}
 use Rattle.views.specs.Moves.{Sound, RunJoined, joined, grew}
 use Rattle.views.proofs.Runs.{run-joined, run-outside}
 use Rattle.views.proofs.Whole.{moves}
-use Rattle.views.proofs.Tests.{packets-nil, up-full-one}
 use Rattle.model.specs.Connection.{Connection}
 use Rattle.model.specs.Connection as connection
 use Rattle.model.specs.State as bench
 use Rattle.model.specs.Effects.{Effect, consume, taken}
-use Rattle.model.specs.Refusals.{Rule, rule, first, noConn}
+use Rattle.model.specs.Refusals.{first}
 use Rattle.model.specs.calls.Consume as model
-use Rattle.model.specs.calls.Consume.{isLoop, segmentIn, joinedRun, joinedMessage, joinedFlag, consuming, consumeRules}
+use Rattle.model.specs.calls.Consume.{isLoop, segmentIn, joinedRun, joinedMessage, joinedFlag, consuming}
 use Rattle.model.specs.Bench.{act, judged}
-use Rattle.model.proofs.Order.{need}
 use Rattle.calls.specs.Seen.{Puts}
 use Rattle.calls.specs.Refines.{Good, Follows, Along, RefinesTo, Refines}
-use Rattle.calls.specs.calls.Consume.{controllerSide, oldestAt, oldest, oldestRead, consumedSide, consumedConns, consumedRecord, consumedRun, echoedSlot, consumedOut, consumedAs, joinedBy, consumedBy, consumed, consumeCall, Consumable}
+use Rattle.calls.specs.calls.Consume.{controllerSide, oldestAt, oldest, oldestRead, consumedConns, consumedRecord, consumedRun, echoedSlot, consumedOut, consumedAs, joinedBy, consumedBy, consumed, consumeCall, Consumable}
 use Rattle.calls.proofs.Called.{sound-area}
 use Rattle.calls.proofs.Refining.{at-const, at-twice, called-refines}
 use Rattle.calls.proofs.Handed.{handed-seen}
 use Rattle.calls.proofs.Taken.{Added, added-none, added-one, took-refines}
-
--- ---- the rules on numbers
-
-abbrev pub consumeTests : Record → ℕ → List Rule
-consumeTests r c =
-    rule 3 (leb places (placeOf c))
-    ∷ rule 4 (isLoop c && leb wireSlots (r .up .count))
-    ∷ rule 6 (not (controllerSide r c .opened))
-    ∷ rule 8 (eqb (controllerSide r c .store .count) 0)
-    ∷ rule 13 (flows (controllerSide r c .grant) && leb (controllerSide r c .grant) (controllerSide r c .owed))
-    ∷ []
-
-pub consume-tests : (a : Octets) (r : Record) (c : ℕ) → consumeRules c (view a r) ≡ consumeTests r c
-consume-tests a r c i =
-    rule 3 (noConn c)
-    ∷ rule 4 (isLoop c && up-full-one a r i)
-    ∷ rule 6 (not (controllerSide r c .opened))
-    ∷ rule 8 (packets-nil (storeAt (placeOf c)) storeSlots a (controllerSide r c .store) i)
-    ∷ rule 13 (flows (controllerSide r c .grant) && leb (controllerSide r c .grant) (controllerSide r c .owed))
-    ∷ []
-
--- ---- what is known where none applies
-
--- of two tests that do not both hold
-and-other : (a b : Bool) → (a && b) ≡ false → a ≡ true → b ≡ false
-and-other true b e t = e
-and-other false b e t = absurd (false≢true t)
-
-pub consume-facts : (r : Record) (c : ℕ) → Fit r → first (consumeTests r c) ≡ taken → Consumable r c
-consume-facts r c f t =
-    let place : placeOf c < places = leb-false places (placeOf c) (need 3 (consumeTests r c) t) in
-    let k = f .conns (placeOf c) place in
-    let some = eqb-false (controllerSide r c .store .count) 0 (need 8 (consumeTests r c) t) in
-    record {
-      place = place;
-      free = λ l. leb-false wireSlots (r .up .count) (and-other (isLoop c) (leb wireSlots (r .up .count)) (need 4 (consumeTests r c) t) l);
-      ring = f .up;
-      some = omega (arith, some);
-      store = k .store;
-      run = k .controller-run;
-      room =
-          λ l.
-          leb-false (controllerSide r c .grant) (controllerSide r c .owed)
-          (and-other (flows (controllerSide r c .grant)) (leb (controllerSide r c .grant) (controllerSide r c .owed)) (need 13 (consumeTests r c) t) l);
-    }
-
--- ---- the record after it is one that row 1 lets pass, of octets; next: how far the run is
-
-module _ (r : Record) (c : ℕ) (p : Consumable r c) (shape : Shape r) (next : Progress) where
-  abbrev new : Counts
-  new = record { host = countsOf (r .ends .conns) c .host; controller = consumedSide next (controllerSide r c) }
-
-  there : placeOf c < length (r .ends .conns)
-  there = omega (arith, p .place, shape .conns)
-
-  -- with the up wire as it was
-  between-fit : next .len ≤ messageSize → Fit r → Fit (consumedConns r c next)
-  between-fit short f =
-      let k = f .conns (placeOf c) (p .place) in
-      record {
-        down = f .down;
-        up = f .up;
-        own = f .own;
-        conns =
-            conns-set FitCounts (r .ends .conns) (placeOf c) new there
-            (record {
-              held = k .held;
-              payload = k .payload;
-              hand = k .hand;
-              host-run = k .host-run;
-              owed = on (λ (n : ℕ). n ≤ controllerSide r c .grant) (flows (controllerSide r c .grant)) (λ l. omega (arith, p .room l)) (λ _. k .owed);
-              store = record { head = omega arith; count = omega (arith, k .store .count) };
-              controller-run = short;
-            })
-            (f .conns);
-      }
-
-  consume-fit : next .len ≤ messageSize → Fit r → Fit (consumedRecord r c next)
-  consume-fit short f =
-      let g = between-fit short f in
-      record {
-        down = g .down;
-        up = on (FitRing wireSlots) (isLoop c) (λ l. record { head = f .up .head; count = omega (arith, p .free l) }) (λ _. f .up);
-        own = g .own;
-        conns = g .conns;
-      }
-
-  consume-small : Small r → Small (consumedRecord r c next)
-  consume-small s =
-      let k = s .conns (placeOf c) (p .place) in
-      record {
-        own = s .own;
-        conns =
-            conns-set SmallCounts (r .ends .conns) (placeOf c) new there
-            (record {
-              payload = k .payload;
-              host-grant = k .host-grant;
-              held = k .held;
-              grant = k .grant;
-              owed = on (λ (n : ℕ). n ≤ 255) (flows (controllerSide r c .grant)) (λ _. omega arith) (λ _. k .owed);
-            })
-            (s .conns);
-      }
-
-  consume-shape : Shape (consumedRecord r c next)
-  consume-shape = record { pairs = shape .pairs; conns = length-set (r .ends .conns) (placeOf c) new ∙ shape .conns }
+use Rattle.calls.proofs.Consumed.{consume-tests, consume-facts, new, there, between-fit, consume-fit, consume-small, consume-shape}
 
 -- ---- the packet
 

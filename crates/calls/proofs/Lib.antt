@@ -29,4 +29,5 @@ pub mod Receiving
 pub mod Controlling
 pub mod Coming
 pub mod Able
+pub mod Consumed
 pub mod Consuming

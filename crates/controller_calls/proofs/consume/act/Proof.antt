@@ -1,7 +1,8 @@
 -- `controller_calls::consume::act` meets its contract, by what the reader found.
 -- Assumes nothing.
-use mathlib.Core.Path.{sym, _∙_}
+use mathlib.Core.Path.{_≡_, sym, subst, _∙_}
 use denote.Ref.{now}
+use Rattle.packets.specs.declared.Reading.{Reading}
 use Rattle.calls.specs.calls.Consume.{oldestAt, consumedBy}
 use Rattle.calls.specs.Outcome.{outcome}
 use Rattle.area.proofs.Moves.{payload-few}
@@ -27,9 +28,9 @@ same-length c = search needs
 returns : tie.Need-returns
 returns c =
     let s = c .before .before .before .before .before .before .before .before .before .before .args in
-    let e = sym (c .before .before .before .before .before .before .read .ensures) ∙ c .before .before .before .before .enum-told .given .1 in
     let l = c .before .before .discard .ensures in
-    (λ i. outcome (l .0 i) (l .1 i) (now (s .out))) ∙ sym (λ i. consumedBy (s .r) (s .conn) (e i) (now (s .area)) (now (s .out)))
+    subst (λ (x : Reading). outcome (c .before .before .discard .result) (c .before .before .discard .last .0) (now (s .out)) ≡ consumedBy (s .r) (s .conn) x (now (s .area)) (now (s .out)))
+    (sym (sym (c .before .before .before .before .before .before .read .ensures) ∙ c .before .before .before .before .enum-told .given .1)) (λ i. outcome (l .0 i) (l .1 i) (now (s .out)))
 
 take-requires : tie.Need-take-requires
 take-requires c κs =
@@ -46,8 +47,8 @@ same-length-3 c = search needs
 returns-2 : tie.Need-returns-2
 returns-2 c =
     let s = c .before .before .before .before .before .before .before .before .before .before .before .before .before .before .args in
-    let e = sym (c .before .before .before .before .before .before .before .before .before .before .read .ensures) ∙ c .before .before .before .before .before .before .before .before .got .given .1 in
-    c .before .before .before .before .take .ensures ∙ sym (λ i. consumedBy (s .r) (s .conn) (e i) (now (s .area)) (now (s .out)))
+    subst (λ (x : Reading). outcome (c .before .before .before .before .take .result) (c .before .before .before .before .take .last .0) (c .before .before .before .before .take .last .1 .0) ≡ consumedBy (s .r) (s .conn) x (now (s .area)) (now (s .out)))
+    (sym (sym (c .before .before .before .before .before .before .before .before .before .before .read .ensures) ∙ c .before .before .before .before .before .before .before .before .got .given .1)) (c .before .before .before .before .take .ensures)
 
 pub act-spec : {M : Type 1} → statement M
 act-spec =

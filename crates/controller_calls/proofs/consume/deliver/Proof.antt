@@ -27,10 +27,14 @@ same-length c = search needs
 returns : tie.Need-returns
 returns c =
     let s = c .before .before .before .before .before .before .before .before .before in
-    rw (c .before .before .before .before .before .before .if1 .taken)
-    (refl, (s .pre .3 (c .before .before .before .before .before .before .if1 .taken),
-    c .before .before .hand-out .ensures
-    ∙ (λ i. splice (now (s .args .out)) 0 (cut ((c .before .before .before .before .controller-run-at .ensures ∙ ap controllerRunAt (c .before .before .before .before .before .place-of .ensures)) i) (s .args .len) (now (s .args .area))))))
+    rw (c .before .before .before .before .before .before .if1 .taken) (
+      refl,
+      (
+        s .pre .3 (c .before .before .before .before .before .before .if1 .taken),
+        c .before .before .hand-out .ensures
+            ∙ (λ i. splice (now (s .args .out)) 0 (cut ((c .before .before .before .before .controller-run-at .ensures ∙ ap controllerRunAt (c .before .before .before .before .before .place-of .ensures)) i) (s .args .len) (now (s .args .area)))),
+      ),
+    )
 
 returns-2 : tie.Need-returns-2
 returns-2 c = rw (c .if1 .left) (refl, (omega arith, refl))

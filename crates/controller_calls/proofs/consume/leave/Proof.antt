@@ -25,18 +25,20 @@ ups-requires c κs = search needs
 
 answer-requires : tie.Need-answer-requires
 answer-requires c κs =
-    let s = c .before .before .before .before .before .before .before .before .before .before .before .before in
-    (omega (arith, s .pre .2),
-    subst (λ (n : ℕ). n < 256) (sym (c .ups .ensures)) (on (λ (n : ℕ). n < 256) (isLoop (s .args .conn)) (λ _. omega arith) (λ _. omega arith)))
+    let s = c .before .before .before .before .before .before .before .before .before .before .before .before in (
+      omega (arith, s .pre .2),
+      subst (λ (n : ℕ). n < 256) (sym (c .ups .ensures)) (on (λ (n : ℕ). n < 256) (isLoop (s .args .conn)) (λ _. omega arith) (λ _. omega arith)),
+    )
 
 same-length : tie.Need-same-length
 same-length c = search needs
 
 returns : tie.Need-returns
 returns c =
-    let s = c .before .before .before .before .before .before .before .before .before .before .before .before .before .args in
-    (c .answer .ensures ∙ (λ i. wordOf (s .j .dropped) (s .j .done) (s .len) 0 (c .before .ups .ensures i)),
-    c .before .before .before .before .encode .ensures ∙ (λ i. stored (c .before .before .before .before .before .before .before .before .before .echo .ensures i) (c .before .before .before .before .before .before .plan .ensures i)))
+    let s = c .before .before .before .before .before .before .before .before .before .before .before .before .before .args in (
+      c .answer .ensures ∙ (λ i. wordOf (s .j .dropped) (s .j .done) (s .len) 0 (c .before .ups .ensures i)),
+      c .before .before .before .before .encode .ensures ∙ (λ i. stored (c .before .before .before .before .before .before .before .before .before .echo .ensures i) (c .before .before .before .before .before .before .plan .ensures i)),
+    )
 
 pub leave-spec : {M : Type 1} → statement M
 leave-spec =

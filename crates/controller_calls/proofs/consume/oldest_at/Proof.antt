@@ -21,9 +21,10 @@ store-at-requires c κs = search needs
 
 first-at-requires : tie.Need-first-at-requires
 first-at-requires c κs =
-    let p = c .before .before .before .before .pre in
-    (omega (arith, p .place, c .before .place-of .ensures, c .store-at .ensures),
-    subst (λ (k : ControllerSide). k .store .head < wireSlots) (sym (c .before .before .before .side-of .ensures)) (omega (arith, p .store .head)))
+    let p = c .before .before .before .before .pre in (
+      omega (arith, p .place, c .before .place-of .ensures, c .store-at .ensures),
+      subst (λ (k : ControllerSide). k .store .head < wireSlots) (sym (c .before .before .before .side-of .ensures)) (omega (arith, p .store .head)),
+    )
 
 returns : tie.Need-returns
 returns c =

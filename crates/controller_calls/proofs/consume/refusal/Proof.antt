@@ -2,7 +2,7 @@
 -- Assumes nothing.
 use mathlib.Core.Path.{sym, ap}
 use Rattle.calls.specs.Outcome.{lowest}
-use Rattle.calls.proofs.Consuming.{consume-tests}
+use Rattle.calls.proofs.Consumed.{consume-tests}
 use borrow.Author.Needs.{needs}
 use Rattle.controller_calls.proofs.consume.refusal.Statement.{statement}
 use Rattle.controller_calls.proofs.consume.refusal.Tie as tie
@@ -32,8 +32,15 @@ returns : tie.Need-returns
 unfolding lowest
 returns c =
     λ a.
-    rw (c .choose5 .ensures, c .before .choose4 .ensures, c .before .before .choose3 .ensures, c .before .before .before .before .choose2 .ensures, c .before .before .before .before .before .before .choose .ensures,
-    c .before .before .before .before .before .before .before .before .before .place-of .ensures, c .before .before .before .before .before .before .before .before .before .before .before .counts-of .ensures)
+    rw (
+      c .choose5 .ensures,
+      c .before .choose4 .ensures,
+      c .before .before .choose3 .ensures,
+      c .before .before .before .before .choose2 .ensures,
+      c .before .before .before .before .before .before .choose .ensures,
+      c .before .before .before .before .before .before .before .before .before .place-of .ensures,
+      c .before .before .before .before .before .before .before .before .before .before .before .counts-of .ensures,
+    )
     (sym (ap lowest (consume-tests a (c .before .before .before .before .before .before .before .before .before .before .before .before .before .before .args .r) (c .before .before .before .before .before .before .before .before .before .before .before .before .before .before .args .conn))))
 
 pub refusal-spec : {M : Type 1} → statement M

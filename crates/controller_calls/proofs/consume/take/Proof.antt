@@ -4,12 +4,8 @@ use mathlib.Core.Path.{sym, ap, subst, _∙_}
 use native.Mathlib.Omega.{arith}
 use Prim.Native.Nat.{_+_, _≤_}
 use denote.Ref.{now}
-use Rattle.calls.specs.calls.Consume.{consumedRecord, echoedSlot, consumedOut, consumedAs}
-use Rattle.calls.specs.Outcome.{outcome}
-use Rattle.calls.specs.Word.{wordOf}
-use Rattle.model.specs.calls.Consume.{isLoop}
-use Rattle.record.specs.Claims.{stored}
-use Rattle.octets.specs.Octets.{pick}
+use Rattle.calls.specs.calls.Consume.{consumedAs}
+use Rattle.calls.proofs.Consumed.{consumed-parts}
 use Rattle.area.specs.Map.{messageSize}
 use Rattle.state.proofs.Progress.{done-room}
 use Rattle.state.specs.Runs.{joinedOf}
@@ -37,7 +33,8 @@ add-deliver c =
 deliver-requires : tie.Need-deliver-requires
 deliver-requires c κs =
     let s = c .before .before .before .before .before .before .before .before .before .before .before .before in
-    (search needs, s .pre .1, s .pre .2 .place, λ d. done-room messageSize (c .before .before .before .before .before .before .before .before .before .side-of .result .run) (s .args .more) (s .args .n) (sym (ap (λ (j : Joined). j .done) (c .before .before .before .before .before .before .before .join .ensures)) ∙ d))
+    let done = ap (λ (j : Joined). j .done) (c .before .before .before .before .before .before .before .join .ensures) in
+    (search needs, s .pre .1, s .pre .2 .place, λ d. done-room messageSize (c .before .before .before .before .before .before .before .before .before .side-of .result .run) (s .args .more) (s .args .n) (sym done ∙ d))
 
 leave-requires : tie.Need-leave-requires
 leave-requires c κs =
@@ -54,15 +51,13 @@ returns : tie.Need-returns
 returns c =
     let s = c .before .before .before .before .before .before .before .before .before .before .before .before .before .before .before .before .before .before .before .args in
     let side = c .before .before .before .before .before .before .before .before .before .before .before .before .before .before .before .before .side-of .ensures in
-    let j = c .before .before .before .before .before .before .before .before .before .before .before .before .before .before .join .ensures ∙ (λ i. joinedOf messageSize (side i .run) (s .more) (s .n)) in
-    let l = c .before .before .leave .ensures in
-    let d = c .before .before .before .before .before .before .deliver .ensures in
-    (λ i. outcome (l .0 i) (l .1 i) (d .1 .1 i))
+    let join = c .before .before .before .before .before .before .before .before .before .before .before .before .before .before .join in
+    let grown = c .before .before .before .before .before .before .before .before .before .before .before .before .join2 in
+    let handed = c .before .before .before .before .before .before .deliver .ensures in
+    let left = c .before .before .leave .ensures in
+    consumed-parts (s .r) (s .conn) (join .result) _ _ _ (grown .last .0) _ (now (s .out)) _ (left .0) (handed .0) (left .1) (handed .1 .1)
     ∙ (λ i.
-    outcome (wordOf (c .before .before .before .before .before .before .before .before .before .before .before .before .before .before .join .result .dropped) (c .before .before .before .before .before .before .before .before .before .before .before .before .before .before .join .result .done) (d .0 i) 0 (pick (isLoop (s .conn)) 1 0))
-    (stored (echoedSlot (s .r) (s .conn) (c .before .before .before .before .before .before .before .before .before .before .before .before .join2 .last .0)) (consumedRecord (s .r) (s .conn) (c .before .before .before .before .before .before .before .before .before .before .before .before .before .before .join .result .next)))
-    (consumedOut (s .conn) (c .before .before .before .before .before .before .before .before .before .before .before .before .before .before .join .result) (c .before .before .before .before .before .before .before .before .before .before .before .before .before .before .before .before .side-of .result .run .len + s .n) (c .before .before .before .before .before .before .before .before .before .before .before .before .join2 .last .0) (now (s .out))))
-    ∙ (λ i. consumedAs (s .r) (s .conn) (j i) (side i .run .len + s .n) (c .before .before .before .before .before .before .before .before .before .before .before .before .join2 .ensures i) (now (s .out)))
+    consumedAs (s .r) (s .conn) ((join .ensures ∙ (λ k. joinedOf messageSize (side k .run) (s .more) (s .n))) i) (side i .run .len + s .n) (grown .ensures i) (now (s .out)))
 
 pub take-spec : {M : Type 1} → statement M
 take-spec =

@@ -46,10 +46,11 @@ loop-again c =
     let i = l .loop .i in
     let some = c .before .before .loop-test .taken in
     let e : suc (i - 1) ≡ i = omega (arith, some) in
-    let five : length conns ≡ 5 = omega (arith, l .before .good) in
-    (omega (arith, l .loop .inv .0),
-    (λ j. eqb (c .owing .ensures j) 0 && (l .loop .inv .1 ∙ ap (λ (n : ℕ). allZero (drop n (owedOf conns))) (sym e)) j)
-    ∙ sym (owed-turn conns (i - 1) (omega (arith, some, five, l .loop .inv .0))))
+    let five : length conns ≡ 5 = omega (arith, l .before .good) in (
+      omega (arith, l .loop .inv .0),
+      (λ j. eqb (c .owing .ensures j) 0 && (l .loop .inv .1 ∙ ap (λ (n : ℕ). allZero (drop n (owedOf conns))) (sym e)) j)
+          ∙ sym (owed-turn conns (i - 1) (omega (arith, some, five, l .loop .inv .0))),
+    )
 
 returns : tie.Need-returns Inv-loop μ-loop
 returns c =
