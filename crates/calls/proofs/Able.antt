@@ -30,7 +30,7 @@ use Rattle.calls.proofs.Sending.{sendTests, send-tests, send-facts}
 use Rattle.calls.proofs.Crediting.{creditTests, credit-tests, credit-facts}
 use Rattle.calls.proofs.Replying.{replyTests, reply-tests, reply-facts}
 use Rattle.calls.proofs.Downing.{downTests, down-tests, down-facts}
-use Rattle.calls.proofs.Consuming.{consumeTests, consume-tests, consume-facts}
+use Rattle.calls.proofs.Consumed.{consumeTests, consume-tests, consume-facts}
 use Rattle.calls.proofs.Upping.{up-facts}
 
 pub command-able : (a : Octets) (r : Record) (gid oid : ℕ) (m : Octets) → Fit r → 0 ≡ lowest (commandRules gid oid m (view a r)) → Commandable r gid oid m

@@ -14,10 +14,10 @@ pub mod Reporting
 pub mod Entering
 pub mod Sending
 pub mod Crediting
-pub mod Changing
+pub mod Consumed
+pub mod Consuming
 pub mod Replying
 pub mod Commanding
-pub mod Controllers
 pub mod Deciding
 pub mod Answering
 pub mod Asking
@@ -29,5 +29,3 @@ pub mod Receiving
 pub mod Controlling
 pub mod Coming
 pub mod Able
-pub mod Consumed
-pub mod Consuming
