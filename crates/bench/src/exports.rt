@@ -3,11 +3,15 @@ use crate::entry::enter;
 use crate::fresh;
 use crate::power;
 use crate::report;
+use controller_calls::airing;
+use controller_calls::consume;
 use controller_calls::credit;
+use controller_calls::down;
 use controller_calls::reply;
 use host_calls::command;
 use host_calls::push;
 use host_calls::send;
+use host_calls::up;
 ghost use mathlib.Core.Path.{_≡_};
 ghost use Rattle.calls.specs.Outcome.{outcome};
 ghost use Rattle.calls.specs.calls.Fresh.{freshCall};
@@ -15,8 +19,12 @@ ghost use Rattle.calls.specs.calls.Power.{powerCall};
 ghost use Rattle.calls.specs.calls.Command.{commandCall};
 ghost use Rattle.calls.specs.calls.Send.{sendCall};
 ghost use Rattle.calls.specs.calls.Push.{pushCall};
+ghost use Rattle.calls.specs.calls.Down.{downCall};
+ghost use Rattle.calls.specs.calls.Consume.{consumeCall};
 ghost use Rattle.calls.specs.calls.Credit.{creditCall};
 ghost use Rattle.calls.specs.calls.Reply.{replyCall};
+ghost use Rattle.calls.specs.calls.Up.{upCall};
+ghost use Rattle.calls.specs.calls.Air.{airCall};
 ghost use Rattle.calls.specs.calls.Report.{reportCall};
 
 // A new bench with a profile of five octets.
@@ -99,6 +107,42 @@ pub extern "C" fn nci_push(area: &mut [u8], out: &mut [u8], conn: u8) -> u64
     push::act(area, r, conn)
 }
 
+// The controller takes the first packet of the down wire.
+#[no_mangle]
+pub extern "C" fn nci_down(area: &mut [u8], out: &mut [u8]) -> u64
+    ensures { λ w. ⌜ outcome w (now (area .exit)) (now (out .exit)) ≡ downCall (now (area .entry)) (now (out .entry)) ⌝ }
+{
+    let l = enter(area, out.len());
+    let entry = l.answer;
+    if entry != 0 {
+        return entry as u64;
+    }
+    let r = l.record;
+    let n = down::refusal(area, r);
+    if n != 0 {
+        return n as u64;
+    }
+    down::act(area, r)
+}
+
+// The controller takes the oldest stored packet of a connection into reassembly.
+#[no_mangle]
+pub extern "C" fn nci_consume(area: &mut [u8], out: &mut [u8], conn: u8) -> u64
+    ensures { λ w. ⌜ outcome w (now (area .exit)) (now (out .exit)) ≡ consumeCall (now (area .entry)) (now (out .entry)) conn ⌝ }
+{
+    let l = enter(area, out.len());
+    let entry = l.answer;
+    if entry != 0 {
+        return entry as u64;
+    }
+    let r = l.record;
+    let n = consume::refusal(r, conn);
+    if n != 0 {
+        return n as u64;
+    }
+    consume::act(area, out, r, conn)
+}
+
 // One notice of all that is owed goes up.
 #[no_mangle]
 pub extern "C" fn nci_credit(area: &mut [u8], out: &mut [u8]) -> u64
@@ -133,6 +177,42 @@ pub extern "C" fn nci_reply(area: &mut [u8], out: &mut [u8]) -> u64
         return n as u64;
     }
     reply::act(area, r)
+}
+
+// The host takes the first packet of the up wire.
+#[no_mangle]
+pub extern "C" fn nci_up(area: &mut [u8], out: &mut [u8]) -> u64
+    ensures { λ w. ⌜ outcome w (now (area .exit)) (now (out .exit)) ≡ upCall (now (area .entry)) (now (out .entry)) ⌝ }
+{
+    let l = enter(area, out.len());
+    let entry = l.answer;
+    if entry != 0 {
+        return entry as u64;
+    }
+    let r = l.record;
+    let n = up::refusal(area, r);
+    if n != 0 {
+        return n as u64;
+    }
+    up::act(area, out, r)
+}
+
+// An event of the RF field meets the controller.
+#[no_mangle]
+pub extern "C" fn nci_air(area: &mut [u8], out: &mut [u8], event: &[u8]) -> u64
+    ensures { λ w. ⌜ outcome w (now (area .exit)) (now (out .exit)) ≡ airCall (now (area .entry)) (now (out .entry)) (now (event .entry)) ⌝ }
+{
+    let l = enter(area, out.len());
+    let entry = l.answer;
+    if entry != 0 {
+        return entry as u64;
+    }
+    let r = l.record;
+    let n = airing::refusal(r, event);
+    if n != 0 {
+        return n as u64;
+    }
+    airing::act(area, r, event)
 }
 
 // Five numbers of a connection. It is exported with the claim that it belongs to.

@@ -16,6 +16,7 @@ use Rattle.model.specs.calls.Reply.{replyRules}
 use Rattle.model.specs.calls.Down.{downRules}
 use Rattle.model.specs.calls.Consume.{consumeRules}
 use Rattle.model.specs.calls.Up.{upRules}
+use Rattle.model.specs.calls.Air.{airRules}
 use Rattle.calls.specs.Outcome.{lowest}
 use Rattle.calls.specs.calls.Command.{Commandable}
 use Rattle.calls.specs.calls.Send.{Sendable}
@@ -24,6 +25,7 @@ use Rattle.calls.specs.calls.Reply.{Replyable}
 use Rattle.calls.specs.calls.Down.{downRead, Downable}
 use Rattle.calls.specs.calls.Consume.{Consumable}
 use Rattle.calls.specs.calls.Up.{Uppable}
+use Rattle.calls.specs.calls.Air.{Airable}
 use Rattle.calls.proofs.Rules.{first-taken}
 use Rattle.calls.proofs.Commanding.{commandTests, command-tests, command-facts}
 use Rattle.calls.proofs.Sending.{sendTests, send-tests, send-facts}
@@ -32,6 +34,7 @@ use Rattle.calls.proofs.Replying.{replyTests, reply-tests, reply-facts}
 use Rattle.calls.proofs.Downing.{downTests, down-tests, down-facts}
 use Rattle.calls.proofs.Consumed.{consumeTests, consume-tests, consume-facts}
 use Rattle.calls.proofs.Upping.{up-facts}
+use Rattle.calls.proofs.Airing.{airTests, air-tests, air-facts}
 
 pub command-able : (a : Octets) (r : Record) (gid oid : ℕ) (m : Octets) → Fit r → 0 ≡ lowest (commandRules gid oid m (view a r)) → Commandable r gid oid m
 command-able a r gid oid m f e =
@@ -55,3 +58,6 @@ down-able a r s e =
 
 pub up-able : (a : Octets) (r : Record) → Sound a r → 0 ≡ lowest (upRules (view a r)) → Uppable r
 up-able a r s e = up-facts a r (s .fit) (s .shape) (first-taken (upRules (view a r)) refl e)
+
+pub air-able : (a : Octets) (r : Record) (m : Octets) → Fit r → 0 ≡ lowest (airRules m (view a r)) → Airable r m
+air-able a r m f e = air-facts r m f (first-taken (airTests r m) refl (e ∙ ap lowest (air-tests a r m)))

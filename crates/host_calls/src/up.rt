@@ -4,6 +4,7 @@ use crate::word;
 use area::map;
 use area::movers;
 use area::ring;
+use dh::grants;
 use dh::host;
 use ends::message;
 use octets::choose;
@@ -44,7 +45,7 @@ fn passes(ends: Ends, h: Header, m: &[u8]) -> bool
     let host = ends.host;
     let pending = host.pending;
     let x = host::hear(pending, h.mt, h.id, h.oid, m);
-    host::any_above(conns, m, x)
+    grants::any_above(conns, m, x)
 }
 
 // The octets of the control run, and those of the first packet after them, in a local array: the packet is not taken yet.
