@@ -55,7 +55,13 @@ pub extern "C" fn nci_power(area: &mut [u8], out: &mut [u8]) -> u64
 
 // All segments of a command go on the down wire.
 #[no_mangle]
-pub extern "C" fn nci_command(area: &mut [u8], out: &mut [u8], gid: u8, oid: u8, payload: &[u8]) -> u64
+pub extern "C" fn nci_command(
+    area: &mut [u8],
+    out: &mut [u8],
+    gid: u8,
+    oid: u8,
+    payload: &[u8],
+) -> u64
     ensures { λ w. ⌜ outcome w (now (area .exit)) (now (out .exit)) ≡ commandCall (now (area .entry)) (now (out .entry)) gid oid (now (payload .entry)) ⌝ }
 {
     let l = enter(area, out.len());

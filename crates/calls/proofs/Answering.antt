@@ -77,9 +77,10 @@ notes-few response notice rsp ntf =
 -- both messages have room in a slot
 pub answers-short : (e : Ends) (gid oid : ℕ) (d : Decision) (r : Answered) (rsp ntf rsp′ ntf′ : Octets) → Answers e gid oid d r rsp ntf rsp′ ntf′
     → (r .response .len ≤ controlSize) × (r .notice .len ≤ controlSize)
-answers-short e gid oid d r rsp ntf rsp′ ntf′ w =
-    (omega (arith, note-length rsp rsp′ (responseMessage gid oid (e .profile) (d .verdict)) (r .response) (w .response), response-short (e .profile) (d .verdict)),
-    omega (arith, note-length ntf ntf′ (noticeMessage (d .verdict)) (r .notice) (w .notice), notice-short (d .verdict)))
+answers-short e gid oid d r rsp ntf rsp′ ntf′ w = (
+  omega (arith, note-length rsp rsp′ (responseMessage gid oid (e .profile) (d .verdict)) (r .response) (w .response), response-short (e .profile) (d .verdict)),
+  omega (arith, note-length ntf ntf′ (noticeMessage (d .verdict)) (r .notice) (w .notice), notice-short (d .verdict)),
+)
 
 -- what is answered to a command, noted, put up and written with the record, is the answer to it: n packets, in two buffers of room for any
 -- message, where m′ is the command in a local array; b is the area with them, and c with the record too
@@ -127,25 +128,26 @@ module _ (a out : Octets) (t : Record) (s : Sound a t) (small : Small t) (o : Oc
 
   writes : Each ps
   writes =
-      let w = verdict-small a t s small (h .id) (h .oid) m om in
-      (record {
-        header = controlHeader 2 (h .id) (h .oid);
-        payload = responseOf (t .ends .profile) v;
-        is = refl;
-        short = response-short (t .ends .profile) v;
-        octal = response-octal (t .ends .profile) v (profile-control (t .ends .profile) (small .own .profile)) w;
-      },
-      on Each (eqb (length (noticeMessage v .payload)) 0) (λ _. tt)
-      (λ _.
-      (record {
-        header = controlHeader 3 (noticeMessage v .gid) (noticeMessage v .oid);
-        payload = noticeMessage v .payload;
-        is = refl;
-        short = notice-short v;
-        octal = notice-octal v w;
-      },
-      tt)))
-
+      let w = verdict-small a t s small (h .id) (h .oid) m om in (
+        record {
+          header = controlHeader 2 (h .id) (h .oid);
+          payload = responseOf (t .ends .profile) v;
+          is = refl;
+          short = response-short (t .ends .profile) v;
+          octal = response-octal (t .ends .profile) v (profile-control (t .ends .profile) (small .own .profile)) w;
+        },
+        on Each (eqb (length (noticeMessage v .payload)) 0) (λ _. tt)
+            (λ _. (
+              record {
+                header = controlHeader 3 (noticeMessage v .gid) (noticeMessage v .oid);
+                payload = noticeMessage v .payload;
+                is = refl;
+                short = notice-short v;
+                octal = notice-octal v w;
+              },
+              tt,
+            )),
+      )
 
   next-fit : Fit (answeredRecord t h v)
   next-fit =

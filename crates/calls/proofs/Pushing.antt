@@ -161,8 +161,11 @@ module _ (a out : Octets) (r : Record) (c : ℕ) (s : Sound a r) (small : Small 
 
   short : length (body (pushedSegment r c a)) ≤ 255
   short =
-      omega (arith, segment-short (hostSide r c .payload) (cut (handAt (placeOf c)) (hostSide r c .hand .len) a) (hostSide r c .hand .at),
-      small .conns (placeOf c) (p .place) .payload)
+      omega (
+        arith,
+        segment-short (hostSide r c .payload) (cut (handAt (placeOf c)) (hostSide r c .hand .len) a) (hostSide r c .hand .at),
+        small .conns (placeOf c) (p .place) .payload,
+      )
 
   fit : Fit (pushedRecord r c)
   fit = push-fit r c p (s .shape) (s .fit)

@@ -61,7 +61,11 @@ pub fn refusal(area: &[u8], r: Record) -> u8
     };
     let full = store_full(r, h);
     let twelve = choose(full, 12, 0);
-    choose((h.mt == packets::COMMAND) & !h.pbf & (map::WIRE - 2 < taken), 4, twelve)
+    choose(
+        (h.mt == packets::COMMAND) & !h.pbf & (map::WIRE - 2 < taken),
+        4,
+        twelve,
+    )
 }
 
 // ---- a packet that is dropped
@@ -178,7 +182,14 @@ fn put_note(area: &mut [u8], up: Ring, mt: u8, note: Note, m: &[u8])
 }
 
 // The response, and the notification after it where there is one. How many packets they are.
-fn put_answers(area: &mut [u8], up: Ring, response: Note, rsp: &[u8], notice: Note, ntf: &[u8]) -> usize
+fn put_answers(
+    area: &mut [u8],
+    up: Ring,
+    response: Note,
+    rsp: &[u8],
+    notice: Note,
+    ntf: &[u8],
+) -> usize
     requires { ⌜ (areaSize ≤ length (now area)) × FitRing wireSlots up × (up .count + 2 ≤ wireSlots) × (response .len ≤ controlSize) × (notice .len ≤ controlSize) ⌝ }
     ensures { λ x. ⌜ (x ≡ length (notePackets response (now (rsp .entry)) notice (now (ntf .entry)))) × (now (area .exit) ≡ putsAll upAt (now (area .entry)) up (notePackets response (now (rsp .entry)) notice (now (ntf .entry)))) ⌝ }
 {

@@ -57,7 +57,11 @@ fn together(area: &[u8], r: Record, base: usize, n: usize) -> [u8; map::CONTROL]
     let slot = ring::first_at(map::UP_AT, up);
     let mut m = [0u8; map::CONTROL];
     octets::put(&mut m, 0, &area[map::HEARING_AT..map::HEARING_AT + base]);
-    octets::put(&mut m, base, packets::payload(&area[slot..slot + map::SLOT], n));
+    octets::put(
+        &mut m,
+        base,
+        packets::payload(&area[slot..slot + map::SLOT], n),
+    );
     m
 }
 
@@ -248,7 +252,13 @@ fn heed(area: &mut [u8], r: Record, ends: Ends, h: Header, len: usize) -> u64
     requires { ⌜ (areaSize ≤ length (now area)) × Uppable r × (len ≤ controlSize) ⌝ }
     ensures { λ w. ⌜ (w ≡ wordOf (heeded ends (h .mt) (h .id) (h .oid) (cut hearingAt len (now (area .entry))) .dropped) false 0 0 0) × (now (area .exit) ≡ stored (now (area .entry)) (upRecord r (heeded ends (h .mt) (h .id) (h .oid) (cut hearingAt len (now (area .entry))) .next))) ⌝ }
 {
-    let d = message::heed(ends, h.mt, h.id, h.oid, &area[map::HEARING_AT..map::HEARING_AT + len]);
+    let d = message::heed(
+        ends,
+        h.mt,
+        h.id,
+        h.oid,
+        &area[map::HEARING_AT..map::HEARING_AT + len],
+    );
     let next = d.next;
     leave(area, r, next);
     word::quiet(d.dropped, false, 0)

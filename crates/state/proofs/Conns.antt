@@ -33,8 +33,6 @@ open-place conns c n e = go (decLt (placeOf c) 5)
     go (yes h) = h
     go (no h) = absurd (false≢true (sym (ap (λ (k : Counts). k .controller .opened) (past-five conns (placeOf c) n h)) ∙ e))
 
-
-
 -- and so has one that is open at the host
 pub held-place : (conns : List Counts) (c : ℕ) → length conns ≡ 5 → heldOpen conns c ≡ true → placeOf c < 5
 unfolding heldOpen

@@ -50,9 +50,12 @@ packet-requires c κs =
     let a = now (s .args .area) in
     let h = c .before .before .got .given .0 .0 in
     let n = c .before .before .got .given .0 .1 .0 in
-    let read = sym (c .before .before .before .before .read-slot .ensures ∙ (λ i. readOf (cut (c .before .before .before .before .before .before .before .first-at .ensures i) slotSize a))) ∙ c .before .before .got .given .1 in
-    (search needs, omega (arith, s .pre .0, s .pre .1 .ring .head, c .before .before .before .before .before .before .before .first-at .ensures), payload-few a (downSlot (s .args .r)) h n read,
-    subst (λ (t : Record). Arrivable (t .ends .conns) (t .up) h) (sym (c .before .before .before .before .before .before .took .ensures)) (s .pre .1 .packet h n read))
+    let read = sym (c .before .before .before .before .read-slot .ensures ∙ (λ i. readOf (cut (c .before .before .before .before .before .before .before .first-at .ensures i) slotSize a))) ∙ c .before .before .got .given .1 in (
+      search needs,
+      omega (arith, s .pre .0, s .pre .1 .ring .head, c .before .before .before .before .before .before .before .first-at .ensures),
+      payload-few a (downSlot (s .args .r)) h n read,
+      subst (λ (t : Record). Arrivable (t .ends .conns) (t .up) h) (sym (c .before .before .before .before .before .before .took .ensures)) (s .pre .1 .packet h n read),
+    )
 
 same-length-2 : tie.Need-same-length-2
 same-length-2 c = search needs

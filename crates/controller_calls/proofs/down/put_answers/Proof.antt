@@ -41,11 +41,12 @@ returns-2 : tie.Need-returns-2
 unfolding putsAll notePackets
 returns-2 c =
     let s = c .before .before .before .before .before .before .before .before .before .before .before .before .before .before in
-    let e = ne-eqb _ _ (c .before .before .before .before .before .if1 .left) in
-    (rw e,
-    rw e
-    (c .before .before .put-note2 .ensures
-    ∙ (λ i. splice (c .before .before .before .before .before .before .before .before .before .put-note .ensures i) (freeAt upAt wireSlots (c .before .before .before .before .put-into .ensures i)) (notePacket 3 (s .args .notice) (now (s .args .ntf))))))
+    let e = ne-eqb _ _ (c .before .before .before .before .before .if1 .left) in (
+      rw e,
+      rw e
+          (c .before .before .put-note2 .ensures
+          ∙ (λ i. splice (c .before .before .before .before .before .before .before .before .before .put-note .ensures i) (freeAt upAt wireSlots (c .before .before .before .before .put-into .ensures i)) (notePacket 3 (s .args .notice) (now (s .args .ntf))))),
+    )
 
 pub put-answers-spec : {M : Type 1} → statement M
 put-answers-spec =

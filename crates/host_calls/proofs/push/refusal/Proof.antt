@@ -38,8 +38,17 @@ returns : tie.Need-returns
 unfolding lowest
 returns c =
     λ a.
-    rw (c .choose6 .ensures, c .before .choose5 .ensures, c .before .before .choose4 .ensures, c .before .before .before .before .choose3 .ensures, c .before .before .before .before .before .before .choose2 .ensures, c .before .before .before .before .before .before .before .before .before .choose .ensures,
-    c .before .before .before .before .before .before .before .before .before .before .is-closing .ensures, c .before .before .before .before .before .before .before .before .before .before .before .place-of .ensures, c .before .before .before .before .before .before .before .before .before .before .before .before .before .counts-of .ensures)
+    rw (
+      c .choose6 .ensures,
+      c .before .choose5 .ensures,
+      c .before .before .choose4 .ensures,
+      c .before .before .before .before .choose3 .ensures,
+      c .before .before .before .before .before .before .choose2 .ensures,
+      c .before .before .before .before .before .before .before .before .before .choose .ensures,
+      c .before .before .before .before .before .before .before .before .before .before .is-closing .ensures,
+      c .before .before .before .before .before .before .before .before .before .before .before .place-of .ensures,
+      c .before .before .before .before .before .before .before .before .before .before .before .before .before .counts-of .ensures,
+    )
     (sym (ap lowest (push-tests a (c .before .before .before .before .before .before .before .before .before .before .before .before .before .before .before .before .before .args .r) (c .before .before .before .before .before .before .before .before .before .before .before .before .before .before .before .before .before .args .conn))))
 
 pub refusal-spec : {M : Type 1} → statement M

@@ -37,9 +37,10 @@ returns c =
     let n = s .args .n in
     let k = c .before .before .before .before .before .before .counts-of .ensures in
     let j = c .before .before .before .join .ensures ∙ (λ i. joinedOf messageSize (k i .host .run) (h .pbf) n) in
-    let d : false ≡ receivedJoin r h n .done = sym (sym (ap (λ (x : Joined). x .done) j) ∙ not-true _ (c .before .if1 .taken)) in
-    (c .quiet .ensures ∙ (λ i. wordOf (j i .dropped) false 0 0 0) ∙ (λ i. wordOf (receivedJoin r h n .dropped) (d i) (pick (d i) (receivedLength r h n) 0) 0 0),
-    λ i. pick (d i) (splice out 0 (cut (hostRunAt (placeOf (h .id))) (receivedLength r h n) a)) out)
+    let d : false ≡ receivedJoin r h n .done = sym (sym (ap (λ (x : Joined). x .done) j) ∙ not-true _ (c .before .if1 .taken)) in (
+      c .quiet .ensures ∙ (λ i. wordOf (j i .dropped) false 0 0 0) ∙ (λ i. wordOf (receivedJoin r h n .dropped) (d i) (pick (d i) (receivedLength r h n) 0) 0 0),
+      λ i. pick (d i) (splice out 0 (cut (hostRunAt (placeOf (h .id))) (receivedLength r h n) a)) out,
+    )
 
 add-hand-over : tie.Need-add-hand-over
 add-hand-over c =
@@ -82,11 +83,12 @@ returns-2 c =
     let n = s .args .n in
     let k = c .before .before .before .before .before .before .before .before .before .before .counts-of .ensures in
     let j = c .before .before .before .before .before .before .before .join .ensures ∙ (λ i. joinedOf messageSize (k i .host .run) (h .pbf) n) in
-    let d : true ≡ receivedJoin r h n .done = sym (sym (ap (λ (x : Joined). x .done) j) ∙ not-false _ (c .before .before .before .before .before .if1 .left)) in
-    (c .quiet2 .ensures ∙ (λ i. wordOf (j i .dropped) true (k i .host .run .len + n) 0 0) ∙ (λ i. wordOf (receivedJoin r h n .dropped) (d i) (pick (d i) (receivedLength r h n) 0) 0 0),
-    c .before .before .before .hand-over .ensures
-    ∙ (λ i. splice out 0 (cut (hostRunAt (placeOf (h .id))) (k i .host .run .len + n) a))
-    ∙ (λ i. pick (d i) (splice out 0 (cut (hostRunAt (placeOf (h .id))) (receivedLength r h n) a)) out))
+    let d : true ≡ receivedJoin r h n .done = sym (sym (ap (λ (x : Joined). x .done) j) ∙ not-false _ (c .before .before .before .before .before .if1 .left)) in (
+      c .quiet2 .ensures ∙ (λ i. wordOf (j i .dropped) true (k i .host .run .len + n) 0 0) ∙ (λ i. wordOf (receivedJoin r h n .dropped) (d i) (pick (d i) (receivedLength r h n) 0) 0 0),
+      c .before .before .before .hand-over .ensures
+          ∙ (λ i. splice out 0 (cut (hostRunAt (placeOf (h .id))) (k i .host .run .len + n) a))
+          ∙ (λ i. pick (d i) (splice out 0 (cut (hostRunAt (placeOf (h .id))) (receivedLength r h n) a)) out),
+    )
 
 pub finish-spec : {M : Type 1} → statement M
 finish-spec =

@@ -47,11 +47,12 @@ returns c =
     let n = s .args .n in
     let j = c .before .before .before .before .before .before .before .before .before .before .before .before .join-control .ensures in
     let d : heardJoin r h n .done ≡ false = sym (ap (λ (x : ControlJoined). x .done) j) ∙ not-true _ (c .before .before .before .before .before .if1 .taken) in
-    let e = sym d in
-    (c .quiet .ensures ∙ (λ i. wordOf (j i .dropped) false 0 0 0) ∙ (λ i. wordOf (pick (e i) (heededUp r h n a .dropped) (heardJoin r h n .dropped)) false 0 0 0),
-    c .before .before .before .leave .ensures
-    ∙ (λ i. stored (c .before .before .before .before .before .before .before .before .before .join-hearing .ensures i) (upRecord r (withHearing (j i .next) r .ends)))
-    ∙ (λ i. stored (heardArea r h n a) (upRecord r (pick (e i) (heededUp r h n a .next) (joinedEnds r h n)))))
+    let e = sym d in (
+      c .quiet .ensures ∙ (λ i. wordOf (j i .dropped) false 0 0 0) ∙ (λ i. wordOf (pick (e i) (heededUp r h n a .dropped) (heardJoin r h n .dropped)) false 0 0 0),
+      c .before .before .before .leave .ensures
+          ∙ (λ i. stored (c .before .before .before .before .before .before .before .before .before .join-hearing .ensures i) (upRecord r (withHearing (j i .next) r .ends)))
+          ∙ (λ i. stored (heardArea r h n a) (upRecord r (pick (e i) (heededUp r h n a .next) (joinedEnds r h n)))),
+    )
 
 add-heed : tie.Need-add-heed
 add-heed c =
@@ -98,9 +99,10 @@ returns-2 c =
     let joined = c .before .before .before .before .before .before .before .before .join-hearing .ensures in
     let k : heeded (withHearing (c .before .before .before .before .before .before .before .before .before .before .before .join-control .result .next) r .ends) (h .mt) (h .id) (h .oid) (cut hearingAt (c .before .before .before .before .before .before .before .before .before .before .before .join-control .result .base + n) _) ≡ heededUp r h n a =
     λ i. heeded (withHearing (j i .next) r .ends) (h .mt) (h .id) (h .oid) (cut hearingAt (j i .base + n) (joined i))
-    in
-    (said .0 ∙ (λ i. wordOf (k i .dropped) false 0 0 0) ∙ (λ i. wordOf (pick (e i) (heededUp r h n a .dropped) (heardJoin r h n .dropped)) false 0 0 0),
-    said .1 ∙ (λ i. stored (joined i) (upRecord r (k i .next))) ∙ (λ i. stored (heardArea r h n a) (upRecord r (pick (e i) (heededUp r h n a .next) (joinedEnds r h n)))))
+    in (
+      said .0 ∙ (λ i. wordOf (k i .dropped) false 0 0 0) ∙ (λ i. wordOf (pick (e i) (heededUp r h n a .dropped) (heardJoin r h n .dropped)) false 0 0 0),
+      said .1 ∙ (λ i. stored (joined i) (upRecord r (k i .next))) ∙ (λ i. stored (heardArea r h n a) (upRecord r (pick (e i) (heededUp r h n a .next) (joinedEnds r h n)))),
+    )
 
 pub take-control-spec : {M : Type 1} → statement M
 take-control-spec =
