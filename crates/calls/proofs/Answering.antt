@@ -30,7 +30,8 @@ use Rattle.record.specs.Small.{Small}
 use Rattle.record.proofs.Small.{profile-control}
 use Rattle.views.specs.View.{upOf, view}
 use Rattle.views.specs.Moves.{Sound}
-use Rattle.views.proofs.Answers.{Each, puts-up, puts-long, puts-octal}
+use Rattle.area.proofs.Puts.{length-puts}
+use Rattle.views.proofs.Answers.{Each, puts-up, puts-octal}
 use Rattle.model.specs.State as bench
 use Rattle.model.specs.State.{isOpen}
 use Rattle.model.specs.Effects.{Effect, down, taken}
@@ -179,7 +180,7 @@ module _ (a out : Octets) (t : Record) (s : Sound a t) (small : Small t) (o : Oc
   answered-refines q fd fu =
       took-refines down q (answeredArea t h v a) out (answeredRecord t h v) false false 0 0 (length ps) effect
       (record {
-        long = omega (arith, s .room, puts-long ps a (t .up));
+        long = omega (arith, s .room, length-puts upAt a (t .up) ps);
         fit = next-fit;
         shape = next-shape;
         octal = puts-octal ps a (t .up) writes o;

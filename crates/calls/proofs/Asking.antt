@@ -26,7 +26,7 @@ use Rattle.area.proofs.Moves.{length-payload, length-run, octal-run}
 use Rattle.record.specs.Fit.{Shape, Fit}
 use Rattle.record.specs.Small.{Small}
 use Rattle.record.specs.Plan.{withAsking}
-use Rattle.views.proofs.Taken.{control-octal}
+use Rattle.record.proofs.Taken.{control-octal}
 use Rattle.views.specs.View.{view}
 use Rattle.views.specs.Moves.{Sound}
 use Rattle.views.proofs.Whole.{moves}

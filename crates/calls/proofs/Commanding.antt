@@ -10,20 +10,19 @@ use lib.Dec.{ltb}
 use borrow.Author.Tests.{ltb-false}
 use Rattle.octets.specs.Octets.{Octets}
 use Rattle.octets.specs.Octal.{Octal}
-use Rattle.octets.proofs.Octal.{octal-at}
 use Rattle.packets.specs.Segments.{segments, segmentPacket}
 use Rattle.packets.specs.Headers.{controlHeader}
-use Rattle.calls.specs.Kinds.{Host, Record}
+use Rattle.calls.specs.Kinds.{Record}
 use Rattle.state.proofs.Chains.{or-left, or-right}
 use Rattle.dh.specs.Host.{askedOf, isBusy}
 use Rattle.area.specs.Map.{messageSize, payloadSize, wireSlots, downAt}
 use Rattle.area.proofs.Puts.{length-puts, octal-puts}
 use Rattle.record.specs.Reading.{decodeOf}
-use Rattle.record.specs.Writing.{hostOctets}
 use Rattle.record.specs.Fit.{Fit}
 use Rattle.record.specs.Small.{Small}
 use Rattle.record.specs.Plan.{withHostState}
 use Rattle.record.proofs.Small.{small-decode}
+use Rattle.record.proofs.Hosts.{host-size}
 use Rattle.record.proofs.Asked.{asked-octal}
 use Rattle.views.specs.View.{downOf, upOf, view}
 use Rattle.views.specs.Moves.{Sound}
@@ -74,10 +73,6 @@ command-facts r gid oid m f t =
 
 -- ---- the record after it is one that row 1 lets pass, of octets
 
-host-octet : (h : Host) → Octal (hostOctets h) → h .size ≤ payloadSize
-unfolding hostOctets
-host-octet h o = octal-at o 0
-
 module _ (r : Record) (gid oid : ℕ) (m : Octets) (p : Commandable r gid oid m) where
   -- first the host's own numbers, then the packets
   abbrev between : Record
@@ -106,7 +101,7 @@ module _ (r : Record) (gid oid : ℕ) (m : Octets) (p : Commandable r gid oid m)
             record {
               profile = o .profile;
               host =
-                  asked-octal (r .ends .host .size) (askedOf gid oid m) (host-octet (r .ends .host) (o .host)) (omega (arith, p .gid)) (omega (arith, p .oid)) (omega arith);
+                  asked-octal (r .ends .host .size) (askedOf gid oid m) (host-size (r .ends .host) (o .host)) (omega (arith, p .gid)) (omega (arith, p .oid)) (omega arith);
               hearing = o .hearing;
               controller = o .controller;
               asking = o .asking;
@@ -124,7 +119,7 @@ module _ (a out : Octets) (r : Record) (gid oid : ℕ) (m : Octets) (s : Sound a
   least = omega (arith, p .size)
 
   most : r .ends .host .size ≤ payloadSize
-  most = host-octet (r .ends .host) (small .own .host)
+  most = host-size (r .ends .host) (small .own .host)
 
   took : Follows (q .down) (r .down) → Follows (q .up) (r .up) → Octal a → Octal m
       → Took (command gid oid m) q (commandedSlots r gid oid m a) out (commandedRecord r gid oid m) false false 0 (commandedCount r m) 0 (act (command gid oid m) (view a r))

@@ -1,6 +1,6 @@
 -- The record after a verdict: it is one that row 1 lets pass, of octets, and stands for what the model decides.
 -- Assumes nothing.
-use Prim.Native.Nat.{ℕ, _≤_, _<_, _%_}
+use Prim.Native.Nat.{ℕ, _<_, _%_}
 use native.Mathlib.Omega.{arith}
 use mathlib.Core.Path.{_≡_, refl, sym, _∙_, subst}
 use lib.ListN.{getD}
@@ -8,7 +8,7 @@ use lib.Dec.{eqb}
 use borrow.Author.Tests.{eqb-true}
 use Rattle.octets.specs.Octets.{Octets}
 use Rattle.octets.specs.Octal.{Octal}
-use Rattle.calls.specs.Kinds.{Hand, Counts, Record, Verdict, Profile, Controller, Pairs, Rf}
+use Rattle.calls.specs.Kinds.{Record, Verdict, Profile, Controller, Pairs, Rf}
 use Rattle.calls.specs.Kinds.verdict as verdict
 use Rattle.state.specs.Conn.{placeOf, countsOf, openAt}
 use Rattle.state.specs.Radio.{isIdle}
@@ -18,7 +18,7 @@ use Rattle.state.proofs.SmallVerdicts.{SmallVerdict}
 use Rattle.state.proofs.Steady.{Steady}
 use Rattle.nfcc.specs.Controller.{turned, controllerAfter, connsAfter, endpointAfter}
 use Rattle.nfcc.proofs.Verdicts.{Fits, judge-fits, after-steady, judge-small}
-use Rattle.ends.specs.Changes.{Change, stays, opens, closes, gives, changeBy, countsAtController, endpointBy}
+use Rattle.ends.specs.Changes.{Change, opens, changeBy, countsAtController}
 use Rattle.ends.specs.Steps.{endsAfter, verdictOf}
 use Rattle.ends.proofs.Changes.{counts-after, length-after, endpoint-after}
 use Rattle.area.specs.Map.{places}
@@ -34,52 +34,8 @@ use Rattle.views.specs.Moves.{Sound}
 use Rattle.model.specs.Connection.{closedController, withController}
 use Rattle.model.specs.State as bench
 use Rattle.model.specs.Changes.{atController}
+use Rattle.calls.proofs.Changing.{changed-fit, SmallChange, changed-small, endpoint-fit}
 use Rattle.calls.proofs.Controllers.{controllers-changed}
-
--- ---- one connection after a change at the controller
-
-pub changed-fit : (x : Change) (c : Counts) → FitCounts c → FitCounts (countsAtController x c)
-changed-fit stays c f = f
-changed-fit (opens t) c f =
-    record {
-      held = f .held;
-      payload = f .payload;
-      hand = f .hand;
-      host-run = f .host-run;
-      owed = omega arith;
-      store = record { head = omega arith; count = omega arith };
-      controller-run = omega arith;
-    }
-changed-fit closes c f =
-    record {
-      held = f .held;
-      payload = f .payload;
-      hand = f .hand;
-      host-run = f .host-run;
-      owed = omega arith;
-      store = record { head = omega arith; count = omega arith };
-      controller-run = omega arith;
-    }
-changed-fit (gives n) c f = f
-
--- the terms that it opens with are octets
-abbrev pub SmallChange : Change → Type 0
-SmallChange stays = Unit {0}
-SmallChange (opens t) = t .credits ≤ 255
-SmallChange closes = Unit {0}
-SmallChange (gives n) = Unit {0}
-
-pub changed-small : (x : Change) (c : Counts) → SmallChange x → SmallCounts c → SmallCounts (countsAtController x c)
-changed-small stays c w s = s
-changed-small (opens t) c w s = record { payload = s .payload; host-grant = s .host-grant; held = s .held; grant = w; owed = omega arith }
-changed-small closes c w s = record { payload = s .payload; host-grant = s .host-grant; held = s .held; grant = omega arith; owed = omega arith }
-changed-small (gives n) c w s = s
-
-pub endpoint-fit : (x : Change) (h : Hand) → FitHand h → FitHand (endpointBy x h)
-endpoint-fit stays h f = f
-endpoint-fit (opens t) h f = record { len = omega arith; at = omega arith }
-endpoint-fit closes h f = record { len = omega arith; at = omega arith }
-endpoint-fit (gives n) h f = f
 
 -- ---- what a verdict does
 

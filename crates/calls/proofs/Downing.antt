@@ -30,7 +30,7 @@ use Rattle.record.specs.Small.{SmallCounts, Small}
 use Rattle.record.specs.Plan.{withStore}
 use Rattle.record.proofs.Small.{small-decode}
 use Rattle.record.proofs.Conns.{conns-set}
-use Rattle.views.proofs.Taken.{wire-took}
+use Rattle.record.proofs.Taken.{wire-took}
 use Rattle.views.specs.View.{downOf, upOf, view}
 use Rattle.views.specs.Moves.{Sound}
 use Rattle.views.proofs.Whole.{moves}

@@ -7,16 +7,16 @@ use mathlib.Core.List.{_++_}
 use native.Mathlib.Omega.{arith}
 use lib.ListN.{length}
 use lib.Dec.{ltb, eqb}
-use borrow.Author.Tests.{le-ltb, ltb-false, eqb-true, eqb-false}
+use borrow.Author.Tests.{le-ltb, ltb-false}
 use Rattle.octets.specs.Octets.{Octets, pick, splice}
 use Rattle.octets.specs.Octal.{Octal, octal-nil, octal-cons}
 use Rattle.octets.proofs.Octets.{length-splice}
 use Rattle.octets.proofs.Octal.{octal-splice}
 use Rattle.calls.specs.Kinds.{Profile, Counts, Record}
 use Rattle.state.specs.Conn.{closedCounts}
-use Rattle.state.specs.Profile.{ProfileWithin, creditsOk, profileOk, profileIn, profileOctetsOk}
+use Rattle.state.specs.Profile.{ProfileWithin, profileOk, profileIn, profileOctetsOk}
 use Rattle.state.proofs.Chains.{and-right}
-use Rattle.state.proofs.Limits.{profile-within, credits-few}
+use Rattle.state.proofs.Limits.{profile-within, credits-small}
 use Rattle.area.specs.Map.{areaSize, messageSize}
 use Rattle.area.specs.Movers.{zeros}
 use Rattle.area.specs.Ring.{packetsFrom, tab}
@@ -54,13 +54,6 @@ closed-all P p c (suc (suc zero)) h = c
 closed-all P p c (suc (suc (suc zero))) h = c
 closed-all P p c (suc (suc (suc (suc zero)))) h = c
 closed-all P p c (suc (suc (suc (suc (suc q))))) h = absurd (omega arith)
-
-credits-octet : (n : ℕ) → creditsOk n ≡ true → n ≤ 255
-credits-octet n ok = go (eqb n 255) refl
-  where
-    go : (b : Bool) → eqb n 255 ≡ b → n ≤ 255
-    go true e = omega (arith, eqb-true n 255 e)
-    go false e = omega (arith, credits-few n ok (eqb-false n 255 e))
 
 zero-octets : (n : ℕ) → Octal (zeros n)
 unfolding zeros
@@ -106,8 +99,8 @@ module _ (p : Profile) (w : ProfileWithin p) where
             record {
               profile =
                   octal-cons (w .control-most)
-                  (octal-cons (w .dynamic .most) (octal-cons (credits-octet _ (w .dynamic .credits-ok))
-                  (octal-cons (w .fixed .most) (octal-cons (credits-octet _ (w .fixed .credits-ok)) (zero-octets 6)))));
+                  (octal-cons (w .dynamic .most) (octal-cons (credits-small _ (w .dynamic .credits-ok))
+                  (octal-cons (w .fixed .most) (octal-cons (credits-small _ (w .fixed .credits-ok)) (zero-octets 6)))));
               host = octal-cons {x = 32} (omega arith) (zero-octets 4);
               hearing = zero-octets 6;
               controller = zero-octets 23;

@@ -1,13 +1,11 @@
 -- What opens a connection grants an octet of credits: the host takes nothing else for written.
 -- Assumes nothing.
 use Prim.Native.Nat.{ℕ, _≤_}
-use native.Mathlib.Omega.{arith}
 use mathlib.Core.Path.{_≡_, refl}
-use mathlib.Core.Bool.{Bool, true, false, _&&_, _||_, not, false≢true}
+use mathlib.Core.Bool.{Bool, true, false, _&&_, _||_, not}
 use mathlib.Core.List.{[], _∷_}
 use lib.Dec.{eqb, leb}
 use lib.ListN.{length, getD}
-use borrow.Author.Tests.{eqb-true, leb-true}
 use Rattle.octets.specs.Octets.{Octets, pick}
 use Rattle.model.specs.Kinds.{Terms, Command, Notice}
 use Rattle.model.specs.Kinds.command.{Reset, Init, ConnCreate, ConnClose, Discover, Select, Deactivate, Unknown}
@@ -18,6 +16,7 @@ use Rattle.state.specs.Radio.{idOk}
 use Rattle.state.specs.Commands.{commandOf}
 use Rattle.state.proofs.Chains.{on, every-at}
 use Rattle.state.specs.Profile.{creditsOk}
+use Rattle.state.proofs.Limits.{credits-small}
 use Rattle.dh.specs.Contents.{statusAlone, createWritten, okWritten, activatedWritten, noticeWritten, noticeOf, written}
 use Rattle.dh.specs.Host.{heardAlone, answerOf, okAnswer, noticed, creditsFor}
 use Rattle.wires.specs.Tally.{aimedAt, says}
@@ -29,18 +28,9 @@ GrantsOctet (opens t) = t .credits ≤ 255
 GrantsOctet closes = Unit {0}
 GrantsOctet (gives n) = Unit {0}
 
-credits-octet : (n : ℕ) → creditsOk n ≡ true → n ≤ 255
-credits-octet n h = go (leb 1 n) (leb n 8) (eqb n 255) refl refl h
-  where
-    go : (a b c : Bool) → leb n 8 ≡ b → eqb n 255 ≡ c → ((a && b) || c) ≡ true → n ≤ 255
-    go a true c e f h = omega (arith, leb-true n 8 e)
-    go a false true e f h = omega (arith, eqb-true n 255 f)
-    go true false false e f h = absurd (false≢true h)
-    go false false false e f h = absurd (false≢true h)
-
 module _ (m : Octets) (d : ℕ) where
   opens-octet : (c : ℕ) (t : Terms) → creditsOk (t .credits) ≡ true → GrantsOctet (pick (eqb c d) (opens t) stays)
-  opens-octet c t h = on GrantsOctet (eqb c d) (λ e. credits-octet (t .credits) h) (λ e. tt)
+  opens-octet c t h = on GrantsOctet (eqb c d) (λ e. credits-small (t .credits) h) (λ e. tt)
 
   closes-octet : (c : ℕ) → GrantsOctet (pick (eqb c d) closes stays)
   closes-octet c = on GrantsOctet (eqb c d) (λ e. tt) (λ e. tt)

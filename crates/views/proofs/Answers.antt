@@ -2,7 +2,7 @@
 -- Assumes nothing.
 use Prim.Native.Nat.{ℕ, suc, _+_, _≤_, _<_}
 use native.Mathlib.Omega.{arith}
-use mathlib.Core.Path.{_≡_, refl, sym, _∙_, subst}
+use mathlib.Core.Path.{_≡_, sym, _∙_, subst}
 use mathlib.Core.List.{List, [], _∷_, _++_, append-assoc, append-nil}
 use lib.ListN.{length}
 use Rattle.octets.specs.Octets.{Octets, splice}
@@ -69,12 +69,7 @@ puts-up (p ∷ ps) a r s k n =
     ∙ (λ i. bench.withUp (first i .up ++ ps) (first i))
     ∙ (λ i. bench.withUp (append-assoc (upOf a r) (p ∷ []) ps i) (view a r))
 
--- the area is as long as before, and its octets are octets
-pub puts-long : (ps : List Octets) (a : Octets) (k : Ring) → length (putsAll upAt a k ps) ≡ length a
-unfolding putsAll
-puts-long [] a k = refl
-puts-long (p ∷ ps) a k = puts-long ps (splice a (freeAt upAt wireSlots k) p) (putInto k) ∙ length-splice a (freeAt upAt wireSlots k) p
-
+-- and its octets are octets
 pub puts-octal : (ps : List Octets) (a : Octets) (k : Ring) → Each ps → Octal a → Octal (putsAll upAt a k ps)
 unfolding putsAll
 puts-octal [] a k w o = o

@@ -11,4 +11,3 @@ pub mod Stored
 pub mod Tests
 pub mod Changed
 pub mod Answers
-pub mod Taken

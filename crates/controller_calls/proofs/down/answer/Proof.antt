@@ -2,7 +2,7 @@
 -- Assumes nothing.
 use Rattle.calls.specs.calls.Down.{commandIn}
 use Rattle.calls.proofs.Answering.{notes-few, answers-short, answer-made}
-use Rattle.views.proofs.Answers.{puts-long}
+use Rattle.area.proofs.Puts.{length-puts}
 use Rattle.area.specs.Map.{askingAt}
 use Rattle.octets.proofs.Octets.{length-splice, length-cut, cut-copied}
 use lib.ListN.{length}
@@ -50,7 +50,7 @@ add-t25 c =
     omega (arith, c .before .before .before .before .before .before .before .before .before .before .before .before .before .before .before .before .before .before .before .before .before .before .before .before .pre .3, few)
 
 encode-requires : tie.Need-encode-requires
-encode-requires c κs = omega (arith, c .before .before .before .before .before .before .before .before .before .before .before .before .before .before .before .before .before .before .before .before .before .before .before .before .before .pre .0, simp puts-long at (ap length (c .before .before .before .before .put-answers .ensures .1)))
+encode-requires c κs = omega (arith, c .before .before .before .before .before .before .before .before .before .before .before .before .before .before .before .before .before .before .before .before .before .before .before .before .before .pre .0, simp length-puts at (ap length (c .before .before .before .before .put-answers .ensures .1)))
 
 mul-result : tie.Need-mul-result
 mul-result c =
