@@ -29,3 +29,5 @@ pub mod Receiving
 pub mod Controlling
 pub mod Coming
 pub mod Able
+pub mod Demanding
+pub mod Reaching

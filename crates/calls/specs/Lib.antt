@@ -4,3 +4,5 @@ pub mod Outcome
 pub mod Seen
 pub mod Refines
 pub mod calls
+pub mod Demand
+pub mod Reached

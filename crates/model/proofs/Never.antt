@@ -32,10 +32,10 @@ use Rattle.ends.specs.Changes.{Change, creditsOf, changeHeard}
 use Rattle.model.specs.calls.Consume.{isLoop}
 use Rattle.model.specs.calls.Up.{above, anyOf, tooMany, firstTooMany}
 use Rattle.model.specs.Bench.{rules, judged, step}
-use Rattle.model.specs.Observer.{Ledger}
+use Rattle.model.specs.Observer.{Ledger, Account}
 use Rattle.model.specs.Reachable.{Always, Never13}
 use Rattle.model.specs.invariant.Items.{itemsOf}
-use Rattle.model.specs.invariant.Bench.{Fine, SoundIn}
+use Rattle.model.specs.invariant.Bench.{Fine, Kept, SoundIn}
 use Rattle.model.proofs.Cases.{clash}
 use Rattle.model.proofs.Needs.{need}
 use Rattle.model.proofs.Link.{held-le, room-owed, room-by}
@@ -45,7 +45,7 @@ use Rattle.model.proofs.Trace.{reachable}
 -- ---- rules
 
 -- whether a rule of number n is among them
-abbrev mentions : ℕ → List Rule → Bool
+abbrev pub mentions : ℕ → List Rule → Bool
 mentions n [] = false
 mentions n (r ∷ rs) = eqb (r .number) n || mentions n rs
 
@@ -55,7 +55,7 @@ coded taken = 0
 coded (refused n) = n
 
 -- a number that no rule has is not the answer
-not-among : (n : ℕ) (rs : List Rule) → 0 < n → mentions n rs ≡ false → first rs ≡ refused n → ⊥
+pub not-among : (n : ℕ) (rs : List Rule) → 0 < n → mentions n rs ≡ false → first rs ≡ refused n → ⊥
 unfolding first
 not-among n [] z m e = let h : 0 ≡ n = ap coded e in omega arith
 not-among n (r ∷ rs) z m e = go (not-among n rs z (or-right (eqb (r .number) n) (mentions n rs) m)) (r .test) e
@@ -197,12 +197,14 @@ never up s aim l f = up-never s aim l f
 never (report c) s aim l f = not-among 13 (rules (report c) s) (omega arith) refl
 
 -- the answer of a call is what its rules say
-answer-first : (r : Result) (c : Call) (s : State) → judged r c s .answer ≡ r
+pub answer-first : (r : Result) (c : Call) (s : State) → judged r c s .answer ≡ r
 answer-first taken c s = refl
 answer-first (refused n) c s = refl
 
-pub thirteen-never : Always Never13
+-- it follows from the invariant, whatever made it hold
+pub kept-never : (s : State) (o : Account) → Kept s o → Never13 s
 unfolding step
-thirteen-never profile ok calls c e =
-    let k = reachable profile ok calls in
-    never c _ _ _ (k .fine) (sym (answer-first (first (rules c _)) c _) ∙ e)
+kept-never s o k c e = never c s (o .aim) (o .ledger) (k .fine) (sym (answer-first (first (rules c s)) c s) ∙ e)
+
+pub thirteen-never : Always Never13
+thirteen-never profile ok calls = kept-never _ _ (reachable profile ok calls)

@@ -162,13 +162,16 @@ module _ (c : ℕ) (s : State) (aim : ℕ) (l : ℕ → Ledger) (f : Fine s aim 
       record {
         taken-if-open = (open-if-taken, report-taken);
         numbers = λ e. reported (open-there e) ∙ ap (λ (n : Octets). n ∷ []) (same-numbers (open-there e));
-        sum = λ e. whole-sum (open-there e);
-        whole-stored = λ e. omega (arith, live (open-there e) .counts .stored);
-        whole-owed = λ e y. omega (arith, live (open-there e) .counts .owed (rw (live (open-there e) .counts .granted) at y));
-        whole-held = λ e y h. omega (arith, held-whole e y h);
-        at-controller = λ e. flow-prefix (f .good c .pipes .toController (open-there e));
-        at-host = λ e h. to-host (open-there e) true h;
-        at-host-static = λ e h. to-host (open-there e) false h;
+        account =
+            record {
+              sum = λ e. whole-sum (open-there e);
+              whole-stored = λ e. omega (arith, live (open-there e) .counts .stored);
+              whole-owed = λ e y. omega (arith, live (open-there e) .counts .owed (rw (live (open-there e) .counts .granted) at y));
+              whole-held = λ e y h. omega (arith, held-whole e y h);
+              at-controller = λ e. flow-prefix (f .good c .pipes .toController (open-there e));
+              at-host = λ e h. to-host (open-there e) true h;
+              at-host-static = λ e h. to-host (open-there e) false h;
+            };
       }
 
 -- the claim follows from the invariant, whatever made it hold

@@ -42,13 +42,9 @@ abbrev pub total : List ℕ → ℕ
 total [] = 0
 total (n ∷ ns) = n + total ns
 
--- of the number c, with s the bench after the calls and o the account of them
-pub record Claim (c : ℕ) (s : State) (o : Account) : Type 0 where
-  -- report is taken exactly for the connections open at the controller
-  pub taken-if-open : (step (report c) s .answer ≡ taken) ↔ (o .ledger c .controller .opened ≡ true)
-  -- its five numbers are those counted from the calls
-  pub numbers : o .ledger c .controller .opened ≡ true → step (report c) s .effect .message ≡ numbersOf c o ∷ []
-  -- under flow control they sum to the grant
+-- of the number c, what an account of calls comes to where c is open at the controller
+pub record Conserved (c : ℕ) (o : Account) : Type 0 where
+  -- under flow control the five numbers sum to the grant
   pub sum : o .ledger c .controller .opened ≡ true → flows (o .ledger c .controller .grant) ≡ true → total (numbersOf c o) ≡ o .ledger c .controller .grant
   -- no subtraction in these numbers is cut off: no more is consumed than was stored, put in notices than consumed, pushed than granted
   -- and read
@@ -62,6 +58,15 @@ pub record Claim (c : ℕ) (s : State) (o : Account) : Type 0 where
   -- at the host on a loopback those of send, and on connection 0 those of the endpoint
   pub at-host : o .ledger c .controller .opened ≡ true → isLoop c ≡ true → Prefix (o .ledger c .talk .outHost) (o .ledger c .talk .sent)
   pub at-host-static : o .ledger c .controller .opened ≡ true → isLoop c ≡ false → Prefix (o .ledger c .talk .outHost) (o .ledger c .talk .spoken)
+
+-- of the number c, with s the bench after the calls and o the account of them
+pub record Claim (c : ℕ) (s : State) (o : Account) : Type 0 where
+  -- report is taken exactly for the connections open at the controller
+  pub taken-if-open : (step (report c) s .answer ≡ taken) ↔ (o .ledger c .controller .opened ≡ true)
+  -- its five numbers are those counted from the calls
+  pub numbers : o .ledger c .controller .opened ≡ true → step (report c) s .effect .message ≡ numbersOf c o ∷ []
+  -- the numbers sum to the grant, and the messages handed out are the first of those taken
+  pub account : Conserved c o
 
 -- for every profile that fresh takes, every list of calls and every number
 abbrev pub Demand : Type 0

@@ -1,0 +1,29 @@
+-- What else holds of every run of calls on octets from a fresh bench.
+-- Assumes nothing.
+use Prim.Native.Nat.{_≤_}
+use mathlib.Core.Path.{_≡_}
+use mathlib.Core.Bool.{true}
+use lib.ListN.{length}
+use Rattle.octets.specs.Octets.{Octets}
+use Rattle.octets.specs.Octal.{Octal}
+use Rattle.area.specs.Map.{areaSize, messageSize}
+use Rattle.record.specs.Judge.{judgeOf}
+use Rattle.model.specs.Effects.{refused}
+use Rattle.model.specs.Observer.{Account}
+use Rattle.calls.specs.Word.{answerIn}
+use Rattle.calls.specs.Seen.{Puts}
+use Rattle.calls.specs.Demand.{Key, pressed, slice, EveryRun}
+
+-- of the area that a run has left, whatever call comes next
+pub record Reached (a : Octets) : Type 0 where
+  -- row 1 lets its record pass, so no call answers 1
+  pub long : areaSize ≤ length a
+  pub judged : judgeOf a ≡ true
+  pub never-1 : (k : Key) → Octal (slice (k .call)) → answerIn (pressed k a .word) ≡ refused 1 → ⊥
+  -- with room for a message in the buffer no call answers 2: only arguments and state refuse
+  pub never-2 : (k : Key) → Octal (slice (k .call)) → messageSize ≤ length (k .out) → answerIn (pressed k a .word) ≡ refused 2 → ⊥
+  -- credits never pass a grant
+  pub never-13 : (k : Key) → Octal (slice (k .call)) → answerIn (pressed k a .word) ≡ refused 13 → ⊥
+
+abbrev pub AlwaysReached : Type 0
+AlwaysReached = EveryRun (λ a p o. Reached a)
