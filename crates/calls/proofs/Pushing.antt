@@ -51,7 +51,7 @@ use Rattle.model.proofs.Needs.{need}
 use Rattle.calls.specs.Word.{wordOf, answerIn, droppedIn, handedIn, lengthIn, downIn, upIn}
 use Rattle.calls.specs.Outcome.{lowest}
 use Rattle.calls.specs.Seen.{Puts, putsAfter, seenBy}
-use Rattle.calls.specs.Refines.{Good, Follows, Along, RefinesTo, Refines}
+use Rattle.calls.specs.Refines.{Good, Follows, Along, OnWires, RefinesTo, Refines}
 use Rattle.calls.specs.calls.Push.{hostSide, pushedSide, pushedRecord, pushedSegment, pushedPacket, pushedSlot, pushedWord, pushed, pushCall, Pushable}
 use Rattle.calls.proofs.Rules.{first-taken}
 use Rattle.calls.proofs.Called.{sound-area}
@@ -245,6 +245,10 @@ module _ (a out : Octets) (r : Record) (c : ℕ) (s : Sound a r) (small : Small 
           up = subst (λ (x : Record). Follows (q .up + 0) (x .up)) (sym after) (omega (arith, other));
         }
 
+    on-wires : OnWires pushedWord area
+    unfolding wordOf bit downIn upIn
+    on-wires = record { down = omega (arith, ap (λ (x : Record). x .down .count) after); up = omega arith }
+
     done : Octal a → RefinesTo (push c) q (pushed r c a out) (judged taken (push c) (view a r))
     done o =
         record {
@@ -257,6 +261,7 @@ module _ (a out : Octets) (r : Record) (c : ℕ) (s : Sound a r) (small : Small 
           event = seen;
           next = next-view ∙ sym (λ i. acts i .next);
           along = along;
+          there = on-wires;
         }
 
 -- a push on octets is the model's push

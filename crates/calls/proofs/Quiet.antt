@@ -22,7 +22,7 @@ use Rattle.calls.specs.Word.{wordOf}
 use Rattle.calls.specs.Outcome.{outcome}
 use Rattle.calls.specs.Seen.{Puts, starts}
 use Rattle.calls.specs.Refines.{Follows, Along, RefinesTo}
-use Rattle.calls.proofs.Words.{word-seen, word-puts}
+use Rattle.calls.proofs.Words.{word-down, word-up, word-seen, word-puts}
 
 -- the record after the call, and the octets into which it is written
 module _ (x : Octets) (r : Record) (long : areaSize ≤ length x) (fit : Fit r) (shape : Shape r) (octal : Octal x) (small : Small r) where
@@ -50,4 +50,9 @@ module _ (x : Octets) (r : Record) (long : areaSize ≤ length x) (fit : Fit r) 
               down = subst (λ (y : Record). Follows (q .down + 0) (y .down)) (sym after) (omega (arith, down));
               up = subst (λ (y : Record). Follows (q .up + 0) (y .up)) (sym after) (omega (arith, up));
             });
+        there =
+            record {
+              down = omega (arith, word-down d h len 0 0 few (omega arith));
+              up = omega (arith, word-up d h len 0 0 few (omega arith) (omega arith));
+            };
       }

@@ -124,6 +124,7 @@ module _ (c : Call) (o : Outcome) (p : Puts) (a out : Octets) (g : Good a) (room
             };
         next = refl;
         along = subst (λ (q : Puts). Along q a) (sym still) (record { down = omega (arith, al .down); up = omega (arith, al .up) });
+        there = record { down = omega (arith, dn); up = omega (arith, un) };
       }
 
   -- what the model's own rules decide, where a call that is taken does what the model does

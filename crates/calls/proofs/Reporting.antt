@@ -71,6 +71,7 @@ report-done c q a out g al e =
       event = λ i. record { call = report c; answer = taken; dropped = false; toDown = []; toUp = []; message = e i ∷ [] };
       next = refl;
       along = record { down = omega (arith, al .down); up = omega (arith, al .up) };
+      there = record { down = omega arith; up = omega arith };
     }
 
 pub report-refines : (c : ℕ) (q : Puts) (a out : Octets) → Good a → messageSize ≤ length out → Along q a → Refines (report c) q a (reportCall a out c)

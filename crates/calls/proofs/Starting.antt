@@ -187,7 +187,7 @@ module _ (a m : Octets) (long : areaSize ≤ length a) (o : Octal a) (ok : profi
 
   pub fresh-done : (p : Puts) (out : Octets) → RefinesTo (fresh m) p (freshed m a out) (judged taken (fresh m) (viewOf a))
   unfolding wordOf bit answerIn droppedIn handedIn lengthIn downIn upIn packetsFrom tab
-  fresh-done p out = record { good = fresh-good out; event = refl; next = fresh-view out; along = fresh-along out }
+  fresh-done p out = record { good = fresh-good out; event = refl; next = fresh-view out; along = fresh-along out; there = record { down = omega arith; up = omega arith } }
 
 pub fresh-refines : (m : Octets) (p : Puts) (a out : Octets) → Good a → messageSize ≤ length out → Along p a → Refines (fresh m) p a (freshCall a out m)
 unfolding first
@@ -214,6 +214,7 @@ module _ (a out : Octets) (g : Good a) where
         event = refl;
         next = cold-view x profile-kept a (g .long) (g .octal);
         along = cold-along x profile-kept a (g .long) (g .octal);
+        there = record { down = omega arith; up = omega arith };
       }
 
   pub power-refines : (p : Puts) → messageSize ≤ length out → Along p a → Refines power p a (powerCall a out)

@@ -26,7 +26,7 @@ use Rattle.calls.specs.Word.{wordOf}
 use Rattle.calls.specs.Outcome.{outcome}
 use Rattle.calls.specs.Seen.{Puts, starts}
 use Rattle.calls.specs.Refines.{Follows, Along, RefinesTo}
-use Rattle.calls.proofs.Words.{word-seen, word-puts}
+use Rattle.calls.proofs.Words.{word-down, word-up, word-seen, word-puts}
 use Rattle.calls.proofs.Refining.{puts-seen}
 
 -- ---- a wire
@@ -128,4 +128,11 @@ module _ (c : Call) (q : Puts) (x t : Octets) (n : Record) where
           along =
               subst (λ (p : Puts). Along p area) (sym (word-puts d h len down up (k .short) few-down few-up c q still))
               (record { down = downs .follows; up = ups .follows });
+          there =
+              record {
+                down =
+                    omega (arith, word-down d h len down up (k .short) few-down, parts downAt area (q .down) down (decodeOf area .down) (e .next .down) (e .toDown) downs on-down);
+                up =
+                    omega (arith, word-up d h len down up (k .short) few-down few-up, parts upAt area (q .up) up (decodeOf area .up) (e .next .up) (e .toUp) ups on-up);
+              };
         }

@@ -15,6 +15,7 @@ use Rattle.model.specs.Effects as model
 use Rattle.model.specs.Effects.{Call}
 use Rattle.model.specs.Bench.{step}
 use Rattle.model.specs.Observer.{eventOf}
+use Rattle.calls.specs.Word.{downIn, upIn}
 use Rattle.calls.specs.Outcome.{Outcome}
 use Rattle.calls.specs.Seen.{Puts, putsAfter, seenBy}
 
@@ -32,12 +33,18 @@ pub record Along (p : Puts) (a : Octets) : Type 0 where
   pub down : Follows (p .down) (decodeOf a .down)
   pub up : Follows (p .up) (decodeOf a .up)
 
+-- the packets that a call put are on the wires after it
+pub record OnWires (w : ℕ) (a : Octets) : Type 0 where
+  pub down : downIn w ≤ decodeOf a .down .count
+  pub up : upIn w ≤ decodeOf a .up .count
+
 -- an outcome on octets is this outcome of the model
 pub record RefinesTo (c : Call) (p : Puts) (o : Outcome) (m : model.Outcome) : Type 0 where
   pub good : Good (o .area)
   pub event : seenBy c p o ≡ eventOf c m
   pub next : viewOf (o .area) ≡ m .effect .next
   pub along : Along (putsAfter c p (o .word)) (o .area)
+  pub there : OnWires (o .word) (o .area)
 
 abbrev pub Refines : Call → Puts → Octets → Outcome → Type 0
 Refines c p a o = RefinesTo c p o (step c (viewOf a))
