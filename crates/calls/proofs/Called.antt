@@ -1,13 +1,13 @@
 -- The laws of a call: not entered, refused by its own rules, taken. They are said once for all calls.
 -- Assumes nothing.
-use Prim.Native.Nat.{ℕ, _≤_, _<_}
+use Prim.Native.Nat.{ℕ, _≤_}
 use mathlib.Core.Path.{_≡_, refl, sym, ap, _∙_}
 use mathlib.Core.Bool.{Bool, true, false, not}
 use mathlib.Core.List.{List, _++_}
 use native.Mathlib.Omega.{arith}
 use lib.ListN.{length}
 use lib.Dec.{ltb}
-use borrow.Author.Tests.{ltb-false, le-ltb, lt-ltb}
+use borrow.Author.Tests.{ltb-false, le-ltb}
 use Rattle.octets.specs.Octets.{Octets, pick}
 use Rattle.area.specs.Map.{areaSize, messageSize}
 use Rattle.record.specs.Reading.{decodeOf}
@@ -62,12 +62,6 @@ module _ (rs : List Rule) (o : Outcome) (a out : Octets) where
       called-as (refused n)
       (first-append (entryRules a (length out)) rs
       ∙ ap (λ (x : Result). orElse x (first rs)) (first-refused (entryRules a (length out)) n e ne))
-
-  -- a buffer too short, where the area and its record pass
-  pub called-short : areaSize ≤ length a → judgeOf a ≡ true → length out < messageSize → outcome 2 a out ≡ called rs o a out
-  unfolding lowest
-  called-short long j short =
-      called-unentered 2 (rw (le-ltb (length a) areaSize long, j, lt-ltb (length out) messageSize short)) (λ z. omega arith)
 
   -- once entered, its own rules decide
   pub called-own : (x : Result) → first (entryRules a (length out)) ≡ taken → first rs ≡ x → decided x o a out ≡ called rs o a out

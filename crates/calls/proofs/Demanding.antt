@@ -7,7 +7,7 @@ use mathlib.Core.List.{List, [], _∷_, _++_}
 use native.Mathlib.Omega.{arith}
 use lib.ListN.{length, take, drop}
 use lib.Dec.{ltb}
-use borrow.Author.Tests.{ltb-true, ltb-false}
+use borrow.Author.Tests.{ltb-true, ltb-false, lt-ltb, le-ltb}
 use Rattle.octets.specs.Octets.{Octets, pick, cut, splice}
 use Rattle.octets.specs.Octal.{Octal}
 use Rattle.octets.proofs.Octets.{cut-same, drop-splice}
@@ -17,7 +17,7 @@ use Rattle.record.specs.Reading.{decodeOf}
 use Rattle.views.specs.View.{viewOf}
 use Rattle.model.specs.State.{State, cold}
 use Rattle.model.specs.Effects.{Call, fresh, power, command, send, push, down, consume, credit, air, reply, up, report, Result, taken, refused}
-use Rattle.model.specs.Refusals.{first}
+use Rattle.model.specs.Refusals.{Rule, first}
 use Rattle.model.specs.Bench.{rules, judged, step}
 use Rattle.model.specs.calls.Report.{reportOf, reportRules}
 use Rattle.model.specs.Observer.{Event, Account, opening, observe, observed, eventOf}
@@ -28,7 +28,7 @@ use Rattle.model.proofs.Messages.{profile-limits}
 use Rattle.model.proofs.Trace.{step-keeps, kept-claim}
 use Rattle.model.proofs.Never.{answer-first}
 use Rattle.calls.specs.Word.{answerIn, downIn, upIn}
-use Rattle.calls.specs.Outcome.{Outcome, outcome, decided}
+use Rattle.calls.specs.Outcome.{Outcome, outcome, decided, entryRules, lowest}
 use Rattle.calls.specs.Seen.{Puts, noPuts, putsAfter, seenBy}
 use Rattle.calls.specs.Refines.{Good, Along, Refines}
 use Rattle.calls.specs.calls.Fresh.{roomRules, freshed, freshCall}
@@ -44,8 +44,8 @@ use Rattle.calls.specs.calls.Reply.{replyCall}
 use Rattle.calls.specs.calls.Up.{upCall}
 use Rattle.calls.specs.calls.Report.{reported, reportCall}
 use Rattle.calls.specs.Demand.{Key, perform, pressed, slice, AllOctal, areaAfter, putsIn, seenIn, EveryRun, OctetClaim, OctetDemand}
-use Rattle.calls.proofs.Called.{enters, called-own, called-short}
-use Rattle.calls.proofs.Starting.{fresh-short, fresh-refines, fresh-good, fresh-view, fresh-along, power-refines}
+use Rattle.calls.proofs.Called.{enters, called-unentered, called-own}
+use Rattle.calls.proofs.Starting.{fresh-refused, fresh-refines, fresh-good, fresh-view, fresh-along, power-refines}
 use Rattle.calls.proofs.Commanding.{command-refines}
 use Rattle.calls.proofs.Sending.{send-refines}
 use Rattle.calls.proofs.Pushing.{push-refines}
@@ -73,23 +73,35 @@ all-refine reply q a out v g room al = reply-refines q a out g room al
 all-refine up q a out v g room al = up-refines q a out g room al
 all-refine (report c) q a out v g room al = report-refines c q a out g room al
 
--- ---- with a buffer too short it answers 2 and changes nothing
+-- ---- with an area or a buffer too short it answers 2 and changes nothing
 
-module _ (a out : Octets) (g : Good a) (short : length out < messageSize) where
-  pub all-short : (c : Call) → outcome 2 a out ≡ perform c a out
+module _ (a out : Octets) where
+  all-refused : 2 ≡ lowest (entryRules a (length out)) → ((rs : List Rule) → 2 ≡ lowest (roomRules (length a) (length out) ++ rs)) → (c : Call)
+      → outcome 2 a out ≡ perform c a out
   unfolding powerCall commandCall sendCall pushCall downCall consumeCall creditCall airCall replyCall upCall reportCall
-  all-short (fresh m) = fresh-short a out m (g .long) short
-  all-short power = called-short _ _ a out (g .long) (g .judged) short
-  all-short (command gid oid m) = called-short _ _ a out (g .long) (g .judged) short
-  all-short (send c m) = called-short _ _ a out (g .long) (g .judged) short
-  all-short (push c) = called-short _ _ a out (g .long) (g .judged) short
-  all-short down = called-short _ _ a out (g .long) (g .judged) short
-  all-short (consume c) = called-short _ _ a out (g .long) (g .judged) short
-  all-short credit = called-short _ _ a out (g .long) (g .judged) short
-  all-short (air m) = called-short _ _ a out (g .long) (g .judged) short
-  all-short reply = called-short _ _ a out (g .long) (g .judged) short
-  all-short up = called-short _ _ a out (g .long) (g .judged) short
-  all-short (report c) = called-short _ _ a out (g .long) (g .judged) short
+  all-refused e r (fresh m) = fresh-refused a out m 2 (r (rules (fresh m) (viewOf a))) (λ z. omega arith)
+  all-refused e r power = called-unentered _ _ a out 2 e (λ z. omega arith)
+  all-refused e r (command gid oid m) = called-unentered _ _ a out 2 e (λ z. omega arith)
+  all-refused e r (send c m) = called-unentered _ _ a out 2 e (λ z. omega arith)
+  all-refused e r (push c) = called-unentered _ _ a out 2 e (λ z. omega arith)
+  all-refused e r down = called-unentered _ _ a out 2 e (λ z. omega arith)
+  all-refused e r (consume c) = called-unentered _ _ a out 2 e (λ z. omega arith)
+  all-refused e r credit = called-unentered _ _ a out 2 e (λ z. omega arith)
+  all-refused e r (air m) = called-unentered _ _ a out 2 e (λ z. omega arith)
+  all-refused e r reply = called-unentered _ _ a out 2 e (λ z. omega arith)
+  all-refused e r up = called-unentered _ _ a out 2 e (λ z. omega arith)
+  all-refused e r (report c) = called-unentered _ _ a out 2 e (λ z. omega arith)
+
+  pub short-area : length a < areaSize → (c : Call) → outcome 2 a out ≡ perform c a out
+  unfolding lowest
+  short-area short = let n = lt-ltb (length a) areaSize short in all-refused (rw n) (λ rs. rw n)
+
+  pub short-buffer : Good a → length out < messageSize → (c : Call) → outcome 2 a out ≡ perform c a out
+  unfolding lowest
+  short-buffer g short =
+      let l = le-ltb (length a) areaSize (g .long) in
+      let n = lt-ltb (length out) messageSize short in
+      all-refused (rw (l, g .judged, n)) (λ rs. rw (l, n))
 
 -- ---- the invariant
 
@@ -119,7 +131,7 @@ module _ (k : Key) (v : Octal (slice (k .call))) (a : Octets) (p : Puts) (o : Ac
 
       go : (b : Bool) → ltb (length (k .out)) messageSize ≡ b → After (pressed k a)
       go true e =
-          subst After (all-short a (k .out) (s .good) (ltb-true (length (k .out)) messageSize e) (k .call))
+          subst After (short-buffer a (k .out) (s .good) (ltb-true (length (k .out)) messageSize e) (k .call))
           (record { good = s .good; along = record { down = omega (arith, s .along .down); up = omega (arith, s .along .up) }; keeps = s .keeps })
       go false e = by (all-refine (k .call) p a (k .out) v (s .good) (ltb-false (length (k .out)) messageSize e) (s .along))
 
@@ -133,12 +145,12 @@ stands-after (k ∷ ks) v a p o s =
 
 module _ (area out m : Octets) where
   -- where fresh answered 0, the area was long enough and the profile within its limits
-  record Started : Type 0 where
-    long : areaSize ≤ length area
-    ok : profileOctetsOk m ≡ true
-    taking : freshed m area out ≡ freshCall area out m
+  pub record Started : Type 0 where
+    pub long : areaSize ≤ length area
+    pub ok : profileOctetsOk m ≡ true
+    pub taking : freshed m area out ≡ freshCall area out m
 
-  started : answerIn (freshCall area out m .word) ≡ taken → Started
+  pub started : answerIn (freshCall area out m .word) ≡ taken → Started
   unfolding freshCall first answerIn
   started e = go (ltb (length area) areaSize) refl (ltb (length out) messageSize) refl (profileOctetsOk m) refl e
     where
@@ -149,7 +161,7 @@ module _ (area out m : Octets) where
       go false p false q false u h = absurd (let z : _≡_ {A = ℕ} 0 1 = cc in omega arith)
       go false p false q true u h = record { long = ltb-false (length area) areaSize p; ok = u; taking = rw (p, q, u) }
 
-  starts-standing : Octal area → answerIn (freshCall area out m .word) ≡ taken → Stands (freshCall area out m .area) noPuts opening
+  pub starts-standing : Octal area → answerIn (freshCall area out m .word) ≡ taken → Stands (freshCall area out m .area) noPuts opening
   starts-standing v e =
       let s = started e in
       subst (λ (x : Outcome). Stands (x .area) noPuts opening) (s .taking)

@@ -31,3 +31,4 @@ pub mod Coming
 pub mod Able
 pub mod Demanding
 pub mod Reaching
+pub mod Playing

@@ -22,7 +22,7 @@ use Rattle.calls.specs.Outcome.{Outcome}
 use Rattle.calls.specs.Seen.{Puts}
 use Rattle.calls.specs.Demand.{Key, pressed, slice}
 use Rattle.calls.specs.Reached.{Reached, AlwaysReached}
-use Rattle.calls.proofs.Demanding.{all-refine, all-short, Stands, run-stands}
+use Rattle.calls.proofs.Demanding.{all-refine, short-buffer, Stands, run-stands}
 
 -- ---- the model's rules begin with 3
 
@@ -75,7 +75,7 @@ module _ (a : Octets) (p : Puts) (o : Account) (s : Stands a p o) (k : Key) (v :
   -- without, it is 2
   short-answer : length (k .out) < messageSize → answerIn (pressed k a .word) ≡ refused 2
   unfolding answerIn
-  short-answer short = sym (ap (λ (x : Outcome). answerIn (x .word)) (all-short a (k .out) (s .good) short (k .call)))
+  short-answer short = sym (ap (λ (x : Outcome). answerIn (x .word)) (short-buffer a (k .out) (s .good) short (k .call)))
 
   -- a number other than 2 that the model does not answer is not answered on octets
   never-answered : (n : ℕ) → (n ≡ 2 → ⊥) → (step (k .call) (viewOf a) .answer ≡ refused n → ⊥) → answerIn (pressed k a .word) ≡ refused n → ⊥

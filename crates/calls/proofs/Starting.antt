@@ -1,13 +1,13 @@
 -- fresh and power: the cold record is one that row 1 lets pass, of octets, and stands for the cold bench.
 -- Assumes nothing.
-use Prim.Native.Nat.{ℕ, zero, suc, _≤_, _<_}
+use Prim.Native.Nat.{ℕ, zero, suc, _≤_}
 use mathlib.Core.Path.{_≡_, refl, sym, ap, _∙_, subst}
 use mathlib.Core.Bool.{Bool, true, false, not, false≢true}
 use mathlib.Core.List.{_++_}
 use native.Mathlib.Omega.{arith}
 use lib.ListN.{length}
 use lib.Dec.{ltb, eqb}
-use borrow.Author.Tests.{le-ltb, lt-ltb, ltb-false}
+use borrow.Author.Tests.{le-ltb, ltb-false}
 use Rattle.octets.specs.Octets.{Octets, pick, splice}
 use Rattle.octets.specs.Octal.{Octal, octal-nil, octal-cons}
 use Rattle.octets.proofs.Octets.{length-splice}
@@ -144,11 +144,6 @@ module _ (a out m : Octets) where
   -- the code's guard: the number of the first rule that applies
   pub fresh-refused : (n : ℕ) → n ≡ lowest (roomRules (length a) (length out) ++ rules (fresh m) (viewOf a)) → (n ≡ 0 → ⊥) → outcome n a out ≡ freshCall a out m
   fresh-refused n e ne = fresh-as (refused n) (first-refused (roomRules (length a) (length out) ++ rules (fresh m) (viewOf a)) n e ne)
-
-  -- a buffer too short
-  pub fresh-short : areaSize ≤ length a → length out < messageSize → outcome 2 a out ≡ freshCall a out m
-  unfolding lowest
-  fresh-short long short = fresh-refused 2 (rw (le-ltb (length a) areaSize long, lt-ltb (length out) messageSize short)) (λ z. omega arith)
 
   -- what the guard leaves known of the area
   pub fresh-long : 0 ≡ lowest (roomRules (length a) (length out) ++ rules (fresh m) (viewOf a)) → areaSize ≤ length a

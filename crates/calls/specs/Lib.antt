@@ -6,3 +6,4 @@ pub mod Refines
 pub mod calls
 pub mod Demand
 pub mod Reached
+pub mod Played

@@ -19,9 +19,10 @@ use Rattle.model.specs.calls.Up.{anyOf}
 use Rattle.model.specs.Bench.{step}
 use Rattle.model.specs.Observer.{events}
 use Rattle.model.specs.Observer as observer
+use Rattle.model.specs.Table.{Plays}
 use Rattle.model.specs.Limits.{Limits}
 
-pub limits : Limits
+pub limits : Limits Plays
 unfolding cut octet0 octet1 packetOf oidOf spareOf headerOf readOf segmentsWithin segments placeOf connOf termsOf commandOf shortest allowed resetBy after seek nextId createBy closeBy configsOk discoverBy deactivateBy judgeOf controllerAfter entriesFrom entryCount responseOf noticeMessage pollIn eventOf pollBy airedBy airMessage controllerAired noticeOf zeros initWritten createWritten entriesOk creditsWritten activatedWritten written answerOf heardAlone hearOf creditsIn namesClosed hostAfter dropHeard meaning dataCount creditsUp first allZero anyOf step events observer.after
 limits =
     record {

@@ -6,7 +6,7 @@ use mathlib.Core.List.{List, [], _∷_, _++_}
 use Rattle.octets.specs.Octets.{Octets}
 use Rattle.model.specs.Effects.{command, send, push, down, consume, up}
 use Rattle.model.specs.Observer.{Event}
-use Rattle.model.specs.Table.{shows, goesDown, goesUp, quietly, refusal, Plays, readyWith}
+use Rattle.model.specs.Table.{shows, goesDown, goesUp, quietly, refusal, readyWith}
 
 -- n octets 00
 abbrev pub blank : ℕ → Octets
@@ -36,24 +36,25 @@ onePushed = goesDown (push 2) (0x12 ∷ 0x00 ∷ 0x01 ∷ 0x00 ∷ []) ∷ []
 abbrev pub oneReturned : List Event
 oneReturned = onePushed ++ quietly down ∷ goesUp (consume 2) (0x12 ∷ 0x00 ∷ 0x01 ∷ 0x00 ∷ []) ∷ []
 
-pub record Limits : Type 0 where
+-- P: what it is to play them
+pub record Limits (P : List Event → Type 0) : Type 0 where
   -- "a send of 1,024 octets", "1,025"
-  pub send-1024 : Plays (free ++ quietly (send 2 (blank 1024)) ∷ [])
-  pub send-1025 : Plays (free ++ refusal (send 2 (blank 1025)) 3 ∷ [])
+  pub send-1024 : P (free ++ quietly (send 2 (blank 1024)) ∷ [])
+  pub send-1025 : P (free ++ refusal (send 2 (blank 1025)) 3 ∷ [])
   -- "a push with the down wire at 15", "at 16"
-  pub push-at-15 : Plays (long ++ times 15 onePushed ++ onePushed)
-  pub push-at-16 : Plays (long ++ times 16 onePushed ++ refusal (push 2) 4 ∷ [])
+  pub push-at-15 : P (long ++ times 15 onePushed ++ onePushed)
+  pub push-at-16 : P (long ++ times 16 onePushed ++ refusal (push 2) 4 ∷ [])
   -- "an eighth packet stored", "a ninth"
-  pub eighth-stored : Plays (long ++ times 9 onePushed ++ times 7 (quietly down ∷ []) ++ quietly down ∷ [])
-  pub ninth-stored : Plays (long ++ times 9 onePushed ++ times 8 (quietly down ∷ []) ++ refusal down 12 ∷ [])
+  pub eighth-stored : P (long ++ times 9 onePushed ++ times 7 (quietly down ∷ []) ++ quietly down ∷ [])
+  pub ninth-stored : P (long ++ times 9 onePushed ++ times 8 (quietly down ∷ []) ++ refusal down 12 ∷ [])
   -- "a command one for each segment": one of 64 octets has two, with 14 packets on the down wire, and with 15
-  pub command-at-14 : Plays
+  pub command-at-14 : P
       (long ++ times 14 onePushed
       ++ shows (command 0x0 0x3F (blank 64)) ((0x30 ∷ 0x3F ∷ 0x20 ∷ blank 32) ∷ (0x20 ∷ 0x3F ∷ 0x20 ∷ blank 32) ∷ []) [] [] ∷ [])
-  pub command-at-15 : Plays (long ++ times 15 onePushed ++ refusal (command 0x0 0x3F (blank 64)) 4 ∷ [])
+  pub command-at-15 : P (long ++ times 15 onePushed ++ refusal (command 0x0 0x3F (blank 64)) 4 ∷ [])
   -- "down of a command's last packet needs two": with 14 packets on the up wire, and with 15
-  pub answer-at-14 : Plays
+  pub answer-at-14 : P
       (long ++ times 14 oneReturned
       ++ goesDown (command 0x0 0x3F []) (0x20 ∷ 0x3F ∷ 0x00 ∷ []) ∷ goesUp down (0x40 ∷ 0x3F ∷ 0x01 ∷ 0x05 ∷ []) ∷ [])
-  pub answer-at-15 : Plays
+  pub answer-at-15 : P
       (long ++ times 15 oneReturned ++ goesDown (command 0x0 0x3F []) (0x20 ∷ 0x3F ∷ 0x00 ∷ []) ∷ refusal down 4 ∷ [])

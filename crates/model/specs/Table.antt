@@ -1,5 +1,6 @@
 -- Document 01's proved table, whole: payload 4, credits 2. Each row is played on the bench by its own calls, and shows for every call
--- what it answers and puts on the wires. The first call is fresh, so a row holds whatever the bench was before.
+-- what it answers and puts on the wires. The first call is fresh, so a row holds whatever the bench was before. The rows are those of the
+-- model and of the calls on octets alike: P says what it is to play them.
 -- Assumes nothing.
 use Prim.Native.Nat.{ℕ}
 use mathlib.Core.Path.{_≡_}
@@ -39,9 +40,9 @@ abbrev pub Plays : List Event → Type 0
 Plays es = (s : State) → events (callsOf es) s ≡ es
 
 -- on a bench after these calls, the command is the packet p on the down wire, and p gives the packet q on the up wire, nothing else
-pub record Gives (before : List Event) (gid oid : ℕ) (payload p q : Octets) : Type 0 where
+pub record Gives (P : List Event → Type 0) (before : List Event) (gid oid : ℕ) (payload p q : Octets) : Type 0 where
   -- by the calls
-  pub called : Plays (before ++ goesDown (command gid oid payload) p ∷ goesUp down q ∷ [])
+  pub called : P (before ++ goesDown (command gid oid payload) p ∷ goesUp down q ∷ [])
   -- with p first on the down wire, whatever lies behind it
   pub taken-first : (s : State) (w : List Octets) → eventOf down (step down (withDown (p ∷ w) (after (callsOf before) s))) ≡ goesUp down q
 
@@ -108,15 +109,15 @@ zeroOpen =
 
 -- ---- the table, in the words of document 01
 
-pub record Table : Type 0 where
+pub record Table (P : List Event → Type 0) : Type 0 where
   -- "payload 4, credits 2": fresh makes any bench a cold one with these
   pub start : (s : State)
       → after (fresh profile ∷ []) s
       ≡ cold (record { control = 32; dynamic = record { payload = 4; credits = 2 }; fixed = record { payload = 4; credits = 1 } })
   -- "empty message on 2: 02 00 00"; then nothing is left to move
-  pub empty : Plays (onTwo ++ quietly (send 2 []) ∷ goesDown (push 2) (0x02 ∷ 0x00 ∷ 0x00 ∷ []) ∷ refusal (push 2) 8 ∷ [])
+  pub empty : P (onTwo ++ quietly (send 2 []) ∷ goesDown (push 2) (0x02 ∷ 0x00 ∷ 0x00 ∷ []) ∷ refusal (push 2) 8 ∷ [])
   -- "Octets 01-09: 12 00 04 01 02 03 04, 12 00 04 05 06 07 08, 02 00 01 09"; the third goes with a credit that came back
-  pub nine : Plays
+  pub nine : P
       (twoConsumed
       ++ goesUp credit (0x60 ∷ 0x06 ∷ 0x03 ∷ 0x01 ∷ 0x02 ∷ 0x02 ∷ [])
       ∷ quietly up
@@ -126,7 +127,7 @@ pub record Table : Type 0 where
       ∷ refusal (push 2) 8
       ∷ [])
   -- "Eight octets: two packets, the second with PBF 0"
-  pub eight : Plays
+  pub eight : P
       (onTwo
       ++ quietly (send 2 (0x01 ∷ 0x02 ∷ 0x03 ∷ 0x04 ∷ 0x05 ∷ 0x06 ∷ 0x07 ∷ 0x08 ∷ []))
       ∷ goesDown (push 2) (0x12 ∷ 0x00 ∷ 0x04 ∷ 0x01 ∷ 0x02 ∷ 0x03 ∷ 0x04 ∷ [])
@@ -134,13 +135,13 @@ pub record Table : Type 0 where
       ∷ refusal (push 2) 8
       ∷ [])
   -- "20 04 02 01 00 gives 40 04 04 00 04 02 02"
-  pub create : Gives ready 0x0 0x04 (0x01 ∷ 0x00 ∷ []) (0x20 ∷ 0x04 ∷ 0x02 ∷ 0x01 ∷ 0x00 ∷ []) (0x40 ∷ 0x04 ∷ 0x04 ∷ 0x00 ∷ 0x04 ∷ 0x02 ∷ 0x02 ∷ [])
+  pub create : Gives P ready 0x0 0x04 (0x01 ∷ 0x00 ∷ []) (0x20 ∷ 0x04 ∷ 0x02 ∷ 0x01 ∷ 0x00 ∷ []) (0x40 ∷ 0x04 ∷ 0x04 ∷ 0x00 ∷ 0x04 ∷ 0x02 ∷ 0x02 ∷ [])
   -- "Two credits to 2: 60 06 03 01 02 02"
-  pub credits : Plays (twoConsumed ++ goesUp credit (0x60 ∷ 0x06 ∷ 0x03 ∷ 0x01 ∷ 0x02 ∷ 0x02 ∷ []) ∷ [])
+  pub credits : P (twoConsumed ++ goesUp credit (0x60 ∷ 0x06 ∷ 0x03 ∷ 0x01 ∷ 0x02 ∷ 0x02 ∷ []) ∷ [])
   -- "20 3F 00 gives 40 3F 01 05"
-  pub unknown : Gives ready 0x0 0x3F [] (0x20 ∷ 0x3F ∷ 0x00 ∷ []) (0x40 ∷ 0x3F ∷ 0x01 ∷ 0x05 ∷ [])
+  pub unknown : Gives P ready 0x0 0x3F [] (0x20 ∷ 0x3F ∷ 0x00 ∷ []) (0x40 ∷ 0x3F ∷ 0x01 ∷ 0x05 ∷ [])
   -- "Deactivate in IDLE 41 06 01 06", whatever the type
-  pub deactivate : (type : ℕ) → Gives ready 0x1 0x06 (type ∷ []) (0x21 ∷ 0x06 ∷ 0x01 ∷ type ∷ []) (0x41 ∷ 0x06 ∷ 0x01 ∷ 0x06 ∷ [])
+  pub deactivate : (type : ℕ) → Gives P ready 0x1 0x06 (type ∷ []) (0x21 ∷ 0x06 ∷ 0x01 ∷ type ∷ []) (0x41 ∷ 0x06 ∷ 0x01 ∷ 0x06 ∷ [])
   -- "Closing 0: 40 05 01 01", while 0 is closed and while it is open
-  pub close-closed : Gives zeroClosed 0x0 0x05 (0x00 ∷ []) (0x20 ∷ 0x05 ∷ 0x01 ∷ 0x00 ∷ []) (0x40 ∷ 0x05 ∷ 0x01 ∷ 0x01 ∷ [])
-  pub close-open : Gives zeroOpen 0x0 0x05 (0x00 ∷ []) (0x20 ∷ 0x05 ∷ 0x01 ∷ 0x00 ∷ []) (0x40 ∷ 0x05 ∷ 0x01 ∷ 0x01 ∷ [])
+  pub close-closed : Gives P zeroClosed 0x0 0x05 (0x00 ∷ []) (0x20 ∷ 0x05 ∷ 0x01 ∷ 0x00 ∷ []) (0x40 ∷ 0x05 ∷ 0x01 ∷ 0x01 ∷ [])
+  pub close-open : Gives P zeroOpen 0x0 0x05 (0x00 ∷ []) (0x20 ∷ 0x05 ∷ 0x01 ∷ 0x00 ∷ []) (0x40 ∷ 0x05 ∷ 0x01 ∷ 0x01 ∷ [])
