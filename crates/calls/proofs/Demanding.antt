@@ -20,7 +20,7 @@ use Rattle.model.specs.Effects.{Call, fresh, power, command, send, push, down, 
 use Rattle.model.specs.Refusals.{Rule, first}
 use Rattle.model.specs.Bench.{rules, judged, step}
 use Rattle.model.specs.calls.Report.{reportOf, reportRules}
-use Rattle.model.specs.Observer.{Event, Account, opening, observe, observed, eventOf}
+use Rattle.model.specs.Observer.{Event, Account, opening, observe, observed}
 use Rattle.model.specs.Claim.{numbersOf, Claim}
 use Rattle.model.specs.invariant.Bench.{Kept}
 use Rattle.model.proofs.Fine.{kept, cold-fine}

@@ -1,14 +1,10 @@
 -- What is seen of calls on octets is what the model shows; so document 01's table and limits, proved on the model, hold on octets.
 -- Assumes nothing.
-use Prim.Native.Nat.{ℕ, _≤_, _<_}
-use mathlib.Core.Path.{_≡_, refl, sym, ap, _∙_, subst}
+use Prim.Native.Nat.{ℕ}
+use mathlib.Core.Path.{_≡_, refl, sym, ap, _∙_}
 use mathlib.Core.Bool.{not}
 use mathlib.Core.List.{List, [], _∷_}
-use native.Mathlib.Omega.{arith}
-use lib.ListN.{length}
-use lib.Dec.{ltb}
-use borrow.Author.Tests.{lt-ltb}
-use Rattle.octets.specs.Octets.{Octets, pick}
+use Rattle.octets.specs.Octets.{Octets}
 use Rattle.area.specs.Map.{areaSize, messageSize}
 use Rattle.state.specs.Profile.{profileIn}
 use Rattle.views.specs.View.{viewOf}

@@ -9,9 +9,7 @@ use Rattle.octets.specs.Octal.{Octal}
 use Rattle.area.specs.Map.{areaSize, messageSize}
 use Rattle.record.specs.Judge.{judgeOf}
 use Rattle.model.specs.Effects.{refused}
-use Rattle.model.specs.Observer.{Account}
 use Rattle.calls.specs.Word.{answerIn}
-use Rattle.calls.specs.Seen.{Puts}
 use Rattle.calls.specs.Demand.{Key, pressed, slice, EveryRun}
 
 -- of the area that a run has left, whatever call comes next

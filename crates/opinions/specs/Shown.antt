@@ -73,9 +73,12 @@ joined (p ∷ ps) = p ++ joined ps
 abbrev pub lineOf : Outcome → Line
 lineOf o = line (numberOf (o .answer)) (o .effect .drop) (joined (o .effect .toDown) ++ joined (o .effect .toUp)) (o .effect .message)
 
--- the bench that a sheet starts with
+-- the profile and the bench that a sheet starts with
+abbrev pub profile : Octets
+profile = hex 5 0x2004020401
+
 abbrev pub start : State
-start = cold (profileIn (hex 5 0x2004020401))
+start = cold (profileIn profile)
 
 -- each call's line. What is named below unfolds wherever `lines` does, so that a list of calls computes.
 unfoldable pub lines : List Call → State → List Line

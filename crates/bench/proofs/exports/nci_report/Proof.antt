@@ -1,4 +1,4 @@
--- `bench::exports::report` meets its contract: not entered, refused, or taken.
+-- `bench::exports::nci_report` meets its contract: not entered, refused, or taken.
 -- Assumes nothing.
 use Rattle.model.specs.calls.Report.{reportRules}
 use Rattle.calls.specs.calls.Report.{reported, reportCall}
@@ -12,8 +12,8 @@ use Rattle.views.specs.View.{view}
 use Rattle.calls.specs.Outcome.{outcome, lowest}
 use Rattle.calls.proofs.Called.{entered, called-unentered, called-refused, called-taken}
 use borrow.Author.Needs.{needs}
-use Rattle.bench.proofs.exports.report.Statement.{statement}
-use Rattle.bench.proofs.exports.report.Tie as tie
+use Rattle.bench.proofs.exports.nci_report.Statement.{statement}
+use Rattle.bench.proofs.exports.nci_report.Tie as tie
 
 enter-requires : tie.Need-enter-requires
 enter-requires c κs = search needs
