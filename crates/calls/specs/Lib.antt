@@ -3,6 +3,7 @@ pub mod Word
 pub mod Outcome
 pub mod Seen
 pub mod Refines
+pub mod Packet
 pub mod calls
 pub mod Demand
 pub mod Reached
