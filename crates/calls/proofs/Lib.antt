@@ -32,4 +32,5 @@ pub mod Coming
 pub mod Able
 pub mod Demanding
 pub mod Reaching
+pub mod Displaying
 pub mod Playing

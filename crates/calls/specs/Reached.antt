@@ -1,6 +1,6 @@
--- What else holds of every run of calls on octets from a fresh bench.
+-- What else holds of every run of calls on octets from a fresh bench: which refusals never come, and that a front end reads the packets that the observer sees.
 -- Assumes nothing.
-use Prim.Native.Nat.{_≤_}
+use Prim.Native.Nat.{ℕ, _≤_}
 use mathlib.Core.Path.{_≡_}
 use mathlib.Core.Bool.{true}
 use lib.ListN.{length}
@@ -9,7 +9,9 @@ use Rattle.octets.specs.Octal.{Octal}
 use Rattle.area.specs.Map.{areaSize, messageSize}
 use Rattle.record.specs.Judge.{judgeOf}
 use Rattle.model.specs.Effects.{refused}
-use Rattle.calls.specs.Word.{answerIn}
+use Rattle.calls.specs.Word.{answerIn, downIn, upIn}
+use Rattle.calls.specs.Seen.{Puts, seenBy}
+use Rattle.calls.specs.Packet.{lastPackets}
 use Rattle.calls.specs.Demand.{Key, pressed, slice, EveryRun}
 
 -- of the area that a run has left, whatever call comes next
@@ -25,3 +27,14 @@ pub record Reached (a : Octets) : Type 0 where
 
 abbrev pub AlwaysReached : Type 0
 AlwaysReached = EveryRun (λ a p o. Reached a)
+
+-- of the area a that a run has left, with p packets put on each wire: what is seen of the packets that the next call puts is what the packet reader
+-- hands out for them, counted from the wire's end, each into a buffer with room
+pub record Displayed (a : Octets) (p : Puts) : Type 0 where
+  pub down : (k : Key) → Octal (slice (k .call)) → (outs : ℕ → Octets) → ((i : ℕ) → messageSize ≤ length (outs i))
+      → lastPackets (pressed k a .area) outs 0 (downIn (pressed k a .word)) ≡ seenBy (k .call) p (pressed k a) .toDown
+  pub up : (k : Key) → Octal (slice (k .call)) → (outs : ℕ → Octets) → ((i : ℕ) → messageSize ≤ length (outs i))
+      → lastPackets (pressed k a .area) outs 1 (upIn (pressed k a .word)) ≡ seenBy (k .call) p (pressed k a) .toUp
+
+abbrev pub AlwaysDisplayed : Type 0
+AlwaysDisplayed = EveryRun (λ a p o. Displayed a p)
