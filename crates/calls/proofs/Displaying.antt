@@ -1,10 +1,9 @@
 -- The packets that are seen of a call are those that the packet reader hands out after it.
 -- Assumes nothing.
-use Prim.Native.Nat.{ℕ, _+_, _≤_, _<_}
+use Prim.Native.Nat.{ℕ, _+_, _≤_}
 use mathlib.Core.Path.{_≡_, refl, sym, ap, _∙_, subst}
-use mathlib.Core.Bool.{Bool, true, false, _&&_, false≢true}
-use mathlib.Core.List.{List, []}
-use native.Mathlib.Omega.{arith}
+use mathlib.Core.Bool.{Bool, true, false, false≢true}
+use mathlib.Core.List.{[]}
 use lib.ListN.{length}
 use lib.Dec.{ltb}
 use borrow.Author.Tests.{ltb-true, ltb-false}
@@ -14,7 +13,6 @@ use Rattle.state.proofs.Chains.{and-right}
 use Rattle.area.specs.Map.{messageSize, downAt, upAt, wireSlots}
 use Rattle.area.specs.Ring.{tab, packetsFrom}
 use Rattle.area.proofs.Rings.{length-tab}
-use Rattle.record.specs.Reading.{decodeOf}
 use Rattle.views.specs.View.{viewOf}
 use Rattle.model.specs.State.{State}
 use Rattle.model.specs.Effects.{Call, Result, Effect, fresh, power, command, send, push, down, consume, credit, air, reply, up, report, taken, refused}
@@ -23,7 +21,7 @@ use Rattle.model.specs.Bench.{rules, judged, step}
 use Rattle.model.specs.Observer.{Event, Account}
 use Rattle.calls.specs.Word.{answerIn, downIn, upIn}
 use Rattle.calls.specs.Outcome.{Outcome, outcome}
-use Rattle.calls.specs.Seen.{Puts, noPuts, starts, isTaken, restarts, putsAfter, seenBy}
+use Rattle.calls.specs.Seen.{Puts, noPuts, starts, isTaken, restarts, seenBy}
 use Rattle.calls.specs.Refines.{Along, Refines}
 use Rattle.calls.specs.Packet.{lastPackets}
 use Rattle.calls.specs.Demand.{Key, pressed, slice}

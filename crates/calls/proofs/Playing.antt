@@ -2,25 +2,21 @@
 -- Assumes nothing.
 use Prim.Native.Nat.{ℕ}
 use mathlib.Core.Path.{_≡_, refl, sym, ap, _∙_}
-use mathlib.Core.Bool.{not}
 use mathlib.Core.List.{List, [], _∷_}
 use Rattle.octets.specs.Octets.{Octets}
-use Rattle.area.specs.Map.{areaSize, messageSize}
-use Rattle.state.specs.Profile.{profileIn}
 use Rattle.views.specs.View.{viewOf}
-use Rattle.model.specs.State.{State, cold}
-use Rattle.model.specs.Effects.{Call, fresh, power, command, send, push, down, consume, credit, air, reply, up, report, refused}
+use Rattle.model.specs.Effects.{Call}
 use Rattle.model.specs.Observer.{Event, events}
-use Rattle.model.specs.Table.{callsOf, Plays, Gives, Table}
+use Rattle.model.specs.Table.{Plays, Gives, Table}
 use Rattle.model.specs.Limits.{Limits}
 use Rattle.model.proofs.Whole.{table}
 use Rattle.model.proofs.Limits.{limits}
 use Rattle.calls.specs.Word.{answerIn}
 use Rattle.calls.specs.Outcome.{Outcome}
-use Rattle.calls.specs.Seen.{Puts, noPuts, putsAfter, seenBy}
+use Rattle.calls.specs.Seen.{Puts, noPuts, putsAfter}
 use Rattle.calls.specs.Refines.{Good, Along, Refines}
 use Rattle.calls.specs.calls.Fresh.{freshCall}
-use Rattle.calls.specs.Demand.{Key, perform, pressed, AllOctal, areaAfter, seenIn}
+use Rattle.calls.specs.Demand.{Key, pressed, AllOctal, areaAfter, seenIn}
 use Rattle.calls.specs.Played.{callsIn, AllRoom, AsModel, OctetPlays, ShortArea}
 use Rattle.calls.proofs.Starting.{fresh-view}
 use Rattle.calls.proofs.Demanding.{all-refine, short-area, started, run-stands, starts-standing}
