@@ -11,7 +11,6 @@ pub mod Airing
 pub mod Pushing
 pub mod Starting
 pub mod Reporting
-pub mod Putting
 pub mod Showing
 pub mod Entering
 pub mod Sending
