@@ -89,8 +89,12 @@ static void say_fresh(const uint8_t *profile) {
 }
 
 static void say_message(size_t length) {
-    printf("message of ");
-    say_octets(length);
+    if (length == 0) {
+        printf("empty message");
+    } else {
+        printf("message of ");
+        say_octets(length);
+    }
 }
 
 static void say_send(unsigned conn, size_t length) {
@@ -167,10 +171,10 @@ static void say_up(struct bench *b, uint64_t word) {
 }
 
 static void say_report(unsigned conn, const uint8_t *numbers) {
-    printf("connection %u: credits held %u", conn, numbers[0]);
-    printf(numbers[0] == NCI_NO_FLOW_CONTROL ? " for no flow control, " : ", ");
-    printf("packets on the down wire %u, packets stored %u, ", numbers[1], numbers[2]);
-    printf("credits owed %u, credits on the up wire %u", numbers[3], numbers[4]);
+    printf("connection %u: credits held %u, ", conn, numbers[0]);
+    printf(numbers[0] == NCI_NO_FLOW_CONTROL ? "no flow control, " : "");
+    printf("packets down %u, packets stored %u, ", numbers[1], numbers[2]);
+    printf("credits owed %u, credits up %u", numbers[3], numbers[4]);
 }
 
 static void say_taken(struct bench *b, enum call call, const struct octets *arg, uint64_t word) {

@@ -131,7 +131,7 @@ static void say_name(const struct packet *p, const struct message *m) {
     if (m != NULL)
         printf("%s_%s", m->name, mt[p->mt]);
     else
-        printf("%s of GID %X, OID %02X", mt[p->mt], p->id, p->oid);
+        printf("GID %X OID %02X %s", p->id, p->oid, mt[p->mt]);
 }
 
 static void say_segment(const struct packet *p) {
