@@ -25,7 +25,8 @@ KEYS = ROOT / "target" / "front" / "keys"
 SOURCES = [ROOT / "front" / "keys.c", ROOT / "front" / "words.c"]
 STRICT = ["-std=c99", "-Wall", "-Wextra", "-Wpedantic", "-Werror", f"-I{ROOT / 'include'}"]
 LIBRARY = ROOT / "target" / "staticlib" / "libbench.a"
-SECONDS = 20
+# for an answer, or for a program to end
+SECONDS = 10
 SEED = 13
 MOST_CHARACTERS = 4096
 
@@ -65,10 +66,15 @@ def plain(terminal):
     termios.tcsetattr(terminal, termios.TCSANOW, mode)
 
 
-class Worked:
-    """The program while it is worked, at a terminal or through pipes."""
+class Silent(Exception):
+    """A key that was not answered."""
 
-    def __init__(self, terminal):
+
+class Worked:
+    """The program while it is worked, at a terminal or through pipes. A key that is not answered ends the work, as a failure."""
+
+    def __init__(self, checks, terminal):
+        self.checks = checks
         if terminal:
             self.typing, behind = pty.openpty()
             plain(behind)
@@ -82,22 +88,31 @@ class Worked:
     def __enter__(self):
         return self
 
-    def __exit__(self, *_):
+    def __exit__(self, _, error, __):
         self.process.kill()
         self.process.wait()
+        if isinstance(error, Silent):
+            self.checks.check(f"an answer to {error}", False)
+        return isinstance(error, Silent)
 
     def press(self, key):
-        """Types a line and gives what is heard then: one line, or more if there is more, or none in time."""
-        os.write(self.typing, key.encode() + b"\n")
+        """Types a line and gives what is heard then, without the line feed at its end. A second line would be seen inside."""
         heard = b""
-        while not heard.endswith(b"\n") and select.select([self.hearing], [], [], SECONDS)[0]:
-            heard += os.read(self.hearing, 65536)
+        try:
+            os.write(self.typing, key.encode() + b"\n")
+            while not heard.endswith(b"\n"):
+                more = select.select([self.hearing], [], [], SECONDS)[0] and os.read(self.hearing, 65536)
+                if not more:
+                    raise Silent(repr(key[:80]))
+                heard += more
+        except OSError:
+            raise Silent(repr(key[:80]))
         return heard.decode().removesuffix("\n")
 
 
 def fed(program, octets):
     """Its output, its complaints and its exit status for an input that is there at once."""
-    done = subprocess.run(program, input=octets, capture_output=True, timeout=10 * SECONDS)
+    done = subprocess.run(program, input=octets, capture_output=True, timeout=3 * SECONDS)
     return done.stdout.decode("latin-1"), done.stderr.decode("latin-1"), done.returncode
 
 
@@ -112,7 +127,7 @@ def session():
 
 
 def check_session(checks, terminal):
-    with Worked(terminal) as worked:
+    with Worked(checks, terminal) as worked:
         for n, (key, answer) in enumerate(session(), 1):
             checks.equal(f"{'terminal' if terminal else 'pipe'}, key {n}, {key}", worked.press(key), answer)
         checks.equal("exit status after quit", worked.process.wait(SECONDS), 0)
@@ -215,7 +230,7 @@ def read_card():
 
 def check_card(checks, card):
     checks.equal("the card's numbers", list(card), list(range(1, 15)))
-    with Worked(terminal=False) as worked:
+    with Worked(checks, terminal=False) as worked:
         for number, line in card.items():
             checks.equal(f"card {number}", worked.press(f"card {number}"), f'ev=card ans=0 says="{number}: {line}"')
         checks.equal("card 0", worked.press("card 0"), 'ev=card ans=0 says="0: taken"')
@@ -224,7 +239,7 @@ def check_card(checks, card):
 
 
 def check_help(checks):
-    with Worked(terminal=False) as worked:
+    with Worked(checks, terminal=False) as worked:
         answer = worked.press("help")
         names = answer.removeprefix('ev=help ans=0 says="').removesuffix('"').split()
         checks.equal("number of keys", len(names), 30)
@@ -249,7 +264,7 @@ SAME_KEYS = [
 
 
 def check_no_keys(checks):
-    with Worked(terminal=False) as worked:
+    with Worked(checks, terminal=False) as worked:
         for key in NO_KEYS:
             line = worked.press(key)
             checks.check(f"no key: {key!r}", LINE.fullmatch(line) and line.startswith("ev=bad ") and len(line) <= 200, line)
@@ -261,7 +276,7 @@ def check_no_keys(checks):
 def check_lengths(checks):
     """Lines of any length; the last has no line feed."""
     longest = "send 0 " + "00" * ((MOST_CHARACTERS - 7) // 2)
-    with Worked(terminal=False) as worked:
+    with Worked(checks, terminal=False) as worked:
         checks.check("the longest line", worked.press(longest.ljust(MOST_CHARACTERS)).startswith("ev=send ans=3 "))
         for length in (MOST_CHARACTERS + 1, 10000, 1000000):
             checks.equal(f"{length} characters", worked.press("quit".ljust(length)), 'ev=bad ans=3 says="the line is too long"')
