@@ -53,6 +53,7 @@ static void keep_first(struct bench *b, unsigned wire) {
 
 /* ---- the calls */
 
+/* The last three are the front end's own. */
 enum call { FRESH, POWER, COMMAND, SEND, PUSH, DOWN, CONSUME, CREDIT, AIR, REPLY, UP, REPORT, CARD, HELP, QUIT };
 
 static const char *const call_names[] = {"fresh",  "power", "command", "send", "push", "down", "consume",
@@ -290,15 +291,26 @@ struct text {
 
 static bool blank(char c) { return c == ' ' || c == '\t' || c == '\r'; }
 
+/* How many characters at the front of a text are blank, or are not. */
+static size_t span(struct text text, bool blanks) {
+    size_t n = 0;
+    while (n < text.length && blank(text.at[n]) == blanks)
+        n++;
+    return n;
+}
+
+static void skip(struct text *text, size_t n) {
+    text->at += n;
+    text->length -= n;
+}
+
 /* Takes the next word off a text; it is empty at the end. */
 static struct text next_word(struct text *rest) {
     struct text word;
-    while (rest->length > 0 && blank(*rest->at))
-        rest->at++, rest->length--;
-    word.at = rest->at;
-    while (rest->length > 0 && !blank(*rest->at))
-        rest->at++, rest->length--;
-    word.length = (size_t)(rest->at - word.at);
+    skip(rest, span(*rest, true));
+    word = *rest;
+    word.length = span(word, false);
+    skip(rest, word.length);
     return word;
 }
 

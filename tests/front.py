@@ -21,10 +21,10 @@ import termios
 from pathlib import Path
 
 ROOT = Path(__file__).resolve().parent.parent
-KEYS = ROOT / "target" / "front" / "keys"
+KEYS = ROOT / "build" / "keys"
 SOURCES = [ROOT / "front" / "keys.c", ROOT / "front" / "words.c"]
 STRICT = ["-std=c99", "-Wall", "-Wextra", "-Wpedantic", "-Werror", f"-I{ROOT / 'include'}"]
-LIBRARY = ROOT / "target" / "staticlib" / "libbench.a"
+LIBRARY = ROOT / "build" / "lib" / "libnci_bench.a"
 # for an answer, or for a program to end
 SECONDS = 10
 SEED = 13
@@ -34,8 +34,10 @@ HEX = "(?:[0-9A-F]{2})*"
 SAYS = r'says="[ !#-~]+"'
 CALLS = "fresh|power|command|send|push|down|consume|credit|air|reply|up|report"
 LINE = re.compile(
-    f"ev=(?:{CALLS}) ans=(?:[0-9]|1[0-4]) drop=[01] pkt={HEX} msg=(?:-|{HEX}) {SAYS}|ev=bad ans=3 {SAYS}|ev=(?:card|help|quit) ans=0 {SAYS}"
+    f"ev=(?:{CALLS}) ans=(?:[0-9]|1[0-4]) drop=[01] pkt={HEX} msg=(?:-|{HEX}) {SAYS}"
+    f"|ev=bad ans=3 {SAYS}|ev=(?:card|help|quit) ans=0 {SAYS}"
 )
+FIELDS = re.compile(f"ev=([a-z]+) ans=([0-9]+) drop=([01]) pkt=({HEX}) msg=(-|{HEX}) says=\"(.*)\"")
 
 
 class Checks:
@@ -71,7 +73,7 @@ class Silent(Exception):
 
 
 class Worked:
-    """The program while it is worked, at a terminal or through pipes. A key that is not answered ends the work, as a failure."""
+    """The program while it is worked, at a terminal or through pipes. A key without an answer is a failure and ends it."""
 
     def __init__(self, checks, terminal):
         self.checks = checks
@@ -96,7 +98,7 @@ class Worked:
         return isinstance(error, Silent)
 
     def press(self, key):
-        """Types a line and gives what is heard then, without the line feed at its end. A second line would be seen inside."""
+        """Types a line and gives what is heard then, without the line feed at its end."""
         heard = b""
         try:
             os.write(self.typing, key.encode() + b"\n")
@@ -135,14 +137,26 @@ def check_session(checks, terminal):
 
 # ---- the lists of the second implementation, typed as keys
 
-AIR = {1: "found", 2: "poll", 3: "listen", 4: "failed", 5: "sleeps", 6: "lost", 7: "releases", 8: "says"}
-LEAST = {1: 5, 2: 4, 3: 4}
+# of each kind of air: its key, and octets with the kind: how many at least and at most
+AIR = {
+    1: ("found", 5, 9999), 2: ("poll", 4, 9999), 3: ("listen", 4, 9999), 4: ("failed", 1, 1), 5: ("sleeps", 1, 1),
+    6: ("lost", 1, 1), 7: ("releases", 1, 1), 8: ("says", 1, 9999),
+}
+
+
+def discover_of(p):
+    """Modes alone are typed, so the count has to be right and every frequency 01."""
+    fits = p and len(p) == 1 + 2 * p[0] > 1 and set(p[2::2]) == {1}
+    return "discover " + p[1::2].hex(" ") if fits else None
+
+
+# of each command that has a key: the key for a payload, where there is one
 COMMANDS = {
     (0, 0): lambda p: f"reset {p.hex()}" if len(p) == 1 else None,
     (0, 1): lambda p: "init" if p == bytes([0, 0]) else None,
     (0, 4): lambda p: "create" if p == bytes([1, 0]) else None,
     (0, 5): lambda p: f"close {p[0]:X}" if len(p) == 1 else None,
-    (1, 3): lambda p: "discover " + p[1::2].hex(" ") if p and len(p) == 1 + 2 * p[0] > 1 and set(p[2::2]) == {1} else None,
+    (1, 3): discover_of,
     (1, 4): lambda p: f"select {p[0]:x} {p[1]:02X}" if len(p) == 3 and p[2] == 1 else None,
     (1, 6): lambda p: f"deactivate {p[0]:X}" if len(p) == 1 else None,
 }
@@ -153,14 +167,16 @@ def key_of(name, arg):
     if name == "command":
         key = COMMANDS.get((arg[0], arg[1]), lambda _: None)(arg[2:])
         return key or f"command {arg[0]:X} {arg[1]:X} {arg[2:].hex()}"
-    if name == "air" and arg[0] in AIR and len(arg) >= LEAST.get(arg[0], 1) and (arg[0] not in range(4, 8) or len(arg) == 1):
-        return f"{AIR[arg[0]]} {arg[1:].hex(' ')}"
+    key, least, most = AIR.get(arg[0], ("", 0, 0)) if name == "air" else ("", 0, 0)
+    if least <= len(arg) <= most:
+        return f"{key} {arg[1:].hex(' ')}"
     return f"{name} {arg.hex().upper()}"
 
 
 def lists():
     """Keys, and the fields that the second implementation gives. A profile that is not five octets is no key."""
-    lines = [line for line in (ROOT / "tests" / "data" / "lists.txt").read_text().splitlines() if line.startswith("ev=")]
+    text = (ROOT / "tests" / "data" / "lists.txt").read_text()
+    lines = re.findall("^ev=.*$", text, re.M)
     for asked, answered in zip(lines[::2], lines[1::2]):
         name, arg = re.fullmatch(f"ev=([a-z]+) arg=({HEX})", asked).groups()
         fits = name != "fresh" or len(arg) == 10
@@ -168,8 +184,9 @@ def lists():
 
 
 NAMES = {
-    (0, 0): "CORE_RESET", (0, 1): "CORE_INIT", (0, 4): "CORE_CONN_CREATE", (0, 5): "CORE_CONN_CLOSE", (0, 6): "CORE_CONN_CREDITS",
-    (0, 7): "CORE_GENERIC_ERROR", (1, 3): "RF_DISCOVER", (1, 4): "RF_DISCOVER_SELECT", (1, 5): "RF_INTF_ACTIVATED", (1, 6): "RF_DEACTIVATE",
+    (0, 0): "CORE_RESET", (0, 1): "CORE_INIT", (0, 4): "CORE_CONN_CREATE", (0, 5): "CORE_CONN_CLOSE",
+    (0, 6): "CORE_CONN_CREDITS", (0, 7): "CORE_GENERIC_ERROR", (1, 3): "RF_DISCOVER", (1, 4): "RF_DISCOVER_SELECT",
+    (1, 5): "RF_INTF_ACTIVATED", (1, 6): "RF_DEACTIVATE",
 }
 
 
@@ -187,22 +204,27 @@ def named(octets):
         octets = octets[3 + length:]
 
 
+def counted(length):
+    return f"message of {length} octet{'' if length == 1 else 's'}" if length else "empty message"
+
+
 def says_right(line, card):
-    """Whether a line says its refusal, or names each packet that it shows, in their order; a command's segments are named once."""
-    fields = re.match(f"ev=([a-z]+) ans=([0-9]+) drop=([01]) pkt=({HEX}) msg=(-|{HEX}) says=\"(.*)\"$", line)
-    if fields is None or fields[2] != "0":
-        return fields is None or fields[6] == f"{fields[2]}: {card[int(fields[2])]}"
-    names = list(named(bytes.fromhex(fields[4])))
-    if fields[1] == "command":
-        many = f" in {len(names)} packets" if len(names) > 1 else ""
-        return fields[6] == names[0] + many
-    parts = fields[6].removeprefix("looped back ").split("; ")
-    handed = fields[5] != "" and fields[1] in ("consume", "up")
-    length = 0 if fields[5] == "-" else len(fields[5]) // 2
-    what = f"message of {length} octet{'' if length == 1 else 's'}" if length else "empty message"
-    last = f"{what} handed out"
-    drops = fields[3] == "0" or "dropped" in fields[6]
-    return all(part.startswith(name) for part, name in zip(parts, names)) and len(parts) >= len(names) and handed == (parts[-1] == last) and drops
+    """Whether a line says its refusal, or names each packet that it shows, in their order, and tells what was handed out or
+    dropped. A command's segments are named once."""
+    fields = FIELDS.fullmatch(line)
+    if fields is None:
+        return line.startswith("ev=bad ")
+    event, answer, dropped, packets, message, says = fields.groups()
+    if answer != "0":
+        return says == f"{answer}: {card[int(answer)]}"
+    names = list(named(bytes.fromhex(packets)))
+    if event == "command":
+        return says == names[0] + (f" in {len(names)} packets" if len(names) > 1 else "")
+    parts = says.removeprefix("looped back ").split("; ")
+    handed = [f"{counted(len(message.strip('-')) // 2)} handed out"] if message and event != "report" else []
+    in_order = len(parts) >= len(names) and all(part.startswith(name) for part, name in zip(parts, names))
+    tells_handed = [part for part in parts if part.endswith("handed out")] == handed
+    return in_order and tells_handed and (dropped == "1") == ("dropped" in says)
 
 
 def check_lists(checks, card):
@@ -212,9 +234,10 @@ def check_lists(checks, card):
     checks.equal("lists, number of answers", len(lines), len(keys))
     checks.equal("lists, exit status", (complaints, status), ("", 0))
     for key, line, answer in zip(keys, lines, answers):
-        same = line.split(" says=")[0] == answer
+        same = LINE.fullmatch(line) and line.split(" says=")[0] == answer
         short = len(re.sub("(pkt|msg)=[0-9A-F]*", "", line)) <= 200
-        checks.check(f"lists, {key}", same and short and LINE.fullmatch(line) and says_right(line, card), f"\n  {line}, expected\n  {answer}")
+        good = same and short and says_right(line, card)
+        checks.check(f"lists, {key}", good, f"\n  {line}, expected\n  {answer}")
     met = {line.split()[0] for line in lines}
     checks.equal("lists, every call", met >= {f"ev={call}" for call in CALLS.split("|")}, True)
 
@@ -252,14 +275,17 @@ def check_help(checks):
 
 
 NO_KEYS = [
-    "", " ", "res", "resett", "reset 0 0", "reset 123", "reset g", "reset 0x1", "init 0", "close", "close 2 3", "select 1", "select 1 4 1",
-    "deactivate 0 0", "command", "command 0", "command 0 G", "command 0 0 1234567", "send", "send 2 48656C6C6", "send 2 4865-6C", "push", "push 2 2",
-    "push two", "down 1", "up 1", "consume", "credit 2", "found 1 4 0", "poll 1 4", "listen 1 4", "failed 1", "sleeps 1", "lost 1", "releases 1",
-    "says hello", "air", "reply 0", "report", "power 1", "fresh 20", "fresh 200402040100", "quit 1", "ev=down arg=", "push\0 2", "push\u00a02",
+    "", " ", "res", "resett", "reset 0 0", "reset 123", "reset g", "reset 0x1", "init 0", "close", "close 2 3",
+    "select 1", "select 1 4 1", "deactivate 0 0", "command", "command 0", "command 0 G", "command 0 0 1234567",
+    "send", "send 2 48656C6C6", "send 2 4865-6C", "push", "push 2 2", "push two", "down 1", "up 1", "consume",
+    "credit 2", "found 1 4 0", "poll 1 4", "listen 1 4", "failed 1", "sleeps 1", "lost 1", "releases 1", "says hello",
+    "air", "reply 0", "report", "power 1", "fresh 20", "fresh 200402040100", "quit 1", "ev=down arg=", "push\0 2",
+    "push\u00a02",
 ]
 SAME_KEYS = [
-    ("PUSH 2", "push 2"), ("  push\t02\r", "push 2"), ("Fresh 20 04 02 04 01", "fresh"), ("discover 0 80", "discover"), ("reset 1", "reset"),
-    ("command 0 3f 4a4B", "Command 003F 4A 4B"), ("deactivate 00", "deactivate"), ("close 2", "command 0 5 2"), ("create", "command 0 4 01 00"),
+    ("PUSH 2", "push 2"), ("  push\t02\r", "push 2"), ("Fresh 20 04 02 04 01", "fresh"), ("discover 0 80", "discover"),
+    ("reset 1", "reset"), ("command 0 3f 4a4B", "Command 003F 4A 4B"), ("deactivate 00", "deactivate"),
+    ("close 2", "command 0 5 2"), ("create", "command 0 4 01 00"),
 ]
 
 
@@ -279,7 +305,8 @@ def check_lengths(checks):
     with Worked(checks, terminal=False) as worked:
         checks.check("the longest line", worked.press(longest.ljust(MOST_CHARACTERS)).startswith("ev=send ans=3 "))
         for length in (MOST_CHARACTERS + 1, 10000, 1000000):
-            checks.equal(f"{length} characters", worked.press("quit".ljust(length)), 'ev=bad ans=3 says="the line is too long"')
+            answer = worked.press("quit".ljust(length))
+            checks.equal(f"{length} characters", answer, 'ev=bad ans=3 says="the line is too long"')
         checks.check("a message of 1,025 octets", worked.press("send 0 " + "00" * 1025).startswith("ev=send ans=3 "))
         checks.check("a message of 1,024 octets", worked.press("send 0 " + "00" * 1024).startswith("ev=send ans=6 "))
         checks.check("a payload of 256 octets", worked.press("command 0 0 " + "00" * 256).startswith("ev=command ans=3 "))
@@ -318,22 +345,29 @@ def check_any(checks, name, program, count):
     checks.equal(f"{name}, lines of another form", wrong[:3], [])
 
 
+def compiled(command):
+    """What a compiler complains of, and its exit status."""
+    done = subprocess.run(command, capture_output=True, text=True)
+    return done.stderr, done.returncode
+
+
 def check_compilers(checks, folder):
     for compiler in filter(shutil.which, ("gcc", "clang")):
         for source in SOURCES:
-            done = subprocess.run([compiler, *STRICT, "-O2", "-c", source, "-o", folder / "object"], capture_output=True, text=True)
-            checks.equal(f"{compiler} {source.name}", (done.stderr, done.returncode), ("", 0))
+            complaints, status = compiled([compiler, *STRICT, "-O2", "-c", source, "-o", folder / "object"])
+            checks.equal(f"{compiler} {source.name}", (complaints, status), ("", 0))
 
 
 def check_sanitized(checks, folder):
     program = folder / "keys"
     sanitizers = ["-g", "-fsanitize=address,undefined", "-fno-sanitize-recover=all"]
     for compiler in filter(shutil.which, ("gcc", "clang")):
-        done = subprocess.run([compiler, *STRICT, *sanitizers, *SOURCES, LIBRARY, "-o", program], capture_output=True, text=True)
-        if done.returncode == 0:
+        complaints, status = compiled([compiler, *STRICT, *sanitizers, *SOURCES, LIBRARY, "-o", program])
+        if status == 0:
             check_any(checks, f"{compiler} with sanitizers", [program], 20000)
-        elif "sanitize" not in done.stderr and "asan" not in done.stderr:
-            checks.equal(f"{compiler} with sanitizers", done.stderr, "")
+        elif "asan" not in complaints:
+            # a compiler without its sanitizers' library is not at hand
+            checks.equal(f"{compiler} with sanitizers", complaints, "")
     if shutil.which("valgrind"):
         check_any(checks, "valgrind", ["valgrind", "-q", "--error-exitcode=9", KEYS], 2000)
 
