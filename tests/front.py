@@ -167,9 +167,10 @@ def key_of(name, arg):
     if name == "command":
         key = COMMANDS.get((arg[0], arg[1]), lambda _: None)(arg[2:])
         return key or f"command {arg[0]:X} {arg[1]:X} {arg[2:].hex()}"
-    key, least, most = AIR.get(arg[0], ("", 0, 0)) if name == "air" else ("", 0, 0)
-    if least <= len(arg) <= most:
-        return f"{key} {arg[1:].hex(' ')}"
+    if name == "air" and arg[0] in AIR:
+        key, least, most = AIR[arg[0]]
+        if least <= len(arg) <= most:
+            return f"{key} {arg[1:].hex(' ')}"
     return f"{name} {arg.hex().upper()}"
 
 
