@@ -14,6 +14,7 @@ pub mod fence;
 pub mod lent;
 pub mod lists;
 pub mod record;
+pub mod speed;
 pub mod word;
 
 /// A program's argument as a number.
