@@ -19,13 +19,13 @@ const ANSWER_SLOTS: usize = 2;
 
 #[derive(Clone, Debug, PartialEq, Eq)]
 pub struct Bench {
-    profile: Profile,
+    pub profile: Profile,
     /// To the controller.
-    down_wire: VecDeque<Vec<u8>>,
+    pub down_wire: VecDeque<Vec<u8>>,
     /// To the host.
-    up_wire: VecDeque<Vec<u8>>,
-    host: Host,
-    controller: Controller,
+    pub up_wire: VecDeque<Vec<u8>>,
+    pub host: Host,
+    pub controller: Controller,
 }
 
 /// The next rule of a call's list.

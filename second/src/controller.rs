@@ -23,12 +23,12 @@ const MOST_DISCOVER_ENTRIES: usize = 8;
 /// discards store and reassembly.
 #[derive(Clone, Debug, PartialEq, Eq)]
 pub struct Connection {
-    terms: Terms,
-    store: VecDeque<Vec<u8>>,
+    pub terms: Terms,
+    pub store: VecDeque<Vec<u8>>,
     /// Packets consumed since the opening less credits put in notices since, as
     /// an octet counts: modulo 256. Without flow control it is not looked at.
-    owed: u8,
-    run: Run,
+    pub owed: u8,
+    pub run: Run,
 }
 
 impl Connection {
@@ -122,16 +122,16 @@ pub struct Consumed {
 
 #[derive(Clone, Debug, PartialEq, Eq)]
 pub struct Controller {
-    profile: Profile,
-    phase: Phase,
-    rf: Rf,
-    pairs: Vec<Pair>,
+    pub profile: Profile,
+    pub phase: Phase,
+    pub rf: Rf,
+    pub pairs: Vec<Pair>,
     /// The Conn ID last given by CONN_CREATE; 5 at first, so that 2 comes next.
-    last_given: u8,
-    connections: [Option<Connection>; 5],
-    control_run: ControlRun,
+    pub last_given: u8,
+    pub connections: [Option<Connection>; 5],
+    pub control_run: ControlRun,
     /// The message that the endpoint is sending on connection 0.
-    endpoint_message: Option<InHand>,
+    pub endpoint_message: Option<InHand>,
 }
 
 impl Controller {

@@ -8,24 +8,24 @@ use crate::profile::{Terms, LEAST_CONTROL_PAYLOAD};
 
 /// A command whose response the host hasn't read.
 #[derive(Clone, Copy, Debug, PartialEq, Eq)]
-struct Unanswered {
-    gid: u8,
-    oid: u8,
+pub struct Unanswered {
+    pub gid: u8,
+    pub oid: u8,
     /// The low four bits of the payload's first octet: the response to CONN_CLOSE
     /// names no connection, so the host remembers what it asked to close.
-    named: Option<u8>,
+    pub named: Option<u8>,
 }
 
 /// A connection open at the host. Closing drops this whole, and so discards the
 /// message in hand and reassembly.
 #[derive(Clone, Debug, PartialEq, Eq)]
 pub struct Connection {
-    terms: Terms,
+    pub terms: Terms,
     /// Since opening: the grant and credits read less packets pushed, as an octet
     /// counts: modulo 256.
-    held: u8,
-    in_hand: Option<InHand>,
-    run: Run,
+    pub held: u8,
+    pub in_hand: Option<InHand>,
+    pub run: Run,
 }
 
 impl Connection {
@@ -80,10 +80,10 @@ impl Taken {
 #[derive(Clone, Debug, PartialEq, Eq)]
 pub struct Host {
     /// Commands are cut here.
-    control_size: u8,
-    unanswered: Option<Unanswered>,
-    connections: [Option<Connection>; 5],
-    control_run: ControlRun,
+    pub control_size: u8,
+    pub unanswered: Option<Unanswered>,
+    pub connections: [Option<Connection>; 5],
+    pub control_run: ControlRun,
 }
 
 impl Host {

@@ -13,6 +13,8 @@
 //! `sheet` is the text front end. `observer` holds demand 3's account, which sees
 //! calls and outcomes alone, `player` deals random lists of calls, and `trial`
 //! plays them, checks each call and counts what was met.
+//!
+//! What a bench holds is public, so that a test can load one in any state.
 
 pub mod air;
 pub mod bench;

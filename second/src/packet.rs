@@ -134,8 +134,8 @@ pub struct Segment {
 /// empty message in hand still has its bare header to go.
 #[derive(Clone, Debug, PartialEq, Eq)]
 pub struct InHand {
-    octets: Vec<u8>,
-    gone: usize,
+    pub octets: Vec<u8>,
+    pub gone: usize,
 }
 
 impl InHand {
@@ -198,9 +198,9 @@ pub enum Joined {
 /// The segments of one message received so far.
 #[derive(Clone, Debug, PartialEq, Eq)]
 pub struct Run {
-    octets: Vec<u8>,
+    pub octets: Vec<u8>,
     limit: usize,
-    past_limit: bool,
+    pub past_limit: bool,
 }
 
 impl Run {
@@ -233,8 +233,8 @@ impl Run {
 /// one, and what the old one held is gone.
 #[derive(Clone, Debug, PartialEq, Eq)]
 pub struct ControlRun {
-    of: Option<(MessageType, u8, u8)>,
-    run: Run,
+    pub of: Option<(MessageType, u8, u8)>,
+    pub run: Run,
 }
 
 impl ControlRun {

@@ -1,0 +1,36 @@
+//! Times both benches: `speed` prints a line for each call and one for a mixed paper;
+//! `speed paper [calls]` prints such a paper as lines of a sheet, for timing the
+//! sheets; `speed proved [calls]` plays it many times on the proved bench alone, for a
+//! profiler.
+
+use compare::{exports, number, record, speed};
+use exam_bench::sheet;
+
+const ROUNDS: usize = 4_000;
+const PAPER_CALLS: u64 = 400_000;
+const SEED: u64 = 1;
+/// How often the paper is played for a profiler.
+const REPEATED: usize = 40;
+
+fn main() {
+    let mut arguments = std::env::args().skip(1);
+    let what = arguments.next();
+    let calls = number(arguments.next(), PAPER_CALLS) as usize;
+    let paper = || speed::mixed_paper(calls, SEED);
+    match what.as_deref() {
+        Some("paper") => paper().iter().for_each(|call| println!("{}", sheet::write_call(call))),
+        Some("proved") => {
+            let (mut area, mut buffer) = (vec![0; record::AREA], vec![0; 1024]);
+            let paper = paper();
+            for call in (0..REPEATED).flat_map(|_| &paper) {
+                exports::play(&mut area, &mut buffer, call, exports::argument(call));
+            }
+        }
+        _ => {
+            for (name, before, call) in speed::cases() {
+                println!("{}", speed::time_call(&before, &call, ROUNDS).fields(name));
+            }
+            println!("{}", speed::time_paper(&paper()).fields("a mixed paper"));
+        }
+    }
+}

@@ -1,0 +1,223 @@
+//! Both benches side by side: every call is made on both, and every word, packet,
+//! message, report and number of the record must be the same.
+
+use exam_bench::bench::Bench;
+use exam_bench::call::{Call, Outcome};
+use exam_bench::connection::CONN_IDS;
+use exam_bench::player::Random;
+use exam_bench::trial::Tally;
+
+use crate::lent::{Lent, Room, BUFFER, PAST};
+use crate::record::{self, AREA};
+use crate::word;
+
+/// The refusals that concern octets.
+const RECORD_DAMAGED: u64 = 1;
+const TOO_SHORT: u64 = 2;
+
+/// The wires as `nci_packet` names them.
+const DOWN: u8 = 0;
+const UP: u8 = 1;
+
+/// Of so many calls one is also made with too few octets, and one changes how many
+/// are lent.
+const SHORT: usize = 16;
+const OTHER_ROOM: usize = 16;
+
+pub struct Both {
+    pub lent: Lent,
+    /// None while the record is damaged: then every call but fresh answers 1.
+    pub second: Option<Bench>,
+    pub tally: Tally,
+    /// Calls refused for 1 and 2, and calls that only look.
+    pub damaged: u64,
+    pub short: u64,
+    pub looks: u64,
+    room: Room,
+}
+
+impl Default for Both {
+    fn default() -> Both {
+        Both {
+            lent: Lent::default(),
+            second: None,
+            tally: Tally::default(),
+            damaged: 0,
+            short: 0,
+            looks: 0,
+            room: Room::EXACT,
+        }
+    }
+}
+
+impl Both {
+    /// Begins a list with fresh.
+    pub fn begin(&mut self, profile: [u8; 5]) -> Result<(), String> {
+        self.tally.lists += 1;
+        self.step(&Call::Fresh(profile))
+    }
+
+    /// Puts octets in place of the bench's and loads the second implementation with
+    /// what they say.
+    pub fn put(&mut self, octets: &[u8]) {
+        self.lent.put(octets);
+        self.second = record::load(self.lent.octets());
+    }
+
+    /// Other lengths at times, exact ones mostly.
+    pub fn vary(&mut self, random: &mut Random) {
+        if random.below(OTHER_ROOM) == 0 {
+            let any = random.below(PAST);
+            let (past, spare) = (random.pick(&[0, 0, 0, 0, 1, any]), random.pick(&[0, 0, 1, any]));
+            self.room = Room { area: AREA + past, buffer: BUFFER + spare };
+        }
+    }
+
+    /// At times the call is made with too few octets first.
+    pub fn shorten(&mut self, call: &Call, random: &mut Random) -> Result<(), String> {
+        if random.below(SHORT) != 0 {
+            return Ok(());
+        }
+        let (any, few) = (random.below(AREA), random.below(BUFFER));
+        let area = random.pick(&[0, 1, AREA - 1, any]);
+        let buffer = random.pick(&[0, 1, BUFFER - 1, few]);
+        let room = match random.below(3) {
+            0 => Room { area, ..self.room },
+            1 => Room { buffer, ..self.room },
+            _ => Room { area, buffer },
+        };
+        let judged = room.area >= AREA && !matches!(call, Call::Fresh(_));
+        let due = if judged && self.second.is_none() { RECORD_DAMAGED } else { TOO_SHORT };
+        self.short += 1;
+        let seen = self.lent.call(call, room)?;
+        check(seen.word == due, || format!("{} in {room:?}: word {:#x}", call.name(), seen.word))
+    }
+
+    /// Makes a call on both.
+    pub fn step(&mut self, call: &Call) -> Result<(), String> {
+        let seen = self.lent.call(call, self.room).map_err(|fault| format!("{}: {fault}", call.name()))?;
+        let Some(outcome) = self.expected(call) else {
+            self.damaged += 1;
+            return check(seen.word == RECORD_DAMAGED, || {
+                format!("{} on a damaged record: word {:#x}", call.name(), seen.word)
+            });
+        };
+        self.count(call, &outcome);
+        let due = word::of(&outcome);
+        check(seen.word == due, || format!("{}: word {:#x} for {due:#x}", call.name(), seen.word))?;
+        check(seen.message == outcome.message, || {
+            format!("{}: message {:02X?} for {:02X?}", call.name(), seen.message, outcome.message)
+        })?;
+        self.look(&outcome)
+    }
+
+    /// What the second implementation answers; fresh makes a bench of any octets whose
+    /// profile is inside its limits.
+    fn expected(&mut self, call: &Call) -> Option<Outcome> {
+        if let (Call::Fresh(profile), None) = (call, &self.second) {
+            self.second = Bench::new(*profile);
+            return Some(match self.second {
+                Some(_) => Outcome::default(),
+                None => Outcome { answer: 3, ..Outcome::default() },
+            });
+        }
+        self.second.as_mut().map(|bench| bench.play(call))
+    }
+
+    fn count(&mut self, call: &Call, outcome: &Outcome) {
+        self.tally.calls += 1;
+        if outcome.taken() {
+            self.tally.taken[call.index()] += 1;
+        } else {
+            self.tally.refused[call.index()][usize::from(outcome.answer)] += 1;
+        }
+        self.tally.messages += u64::from(outcome.message.is_some() && !matches!(call, Call::Report(_)));
+        self.tally.drops += u64::from(outcome.drop);
+    }
+
+    /// The packets that the call put, the bench that it left and the five numbers of
+    /// each connection. After a refusal the octets are as they were, and need no look.
+    fn look(&mut self, outcome: &Outcome) -> Result<(), String> {
+        if !outcome.taken() {
+            return Ok(());
+        }
+        for (wire, packets) in [(DOWN, &outcome.down), (UP, &outcome.up)] {
+            for (back, packet) in packets.iter().rev().enumerate() {
+                self.packet(wire, back as u8, Some(packet))?;
+            }
+        }
+        self.compare_benches()?;
+        for conn in CONN_IDS {
+            self.report(conn)?;
+        }
+        self.lent.unchanged()
+    }
+
+    /// One packet of a wire, or none there.
+    fn packet(&mut self, wire: u8, back: u8, due: Option<&Vec<u8>>) -> Result<(), String> {
+        self.looks += 1;
+        let seen = self.lent.packet(wire, back, self.room)?;
+        let outcome = match due {
+            Some(packet) => Outcome { message: Some(packet.clone()), ..Outcome::default() },
+            None => Outcome { answer: 8, ..Outcome::default() },
+        };
+        check(seen.word == word::of(&outcome) && seen.message == outcome.message, || {
+            format!("packet {back} back on wire {wire}: {seen:02X?} for {due:02X?}")
+        })
+    }
+
+    /// Every packet of both wires, the first place past them, and the wire that there
+    /// is not.
+    pub fn wires(&mut self) -> Result<(), String> {
+        let Some(second) = &self.second else {
+            return Ok(());
+        };
+        let wires = [(DOWN, second.down_wire.clone()), (UP, second.up_wire.clone())];
+        for (wire, packets) in wires {
+            for (back, packet) in packets.iter().rev().enumerate() {
+                self.packet(wire, back as u8, Some(packet))?;
+            }
+            self.packet(wire, packets.len() as u8, None)?;
+            self.packet(wire, 255, None)?;
+        }
+        for wire in [2, 255] {
+            let seen = self.lent.packet(wire, 0, self.room)?;
+            check(seen.word == 3, || format!("packet of wire {wire}: word {:#x}", seen.word))?;
+        }
+        self.lent.unchanged()
+    }
+
+    fn report(&mut self, conn: u8) -> Result<(), String> {
+        let Some(second) = &self.second else {
+            return Ok(());
+        };
+        self.looks += 1;
+        let outcome = second.report(conn);
+        let seen = self.lent.look(&Call::Report(conn), self.room)?;
+        check(seen.word == word::of(&outcome) && seen.message == outcome.message, || {
+            format!("report of {conn}: {seen:02X?} for {outcome:02X?}")
+        })
+    }
+
+    /// The octets say the second implementation's bench.
+    fn compare_benches(&mut self) -> Result<(), String> {
+        let said = record::load(self.lent.octets());
+        match (&said, &self.second) {
+            (Some(said), Some(second)) => match record::difference(said, second) {
+                None => Ok(()),
+                Some(part) => Err(format!("{part}: {said:02X?} for {second:02X?}")),
+            },
+            (None, None) => Ok(()),
+            (None, Some(_)) => Err("the call left a damaged record".to_string()),
+            (Some(_), None) => Err("the call mended a damaged record".to_string()),
+        }
+    }
+}
+
+fn check(holds: bool, fault: impl FnOnce() -> String) -> Result<(), String> {
+    if holds {
+        Ok(())
+    } else {
+        Err(fault())
+    }
+}

@@ -1,0 +1,262 @@
+//! Damaged benches: octets of the record and of slots changed, areas of any octets.
+//! Every call is made on each of them, and on those whose record passes for sound a
+//! list goes on.
+
+use exam_bench::call::Call;
+use exam_bench::connection::CONN_IDS;
+use exam_bench::player::Random;
+
+use crate::lists::Lists;
+use crate::record::{AREA, RECORD, RECORD_AT, RECORD_ROOM, SLOT, STORE_SLOTS, WIRE_SLOTS};
+
+/// Calls of a list before its bench is damaged, damaged copies of that bench, most
+/// changes to one copy, and most calls of the list that goes on.
+const LIST_CALLS: usize = 120;
+const COPIES: usize = 30;
+const CHANGES: usize = 3;
+const GOING_ON: usize = 20;
+
+/// Slots of both wires and all stores, which lie at the front of the area.
+const SLOTS: usize = 2 * WIRE_SLOTS + 5 * STORE_SLOTS;
+
+/// Packets near those that are written here.
+const PACKETS: [&[u8]; 24] = [
+    &[0x20, 0x00, 1, 0],
+    &[0x20, 0x01, 2, 0, 0],
+    &[0x20, 0x04, 2, 1, 0],
+    &[0x30, 0x04, 1, 1],
+    &[0x20, 0x05, 1, 2],
+    &[0x21, 0x03, 3, 1, 0, 1],
+    &[0x21, 0x04, 3, 1, 4, 1],
+    &[0x21, 0x06, 1, 0],
+    &[0x40, 0x00, 1, 0],
+    &[0x40, 0x01, 16, 0, 0, 0, 0, 0, 4, 0, 0, 64, 0, 0, 0, 0, 1, 1, 0],
+    &[0x40, 0x04, 4, 0, 4, 2, 2],
+    &[0x40, 0x04, 4, 0, 1, 255, 5],
+    &[0x50, 0x04, 2, 0, 4],
+    &[0x40, 0x05, 1, 0],
+    &[0x40, 0x05, 1, 1],
+    &[0x60, 0x06, 3, 1, 2, 2],
+    &[0x60, 0x06, 7, 3, 0, 1, 3, 8, 5, 1],
+    &[0x70, 0x06, 2, 1, 2],
+    &[0x61, 0x05, 11, 1, 1, 4, 0, 4, 1, 0, 0, 0, 0, 0],
+    &[0x61, 0x06, 2, 0, 0],
+    &[0x00, 0x00, 1, 0xAA],
+    &[0x12, 0x00, 2, 0xAA, 0xBB],
+    &[0x03, 0x00, 0],
+    &[0x80, 0x00, 0],
+];
+
+pub struct Damage {
+    /// Where the benches come from.
+    sound: Lists,
+    /// Where the calls on damaged ones are made.
+    pub after: Lists,
+    random: Random,
+    /// The record of an earlier bench.
+    earlier: Vec<u8>,
+    /// Damaged benches, and those of them whose record passes for sound.
+    pub benches: u64,
+    pub passed: u64,
+}
+
+impl Damage {
+    pub fn new(seed: u64) -> Damage {
+        Damage {
+            sound: Lists::new(seed),
+            after: Lists::new(seed.wrapping_add(1)),
+            random: Random::new(seed ^ 0xDA4A_6E00),
+            earlier: vec![0; RECORD_ROOM],
+            benches: 0,
+            passed: 0,
+        }
+    }
+
+    /// The calls made on damaged benches.
+    pub fn calls(&self) -> u64 {
+        let both = &self.after.both;
+        both.tally.calls + both.damaged + both.short
+    }
+
+    /// A bench that a list leaves, and damaged copies of it.
+    pub fn round(&mut self) -> Result<(), String> {
+        let bench = self.bench()?;
+        for _ in 0..COPIES {
+            let mut octets = bench.clone();
+            for _ in 0..1 + self.random.below(CHANGES) {
+                self.change(&mut octets);
+            }
+            self.try_bench(&octets, true)?;
+            self.go_on(&octets)?;
+        }
+        self.earlier.copy_from_slice(&bench[RECORD_AT..]);
+        Ok(())
+    }
+
+    /// One octet of the record at each of its values, each on a bench of its own list.
+    pub fn octet(&mut self, place: usize) -> Result<(), String> {
+        let bench = self.bench()?;
+        for value in 0..=255 {
+            let mut octets = bench.clone();
+            octets[RECORD_AT + place] = value;
+            self.try_bench(&octets, false)?;
+        }
+        Ok(())
+    }
+
+    fn bench(&mut self) -> Result<Vec<u8>, String> {
+        self.sound.play(LIST_CALLS)?;
+        Ok(self.sound.both.lent.octets()[..AREA].to_vec())
+    }
+
+    fn change(&mut self, octets: &mut [u8]) {
+        let random = &mut self.random;
+        let record = RECORD_AT..RECORD_AT + RECORD;
+        match random.below(12) {
+            0 => octets[RECORD_AT + random.below(RECORD)] = random.octet(),
+            1 => several(random, &mut octets[record], Random::octet),
+            2..=4 => octets[RECORD_AT + random.below(RECORD)] = small(random),
+            5 => several(random, &mut octets[record], small),
+            6 => fill(random, &mut octets[RECORD_AT..]),
+            7..=8 => forge(random, octets),
+            9 => {
+                let place = random.below(SLOTS);
+                fill(random, slot(place, octets));
+            }
+            10 => several(random, octets, Random::octet),
+            _ => match random.below(4) {
+                0 => fill(random, octets),
+                1 => fill(random, &mut octets[..RECORD_AT]),
+                _ => octets[RECORD_AT..].copy_from_slice(&self.earlier),
+            },
+        }
+    }
+
+    /// Every call on this bench, and if it passes for sound each connection's own where
+    /// that is asked.
+    fn try_bench(&mut self, octets: &[u8], each_conn: bool) -> Result<(), String> {
+        self.after.both.put(octets);
+        self.benches += 1;
+        let passed = self.after.both.second.is_some();
+        self.passed += u64::from(passed);
+        for call in calls(&mut self.random, passed && each_conn) {
+            self.after.both.put(octets);
+            self.after.lines.clear();
+            self.after.step(&call)?;
+        }
+        Ok(())
+    }
+
+    fn go_on(&mut self, octets: &[u8]) -> Result<(), String> {
+        self.after.both.put(octets);
+        self.after.lines.clear();
+        for _ in 0..self.random.below(GOING_ON) {
+            self.after.next()?;
+        }
+        Ok(())
+    }
+}
+
+/// Some octets changed.
+fn several(random: &mut Random, octets: &mut [u8], value: fn(&mut Random) -> u8) {
+    for _ in 0..2 + random.below(7) {
+        let place = random.below(octets.len());
+        octets[place] = value(random);
+    }
+}
+
+/// All octets changed.
+fn fill(random: &mut Random, octets: &mut [u8]) {
+    for part in octets.chunks_mut(8) {
+        let number = random.number().to_le_bytes();
+        part.copy_from_slice(&number[..part.len()]);
+    }
+}
+
+/// A number that a count, place or state may well be.
+fn small(random: &mut Random) -> u8 {
+    random.pick(&[0, 1, 1, 2, 3, 4, 5, 6, 7, 8, 15, 16, 32, 255])
+}
+
+fn slot(place: usize, octets: &mut [u8]) -> &mut [u8] {
+    &mut octets[place * SLOT..(place + 1) * SLOT]
+}
+
+/// A packet near those that are written here in some slot, or in all of them.
+fn forge(random: &mut Random, octets: &mut [u8]) {
+    let places = if random.chance(20) { 0..SLOTS } else { 0..1 };
+    let first = random.below(SLOTS);
+    for place in places {
+        let packet = random.pick(&PACKETS);
+        let slot = slot((first + place) % SLOTS, octets);
+        slot[..packet.len()].copy_from_slice(packet);
+        if random.chance(30) {
+            slot[random.below(packet.len())] = random.octet();
+        }
+    }
+}
+
+/// All twelve calls, those of connections for one of them or for each.
+fn calls(random: &mut Random, each_conn: bool) -> Vec<Call> {
+    let any = random.octet();
+    let conns: Vec<u8> =
+        if each_conn { CONN_IDS.into_iter().chain([any]).collect() } else { vec![random.pick(&CONN_IDS)] };
+    let mut calls =
+        vec![Call::Fresh(profile(random)), Call::Power, Call::Down, Call::Up, Call::Credit, Call::Reply];
+    calls.extend([command(random), Call::Air(event(random)), Call::Air(event(random))]);
+    for conn in conns {
+        let octets = random.pick(&[0, 1, 9, 255, 256, 1024, 1025]);
+        calls.push(Call::Send { conn, message: random.octets(octets) });
+        calls.extend([Call::Push(conn), Call::Consume(conn), Call::Report(conn)]);
+    }
+    calls
+}
+
+fn profile(random: &mut Random) -> [u8; 5] {
+    let mut profile = [32, 4, 2, 4, 1];
+    if random.chance(50) {
+        profile[random.below(5)] = random.octet();
+    }
+    profile
+}
+
+fn command(random: &mut Random) -> Call {
+    let known = [(0, 0), (0, 1), (0, 4), (0, 5), (0, 5), (1, 3), (1, 4), (1, 6)];
+    let (gid, oid) = if random.chance(80) {
+        random.pick(&known)
+    } else {
+        (random.below(20) as u8, random.below(70) as u8)
+    };
+    let payload: &[u8] =
+        random.pick(&[&[], &[0], &[1], &[1, 0], &[2], &[1, 0, 1], &[3, 4, 1], &[0; 33], &[7; 255]]);
+    let mut payload = payload.to_vec();
+    if random.chance(20) {
+        let octets = random.below(260);
+        payload = random.octets(octets);
+    }
+    Call::Command { gid, oid, payload }
+}
+
+fn event(random: &mut Random) -> Vec<u8> {
+    let some = random.octets(3);
+    let event: &[u8] = random.pick(&[
+        &[1, 1, 4, 0, 2],
+        &[1, 9, 4, 1, 0],
+        &[1, 254, 4, 6, 2, 7, 7],
+        &[2, 1, 4, 0],
+        &[2, 2, 0, 3, 9],
+        &[3, 1, 4, 0x80],
+        &[3, 5, 5, 0x83],
+        &[4],
+        &[5],
+        &[6],
+        &[7],
+        &[8],
+        &[8, 1, 2, 3],
+    ]);
+    let mut event = event.to_vec();
+    if random.chance(10) {
+        event.extend(some);
+    }
+    event
+}

@@ -1,0 +1,28 @@
+//! The word that a call returns, made of an outcome of the second implementation
+//! and taken apart.
+
+use exam_bench::call::Outcome;
+
+/// The word that says this outcome.
+pub fn of(outcome: &Outcome) -> u64 {
+    let (handed, length) = match &outcome.message {
+        Some(message) => (1, message.len() as u64),
+        None => (0, 0),
+    };
+    u64::from(outcome.answer)
+        | u64::from(outcome.drop) << 8
+        | handed << 9
+        | length << 16
+        | (outcome.down.len() as u64) << 32
+        | (outcome.up.len() as u64) << 40
+}
+
+/// 0 taken, else the refusal.
+pub fn answer(word: u64) -> u8 {
+    word as u8
+}
+
+/// The length of the message handed out, if there is one.
+pub fn handed(word: u64) -> Option<usize> {
+    (word >> 9 & 1 == 1).then_some((word >> 16 & 0xFFFF) as usize)
+}

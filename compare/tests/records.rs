@@ -1,0 +1,81 @@
+//! Benches that no list of calls makes, by hand.
+
+use compare::both::Both;
+use compare::record::{RECORD_AT, SLOT, UP_AT};
+use exam_bench::call::Call;
+
+const PROFILE: [u8; 5] = [0x20, 4, 2, 4, 1];
+/// Where the record says how many packets are on the up wire, and which slot is first.
+const UP_HEAD: usize = RECORD_AT + 158;
+const UP_COUNT: usize = RECORD_AT + 159;
+
+/// Connection 0 open at both ends, wires empty.
+fn active() -> Both {
+    let mut both = Both::default();
+    both.begin(PROFILE).unwrap();
+    let commands: [(u8, u8, &[u8]); 3] = [(0, 0, &[1]), (0, 1, &[0, 0]), (1, 3, &[1, 0, 1])];
+    for (gid, oid, payload) in commands {
+        step(&mut both, Call::Command { gid, oid, payload: payload.to_vec() });
+        step(&mut both, Call::Down);
+        while both.second.as_ref().is_some_and(|bench| !bench.up_wire.is_empty()) {
+            step(&mut both, Call::Up);
+        }
+    }
+    step(&mut both, Call::Air(vec![2, 1, 4, 0]));
+    step(&mut both, Call::Up);
+    both
+}
+
+fn step(both: &mut Both, call: Call) {
+    let taken = both.tally.taken[call.index()];
+    both.step(&call).unwrap();
+    assert_eq!(both.tally.taken[call.index()], taken + 1, "{} is taken", call.name());
+}
+
+/// Puts a packet on the up wire that nobody wrote.
+fn forge_up(both: &mut Both, packet: &[u8]) {
+    let mut octets = both.lent.octets().to_vec();
+    let slot = (octets[UP_HEAD] + octets[UP_COUNT]) % 16;
+    octets[UP_AT + usize::from(slot) * SLOT..][..packet.len()].copy_from_slice(packet);
+    octets[UP_COUNT] += 1;
+    both.put(&octets);
+}
+
+/// Only on a damaged bench: a sound controller answers a CONN_CLOSE without octets by 05.
+#[test]
+#[ignore = "open: the proved host takes a CONN_CLOSE without octets for one of connection 0"]
+fn a_close_that_names_no_connection_closes_none() {
+    let mut both = active();
+    forge_up(&mut both, &[0x40, 0x05, 0x01, 0x00]);
+    step(&mut both, Call::Command { gid: 0, oid: 5, payload: vec![] });
+    step(&mut both, Call::Up);
+}
+
+#[test]
+fn a_close_that_names_0_closes_it() {
+    let mut both = active();
+    forge_up(&mut both, &[0x40, 0x05, 0x01, 0x00]);
+    step(&mut both, Call::Command { gid: 0, oid: 5, payload: vec![0x30] });
+    step(&mut both, Call::Up);
+    assert!(both.second.is_some_and(|bench| bench.host.connection(0).is_none()));
+}
+
+/// A notice that would bring a connection past its grant: no list of calls meets 13.
+#[test]
+fn credits_past_the_grant_are_refused() {
+    let mut both = active();
+    forge_up(&mut both, &[0x60, 0x06, 0x03, 0x01, 0x00, 0x01]);
+    both.step(&Call::Up).unwrap();
+    assert_eq!(both.tally.refusals(13), 1);
+}
+
+/// A packet that states 255 octets of payload fills its slot, whatever stood there.
+#[test]
+fn the_longest_packet_is_read_to_its_last_octet() {
+    let mut both = active();
+    let mut packet = vec![0x07; SLOT];
+    packet[..3].copy_from_slice(&[0x10, 0x00, 0xFF]);
+    forge_up(&mut both, &packet);
+    both.wires().unwrap();
+    step(&mut both, Call::Up);
+}

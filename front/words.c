@@ -1,0 +1,168 @@
+#include "words.h"
+
+#include <stdio.h>
+
+#include "nci_bench.h"
+
+struct packet read_packet(const uint8_t *octets, size_t length) {
+    struct packet p = {MT_DATA, false, 0, 0, octets, 0};
+    if (length < 3)
+        return p;
+    p.mt = octets[0] >> 5;
+    p.more = (octets[0] >> 4 & 1) != 0;
+    p.id = octets[0] & 0x0F;
+    p.oid = octets[1] & 0x3F;
+    p.payload = octets + 3;
+    p.length = octets[2] < length - 3 ? octets[2] : length - 3;
+    return p;
+}
+
+void say_octets(size_t count) {
+    printf("%u octet%s", (unsigned)count, count == 1 ? "" : "s");
+}
+
+void say_terms(unsigned payload, unsigned credits) {
+    printf("payload %u, ", payload);
+    if (credits == NCI_NO_FLOW_CONTROL)
+        printf("no flow control");
+    else
+        printf("credits %u", credits);
+}
+
+/* ---- statuses (003, Table 129) */
+
+static void say_status(unsigned status) {
+    switch (status) {
+    case 0x00: printf("ok"); break;
+    case 0x01: printf("rejected"); break;
+    case 0x05: printf("syntax error"); break;
+    case 0x06: printf("semantic error"); break;
+    case 0xA0: printf("discovery already started"); break;
+    case 0xA1: printf("target activation failed"); break;
+    default: printf("status %02X", status);
+    }
+}
+
+/* ---- payloads: what stands behind the status ok, or in a notification. Nothing is said of
+ * one that is too short. */
+
+static void say_init(const uint8_t *p, size_t n) {
+    if (n > 8)
+        printf(", control payload %u", p[8]);
+}
+
+static void say_created(const uint8_t *p, size_t n) {
+    if (n < 4)
+        return;
+    printf(", connection %u, ", p[3]);
+    say_terms(p[1], p[2]);
+}
+
+static void say_credits(const uint8_t *p, size_t n) {
+    for (size_t i = 1; i + 1 < n; i += 2)
+        printf("%s %u to connection %u", i == 1 ? "" : ",", p[i + 1], p[i]);
+}
+
+static void say_error(const uint8_t *p, size_t n) {
+    if (n < 1)
+        return;
+    printf(" ");
+    say_status(p[0]);
+}
+
+static void say_found(const uint8_t *p, size_t n) {
+    if (n < 5)
+        return;
+    printf(" ID %02X, protocol %02X, mode %02X, ", p[0], p[1], p[2]);
+    printf(p[n - 1] == 2 ? "more follows" : "last");
+}
+
+static void say_activated(const uint8_t *p, size_t n) {
+    if (n < 6)
+        return;
+    printf(" ID %02X, protocol %02X, mode %02X, ", p[0], p[2], p[3]);
+    say_terms(p[4], p[5]);
+}
+
+static void say_deactivated(const uint8_t *p, size_t n) {
+    static const char *const type[] = {"to idle", "to sleep", "to sleep AF", "to discovery"};
+    static const char *const reason[] = {"the host asked", "the endpoint asked", "link lost"};
+    if (n >= 2 && p[0] < 4 && p[1] < 3)
+        printf(" %s, %s", type[p[0]], reason[p[1]]);
+}
+
+/* ---- messages (003, Table 139) that the bench knows */
+
+static const struct message {
+    unsigned gid, oid;
+    const char *name;
+    void (*ok)(const uint8_t *, size_t);     /* says the rest of an OK response */
+    void (*notice)(const uint8_t *, size_t); /* says a notification */
+} messages[] = {
+    {0, 0, "CORE_RESET", NULL, NULL},
+    {0, 1, "CORE_INIT", say_init, NULL},
+    {0, 4, "CORE_CONN_CREATE", say_created, NULL},
+    {0, 5, "CORE_CONN_CLOSE", NULL, NULL},
+    {0, 6, "CORE_CONN_CREDITS", NULL, say_credits},
+    {0, 7, "CORE_GENERIC_ERROR", NULL, say_error},
+    {1, 3, "RF_DISCOVER", NULL, say_found},
+    {1, 4, "RF_DISCOVER_SELECT", NULL, NULL},
+    {1, 5, "RF_INTF_ACTIVATED", NULL, say_activated},
+    {1, 6, "RF_DEACTIVATE", NULL, say_deactivated},
+};
+
+/* The message of a control packet, or NULL. */
+static const struct message *message_of(const struct packet *p) {
+    for (size_t i = 0; i < sizeof messages / sizeof *messages; i++)
+        if (messages[i].gid == p->id && messages[i].oid == p->oid)
+            return &messages[i];
+    return NULL;
+}
+
+bool is_credit_notice(const struct packet *p) {
+    const struct message *m = message_of(p);
+    return p->mt == MT_NTF && m != NULL && m->notice == say_credits;
+}
+
+/* ---- packets */
+
+static void say_name(const struct packet *p, const struct message *m) {
+    static const char *const mt[] = {"data", "CMD", "RSP", "NTF", "RFU", "RFU", "RFU", "RFU"};
+    if (m != NULL)
+        printf("%s_%s", m->name, mt[p->mt]);
+    else
+        printf("GID %X OID %02X %s", p->id, p->oid, mt[p->mt]);
+}
+
+static void say_segment(const struct packet *p) {
+    printf(", ");
+    say_octets(p->length);
+    printf(p->more ? ", more follows" : ", last");
+}
+
+static void say_response(const struct packet *p, const struct message *m) {
+    printf(" ");
+    say_status(p->payload[0]);
+    if (p->payload[0] == 0x00 && m != NULL && m->ok != NULL)
+        m->ok(p->payload, p->length);
+}
+
+static void say_control(const struct packet *p) {
+    const struct message *m = message_of(p);
+    say_name(p, m);
+    if (p->more)
+        say_segment(p);
+    else if (p->mt == MT_RSP && p->length > 0)
+        say_response(p, m);
+    else if (p->mt == MT_NTF && m != NULL && m->notice != NULL)
+        m->notice(p->payload, p->length);
+}
+
+void say_packet(const struct packet *p) {
+    if (p->mt != MT_DATA) {
+        say_control(p);
+    } else {
+        printf("data on connection %u", p->id);
+        say_segment(p);
+    }
+}

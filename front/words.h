@@ -1,0 +1,35 @@
+/* NCI packets in plain words, on standard output. */
+#ifndef WORDS_H
+#define WORDS_H
+
+#include <stdbool.h>
+#include <stddef.h>
+#include <stdint.h>
+
+enum { MT_DATA, MT_CMD, MT_RSP, MT_NTF };
+
+struct packet {
+    unsigned mt;            /* 4 to 7 are RFU */
+    bool more;              /* PBF: more segments follow */
+    unsigned id;            /* GID, or the Conn ID of data */
+    unsigned oid;           /* of a control packet */
+    const uint8_t *payload; /* a part of the octets that were read */
+    size_t length;
+};
+
+/* Reads a packet. Of fewer octets than its header states it has what is there. */
+struct packet read_packet(const uint8_t *octets, size_t length);
+
+bool is_credit_notice(const struct packet *p);
+
+/* Its name and what its payload says, as "CORE_CONN_CREATE_RSP ok, connection 2, payload 4,
+ * credits 2" or "data on connection 2, 4 octets, more follows". */
+void say_packet(const struct packet *p);
+
+/* "1 octet", "2 octets" */
+void say_octets(size_t count);
+
+/* "payload 4, credits 2", or "payload 4, no flow control" */
+void say_terms(unsigned payload, unsigned credits);
+
+#endif

@@ -1,0 +1,254 @@
+/* The NCI exam bench: a host and an NFC controller (NCI 2.0), joined by two wires
+ * of sixteen packets, inside an area of octets that the caller lends.
+ *
+ * The area. A bench is 36,864 octets that the caller owns: a static array, a part
+ * of a file in memory, anything. The last 512 of them hold the bench's record.
+ * nci_fresh makes a bench of any octets. A copy of the octets is a second bench.
+ *
+ * The buffer. Every call takes a message buffer of at least 1,024 octets, also a
+ * call that hands out nothing. One buffer serves all calls.
+ *
+ * Slices. Octets are lent as a pointer and a length.
+ *   The length is true: so many octets can be read there, and written where the
+ *   parameter is not const. Nothing else is asked of a slice, and every length is
+ *   taken: a slice that is too short or too long is refused, not read past.
+ *   NULL goes with length 0.
+ *   The slices of one call do not overlap.
+ *
+ * What a call changes. A call that is refused changes no octet. A call that is
+ * taken changes octets among the first 36,864 of the area, and of the buffer only
+ * the front that the message handed out fills. All other octets keep their values.
+ *
+ * Nothing is kept between calls: no pointer, no allocation, no variable. Calls on
+ * different areas, each with its own buffer, may run at the same time. Calls on
+ * one area are made one after the other, and nobody else writes it meanwhile.
+ *
+ * What a call returns. One number of 64 bits, the word. The functions nci_word_..
+ * below take it apart: the answer, the drop flag, whether a message was handed
+ * out and how long it is, how many packets were put on each wire. The word of a
+ * refused call is the refusal's number and nothing else. The packets themselves
+ * can be read with nci_packet.
+ *
+ * Refusals. At each call stand the refusals that it can give, in the order in which
+ * they are judged: of several that apply, the first is given. Every call but
+ * nci_fresh begins with the same three, which are not repeated below:
+ *   2, if the area has fewer than 36,864 octets; its record is then not judged;
+ *   1, if the record is damaged;
+ *   2, if the buffer has fewer than 1,024 octets.
+ *
+ * Connections are named by their Conn ID: 0, the static RF connection, or 2 to 5,
+ * the loopbacks that CORE_CONN_CREATE opens. */
+#ifndef NCI_BENCH_H
+#define NCI_BENCH_H
+
+#include <stddef.h>
+#include <stdint.h>
+
+#ifdef __cplusplus
+extern "C" {
+#endif
+
+/* ---- sizes, in octets unless another unit is said */
+
+#define NCI_AREA_SIZE 36864u      /* a bench */
+#define NCI_BUFFER_SIZE 1024u     /* least message buffer */
+#define NCI_MESSAGE_MAX 1024u     /* longest data message */
+#define NCI_COMMAND_MAX 255u      /* longest payload of a command */
+#define NCI_PACKET_MAX 258u       /* longest packet: 3 of header, 255 of payload */
+#define NCI_PROFILE_SIZE 5u       /* a profile */
+#define NCI_REPORT_SIZE 5u        /* the message of nci_report */
+#define NCI_PARAMETERS_MAX 32u    /* most parameter octets of an air event */
+#define NCI_WIRE_SLOTS 16u        /* packets that a wire holds */
+#define NCI_STORE_SLOTS 8u        /* packets that the controller stores for a connection */
+#define NCI_GID_MAX 15u           /* greatest group identifier */
+#define NCI_OID_MAX 63u           /* greatest opcode identifier */
+#define NCI_NO_FLOW_CONTROL 255u  /* credits of a connection without flow control */
+
+/* ---- answers: 0, or why a call was not taken. nci_card says each in words. */
+
+#define NCI_TAKEN 0u
+#define NCI_RECORD_DAMAGED 1u
+#define NCI_TOO_SHORT 2u
+#define NCI_OUTSIDE_LIMIT 3u
+#define NCI_TOO_FEW_SLOTS 4u
+#define NCI_UNANSWERED 5u
+#define NCI_NOT_OPEN 6u
+#define NCI_IN_HAND 7u
+#define NCI_NOTHING_TO_MOVE 8u
+#define NCI_NO_CREDIT 9u
+#define NCI_CLOSING 10u
+#define NCI_NOT_IN_THIS_STATE 11u
+#define NCI_STORE_FULL 12u
+#define NCI_PAST_GRANT 13u
+#define NCI_WIRES_NOT_EMPTY 14u
+
+/* ---- the two wires, for nci_packet */
+
+#define NCI_WIRE_DOWN 0u /* to the controller */
+#define NCI_WIRE_UP 1u   /* to the host */
+
+/* ---- kinds of air events: the first octet of nci_air's event */
+
+#define NCI_AIR_FOUND 1u
+#define NCI_AIR_POLL 2u
+#define NCI_AIR_LISTEN 3u
+#define NCI_AIR_FAILED 4u
+#define NCI_AIR_SLEEPS 5u
+#define NCI_AIR_LOST 6u
+#define NCI_AIR_RELEASES 7u
+#define NCI_AIR_MESSAGE 8u
+
+/* ---- the word that a call returns */
+
+/* 0 if the call was taken, else the refusal's number. */
+static inline unsigned nci_word_answer(uint64_t word) { return (unsigned)(word & 0xFFu); }
+
+/* 1 if a packet was dropped, or an entry of a credit notice; else 0. */
+static inline int nci_word_dropped(uint64_t word) { return (int)(word >> 8 & 1u); }
+
+/* 1 if a message was handed out, also an empty one; else 0. It stands at the front
+ * of the buffer. */
+static inline int nci_word_handed_out(uint64_t word) { return (int)(word >> 9 & 1u); }
+
+/* How many octets the message has that was handed out. */
+static inline size_t nci_word_length(uint64_t word) { return (size_t)(word >> 16 & 0xFFFFu); }
+
+/* How many packets the call put on the down wire. */
+static inline unsigned nci_word_put_down(uint64_t word) { return (unsigned)(word >> 32 & 0xFFu); }
+
+/* How many packets the call put on the up wire. */
+static inline unsigned nci_word_put_up(uint64_t word) { return (unsigned)(word >> 40 & 0xFFu); }
+
+/* The card: what an answer says, in words. */
+static inline const char *nci_card(unsigned answer) {
+    switch (answer) {
+    case NCI_TAKEN: return "taken";
+    case NCI_RECORD_DAMAGED: return "the record is damaged: a count, place, state or size in it cannot be";
+    case NCI_TOO_SHORT:
+        return "the area has fewer than 36,864 octets, or the message buffer fewer than 1,024";
+    case NCI_OUTSIDE_LIMIT:
+        return "an argument is outside its limit, or the Conn ID is not 0, 2, 3, 4 or 5";
+    case NCI_TOO_FEW_SLOTS: return "too few free slots on the wire";
+    case NCI_UNANSWERED: return "a command while another one is unanswered";
+    case NCI_NOT_OPEN:
+        return "the connection is not open: at the host for send and push, at the controller for consume and report";
+    case NCI_IN_HAND: return "a message is still in hand";
+    case NCI_NOTHING_TO_MOVE: return "there is nothing to move";
+    case NCI_NO_CREDIT: return "the connection is flow-controlled and no credit is left";
+    case NCI_CLOSING: return "push while a RESET or a CONN_CLOSE is unanswered";
+    case NCI_NOT_IN_THIS_STATE: return "the air event is not taken in this RF state";
+    case NCI_STORE_FULL: return "the controller's store for this connection is full";
+    case NCI_PAST_GRANT: return "credits held or owed would pass the grant";
+    case NCI_WIRES_NOT_EMPTY: return "an activation while a packet is on either wire";
+    default: return "no answer of the bench";
+    }
+}
+
+/* ---- the whole bench */
+
+/* A new bench. The profile is five octets: most control payload, 32 to 255; payload,
+ * 1 to 255, and credits of dynamic connections; payload and credits of the static RF
+ * connection. Credits are 1 to 8, or 255 for no flow control. All 36,864 octets of the
+ * area are written, whatever they held. Puts no packet, hands out nothing.
+ * Refusals in order: 2, if the area has fewer than 36,864 octets or the buffer fewer
+ * than 1,024; 3, if the profile is not five octets inside these limits. */
+uint64_t nci_fresh(uint8_t *area, size_t area_len, uint8_t *out, size_t out_len, const uint8_t *profile,
+                   size_t profile_len);
+
+/* Both ends are cold, both wires empty; the profile stays. Puts no packet, hands out
+ * nothing. No refusal of its own. */
+uint64_t nci_power(uint8_t *area, size_t area_len, uint8_t *out, size_t out_len);
+
+/* ---- the host's keys */
+
+/* The host sends a command: a GID of 0 to 15, an OID of 0 to 63 and a payload of at most
+ * 255 octets. All its segments go on the down wire; the word says how many.
+ * Refusals in order: 3, if GID, OID or payload is outside its limit; 4, if the down wire
+ * has too few free slots for all segments; 5, if a command is unanswered. */
+uint64_t nci_command(uint8_t *area, size_t area_len, uint8_t *out, size_t out_len, uint8_t gid, uint8_t oid,
+                     const uint8_t *payload, size_t payload_len);
+
+/* A message of at most 1,024 octets is put in the host's hand for a connection. Puts no
+ * packet yet: nci_push does.
+ * Refusals in order: 3, if the Conn ID is not 0 or 2 to 5, or the message is too long; 6,
+ * if the connection is not open at the host; 7, if a message is still in hand there. */
+uint64_t nci_send(uint8_t *area, size_t area_len, uint8_t *out, size_t out_len, uint8_t conn,
+                  const uint8_t *message, size_t message_len);
+
+/* The next segment of the message in hand goes on the down wire: one packet, and one
+ * credit if the connection is flow-controlled.
+ * Refusals in order: 3, if the Conn ID is not 0 or 2 to 5; 4, if the down wire is full; 6,
+ * if the connection is not open at the host; 8, if no message is in hand; 9, if no credit
+ * is left; 10, if a RESET or a CONN_CLOSE is unanswered. */
+uint64_t nci_push(uint8_t *area, size_t area_len, uint8_t *out, size_t out_len, uint8_t conn);
+
+/* The host takes the first packet of the up wire. Hands out a data message that it
+ * finishes. The drop flag is up if the packet, or an entry of a credit notice, is dropped.
+ * Refusals in order: 8, if the up wire is empty; 13, if credits held would pass the
+ * grant. */
+uint64_t nci_up(uint8_t *area, size_t area_len, uint8_t *out, size_t out_len);
+
+/* ---- the controller's keys */
+
+/* The controller takes the first packet of the down wire. The last packet of a command is
+ * answered: one or two packets go on the up wire. The drop flag is up if the packet is
+ * dropped.
+ * Refusals in order: 4, if it is the last packet of a command and the up wire has fewer
+ * than two free slots; 8, if the down wire is empty; 12, if it is data and the store of
+ * its connection is full. */
+uint64_t nci_down(uint8_t *area, size_t area_len, uint8_t *out, size_t out_len);
+
+/* The controller takes the oldest stored packet of a connection. Hands out a message that
+ * it finishes. On connections 2 to 5 the packet also goes on the up wire, unchanged.
+ * Refusals in order: 3, if the Conn ID is not 0 or 2 to 5; 4, for 2 to 5, if the up wire is
+ * full; 6, if the connection is not open at the controller; 8, if nothing is stored; 13,
+ * if credits owed would pass the grant. */
+uint64_t nci_consume(uint8_t *area, size_t area_len, uint8_t *out, size_t out_len, uint8_t conn);
+
+/* One CORE_CONN_CREDITS_NTF with all that is owed goes on the up wire.
+ * Refusals in order: 4, if the up wire is full; 8, if nothing is owed. */
+uint64_t nci_credit(uint8_t *area, size_t area_len, uint8_t *out, size_t out_len);
+
+/* The next segment of the endpoint's message goes on the up wire, on connection 0.
+ * Refusals in order: 4, if the up wire is full; 8, if the endpoint has no message in
+ * hand. */
+uint64_t nci_reply(uint8_t *area, size_t area_len, uint8_t *out, size_t out_len);
+
+/* ---- the air */
+
+/* An event of the RF field meets the controller. The event's octets, the kind first:
+ *   1 found: ID 1 to 254, protocol, mode, type 0 to 2, at most 32 parameters;
+ *   2 poll activation: ID, protocol, mode, parameters;
+ *   3 listen activation: the same, with a mode of listening;
+ *   4 target failed, 5 endpoint sleeps, 6 link lost, 7 endpoint releases: nothing more;
+ *   8 endpoint message: at most 1,024 octets.
+ * Modes are 00 to 03 and 06 in kinds 1 and 2, 80 to 83 (hexadecimal) in kind 3. Kinds 1 to
+ * 7 put one notification on the up wire; kind 8 puts the message in the endpoint's hand.
+ * Refusals in order: 3, if the kind is none of these, octets are missing or to spare, or a
+ * field is outside its limit; 4, for kinds 1 to 7, if the up wire is full; 7, for kind 8,
+ * if the endpoint's message is still in hand; 11, if the event is not taken in this RF
+ * state; 14, for kinds 2 and 3, if a packet is on either wire. */
+uint64_t nci_air(uint8_t *area, size_t area_len, uint8_t *out, size_t out_len, const uint8_t *event,
+                 size_t event_len);
+
+/* ---- what looks and changes nothing in the area */
+
+/* Five numbers of a connection, handed out as a message of five octets: credits held by
+ * the host, its packets on the down wire, packets stored, credits owed, credits on the up
+ * wire. Without flow control the first is 255 and the last two are 0.
+ * Refusals in order: 3, if the Conn ID is not 0 or 2 to 5; 6, if the connection is not open
+ * at the controller. */
+uint64_t nci_report(uint8_t *area, size_t area_len, uint8_t *out, size_t out_len, uint8_t conn);
+
+/* A packet that is on a wire, handed out as a message of 3 to 258 octets. The wire is 0,
+ * down, or 1, up; back counts from the end: 0 is the packet put last, 1 the one before it.
+ * After a call that put two packets up, back 1 and then back 0 are these in their order.
+ * Refusals in order: 3, if the wire is over 1; 8, if the wire has no such packet. */
+uint64_t nci_packet(const uint8_t *area, size_t area_len, uint8_t *out, size_t out_len, uint8_t wire,
+                    uint8_t back);
+
+#ifdef __cplusplus
+}
+#endif
+
+#endif

@@ -1,0 +1,135 @@
+/* Damaged benches from C, for the sanitizers and for valgrind: octets of a bench are changed
+ * at random and every export is called on it, with slices of their own in the heap.
+ * `damaged [CALLS] [SEED]`. A refusal changes no octet, a taken call none of the buffer past
+ * its message. Prints the calls made and those taken; returns 1 if something does not hold. */
+#include "nci_bench.h"
+
+#include <stdio.h>
+#include <stdlib.h>
+#include <string.h>
+
+#define PAST 16u /* octets of the area past its end */
+#define MARK 0xC3
+
+static uint64_t state;
+static uint8_t *area, *before, *warm, *out;
+static unsigned long calls, taken;
+
+static uint64_t number(void) { /* splitmix64 */
+    uint64_t mixed = state += 0x9E3779B97F4A7C15u;
+    mixed = (mixed ^ mixed >> 30) * 0xBF58476D1CE4E5B9u;
+    mixed = (mixed ^ mixed >> 27) * 0x94D049BB133111EBu;
+    return mixed ^ mixed >> 31;
+}
+
+static size_t below(size_t limit) { return (size_t)(number() % limit); }
+
+/* Octets of exactly this length in the heap, so that reading past them is seen. */
+static uint8_t *octets(size_t len) {
+    uint8_t *argument = (uint8_t *)malloc(len + (len == 0));
+    if (argument == NULL) abort();
+    for (size_t i = 0; i < len; i++) argument[i] = (uint8_t)number();
+    return argument;
+}
+
+/* One of the thirteen exports. */
+static uint64_t play(unsigned which) {
+    static const uint8_t known[][2] = {{0, 0}, {0, 1}, {0, 4}, {0, 5}, {1, 3}, {1, 4}, {1, 6}};
+    const uint8_t *command = known[below(7)];
+    size_t n = NCI_AREA_SIZE + PAST, m = NCI_BUFFER_SIZE, len = below(4) == 0 ? below(1030) : below(8);
+    uint8_t conn = (uint8_t)below(7), wire = (uint8_t)below(3), back = (uint8_t)below(18), *argument = octets(len);
+    uint64_t word;
+    if (len > 0 && which == 8) argument[0] = (uint8_t)(1 + below(8));
+    switch (which) {
+    case 0: word = nci_power(area, n, out, m); break;
+    case 1: word = nci_command(area, n, out, m, command[0], command[1], argument, len); break;
+    case 2: word = nci_send(area, n, out, m, conn, argument, len); break;
+    case 3: word = nci_push(area, n, out, m, conn); break;
+    case 4: word = nci_down(area, n, out, m); break;
+    case 5: word = nci_consume(area, n, out, m, conn); break;
+    case 6: word = nci_credit(area, n, out, m); break;
+    case 7: word = nci_reply(area, n, out, m); break;
+    case 8: word = nci_air(area, n, out, m, argument, len); break;
+    case 9: word = nci_up(area, n, out, m); break;
+    case 10: word = nci_report(area, n, out, m, conn); break;
+    case 11: word = nci_packet(area, n, out, m, wire, back); break;
+    default: word = nci_fresh(area, n, out, m, argument, len); break;
+    }
+    free(argument);
+    return word;
+}
+
+/* A call and what it may change. */
+static int step(unsigned which) {
+    size_t first = 0;
+    uint64_t word;
+    memcpy(before, area, NCI_AREA_SIZE + PAST);
+    memset(out, MARK, NCI_BUFFER_SIZE);
+    word = play(which);
+    calls++;
+    if (nci_word_answer(word) == NCI_TAKEN) {
+        taken++;
+        first = nci_word_length(word);
+        if (memcmp(before + NCI_AREA_SIZE, area + NCI_AREA_SIZE, PAST) != 0) return 1;
+    } else if (memcmp(before, area, NCI_AREA_SIZE + PAST) != 0) {
+        return 1;
+    }
+    for (size_t i = first; i < NCI_BUFFER_SIZE; i++) {
+        if (out[i] != MARK) return 1;
+    }
+    return 0;
+}
+
+/* An octet of the record or of the slots becomes another one, mostly a small one. */
+static void damage(void) {
+    size_t place = below(2) == 0 ? NCI_AREA_SIZE - 512 + below(160) : below(18576);
+    area[place] = below(3) == 0 ? (uint8_t)number() : (uint8_t)below(9);
+}
+
+/* A bench with two loopbacks, one of them with a message in hand and a packet stored, and
+ * connection 0 active with a message of the endpoint. */
+static void warm_up(void) {
+    static const uint8_t profile[] = {0x20, 4, 8, 4, 8};
+    static const uint8_t commands[][6] = {
+        {0, 0, 1, 1}, {0, 1, 2, 0, 0}, {0, 4, 2, 1, 0}, {0, 4, 2, 1, 0}, {1, 3, 3, 1, 0, 1}};
+    static const uint8_t event[] = {2, 1, 4, 0}, message[] = {8, 1, 2, 3, 4, 5, 6, 7, 8, 9};
+    size_t n = NCI_AREA_SIZE, m = NCI_BUFFER_SIZE;
+    nci_fresh(area, n, out, m, profile, sizeof profile);
+    for (size_t i = 0; i < sizeof commands / sizeof commands[0]; i++) {
+        nci_command(area, n, out, m, commands[i][0], commands[i][1], commands[i] + 3, commands[i][2]);
+        nci_down(area, n, out, m);
+        while (nci_up(area, n, out, m) == NCI_TAKEN) continue;
+    }
+    nci_air(area, n, out, m, event, sizeof event);
+    nci_up(area, n, out, m);
+    nci_air(area, n, out, m, message, sizeof message);
+    nci_send(area, n, out, m, 2, message, sizeof message);
+    nci_push(area, n, out, m, 2);
+    nci_down(area, n, out, m);
+    nci_push(area, n, out, m, 2);
+    nci_reply(area, n, out, m);
+    memcpy(warm, area, NCI_AREA_SIZE + PAST);
+}
+
+int main(int argc, char **argv) {
+    unsigned long most = argc > 1 ? strtoul(argv[1], NULL, 10) : 100000;
+    int fault = 0;
+    state = argc > 2 ? strtoull(argv[2], NULL, 10) : 1;
+    area = octets(NCI_AREA_SIZE + PAST);
+    before = octets(NCI_AREA_SIZE + PAST);
+    warm = octets(NCI_AREA_SIZE + PAST);
+    out = octets(NCI_BUFFER_SIZE);
+    warm_up();
+    while (calls < most && !fault) {
+        memcpy(area, warm, NCI_AREA_SIZE + PAST);
+        for (size_t i = below(4); i > 0; i--) damage();
+        for (unsigned i = 0; i < 60 && !fault; i++) fault = step((unsigned)below(12));
+        fault = fault || step(12);
+    }
+    printf("calls=%lu taken=%lu fault=%d\n", calls, taken, fault);
+    free(area);
+    free(before);
+    free(warm);
+    free(out);
+    return fault || taken == 0;
+}

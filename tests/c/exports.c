@@ -1,0 +1,107 @@
+/* Each export once, as a front end in C makes it: a first paper with a loopback, an
+ * activation and an endpoint's message, its packets and messages to the octet. Prints
+ * nothing and returns 0, or prints the line that does not hold and returns 1. */
+#include "nci_bench.h"
+
+#include <stdio.h>
+#include <string.h>
+
+static uint8_t area[NCI_AREA_SIZE + 1];
+static uint8_t out[NCI_BUFFER_SIZE];
+
+#define HOLDS(condition)                                                  \
+    do {                                                                  \
+        if (!(condition)) {                                               \
+            printf("%s:%d: not so: %s\n", __FILE__, __LINE__, #condition); \
+            return 1;                                                     \
+        }                                                                 \
+    } while (0)
+
+/* area and buffer as every call takes them */
+#define BENCH area, NCI_AREA_SIZE, out, sizeof out
+
+/* The packet put last but `back` on a wire is these octets. */
+static int is_packet(unsigned wire, unsigned back, const uint8_t *octets, size_t len) {
+    uint64_t word = nci_packet(BENCH, (uint8_t)wire, (uint8_t)back);
+    return nci_word_answer(word) == NCI_TAKEN && nci_word_handed_out(word) && nci_word_length(word) == len &&
+           memcmp(out, octets, len) == 0;
+}
+
+/* A taken call that put so many packets down and up, dropped nothing and handed out nothing. */
+static int put(uint64_t word, unsigned down, unsigned up) {
+    return nci_word_answer(word) == NCI_TAKEN && !nci_word_dropped(word) && !nci_word_handed_out(word) &&
+           nci_word_put_down(word) == down && nci_word_put_up(word) == up;
+}
+
+/* A taken call that handed out this message. */
+static int handed(uint64_t word, const uint8_t *octets, size_t len) {
+    return nci_word_answer(word) == NCI_TAKEN && nci_word_handed_out(word) && nci_word_length(word) == len &&
+           memcmp(out, octets, len) == 0;
+}
+
+/* Brings the controller up: RESET and INIT, asked, answered and read. */
+static int bring_up(void) {
+    static const uint8_t profile[] = {0x20, 4, 2, 4, 1}, type[] = {1}, zeros[] = {0, 0};
+    static const uint8_t rsp[] = {0x40, 0, 1, 0}, ntf[] = {0x60, 0, 5, 2, 1, 0x20, 0, 0};
+    HOLDS(nci_fresh(BENCH, profile, sizeof profile) == 0);
+    HOLDS(put(nci_command(BENCH, 0, 0, type, sizeof type), 1, 0));
+    HOLDS(put(nci_down(BENCH), 0, 2));
+    HOLDS(is_packet(NCI_WIRE_UP, 1, rsp, sizeof rsp) && is_packet(NCI_WIRE_UP, 0, ntf, sizeof ntf));
+    HOLDS(put(nci_up(BENCH), 0, 0) && put(nci_up(BENCH), 0, 0));
+    HOLDS(put(nci_command(BENCH, 0, 1, zeros, sizeof zeros), 1, 0));
+    HOLDS(put(nci_down(BENCH), 0, 1) && put(nci_up(BENCH), 0, 0));
+    return 0;
+}
+
+/* A loopback: create, send, push, down, consume, credit and both packets read. */
+static int loop_back(void) {
+    static const uint8_t create[] = {1, 0}, created[] = {0x40, 4, 4, 0, 4, 2, 2};
+    static const uint8_t message[] = {0xAA, 0xBB}, data[] = {2, 0, 2, 0xAA, 0xBB};
+    static const uint8_t numbers[] = {1, 0, 0, 1, 0}, notice[] = {0x60, 6, 3, 1, 2, 1};
+    HOLDS(put(nci_command(BENCH, 0, 4, create, sizeof create), 1, 0) && put(nci_down(BENCH), 0, 1));
+    HOLDS(is_packet(NCI_WIRE_UP, 0, created, sizeof created) && put(nci_up(BENCH), 0, 0));
+    HOLDS(put(nci_send(BENCH, 2, message, sizeof message), 0, 0));
+    HOLDS(put(nci_push(BENCH, 2), 1, 0) && is_packet(NCI_WIRE_DOWN, 0, data, sizeof data));
+    HOLDS(put(nci_down(BENCH), 0, 0));
+    HOLDS(handed(nci_consume(BENCH, 2), message, sizeof message));
+    HOLDS(is_packet(NCI_WIRE_UP, 0, data, sizeof data));
+    HOLDS(handed(nci_report(BENCH, 2), numbers, sizeof numbers));
+    HOLDS(put(nci_credit(BENCH), 0, 1) && is_packet(NCI_WIRE_UP, 0, notice, sizeof notice));
+    HOLDS(handed(nci_up(BENCH), message, sizeof message) && put(nci_up(BENCH), 0, 0));
+    return 0;
+}
+
+/* The air: discovery, a poll activation, the endpoint's empty message. */
+static int speak(void) {
+    static const uint8_t modes[] = {1, 0, 1}, poll[] = {NCI_AIR_POLL, 1, 4, 0}, says[] = {NCI_AIR_MESSAGE};
+    static const uint8_t bare[] = {0, 0, 0};
+    HOLDS(put(nci_command(BENCH, 1, 3, modes, sizeof modes), 1, 0));
+    HOLDS(put(nci_down(BENCH), 0, 1) && put(nci_up(BENCH), 0, 0));
+    HOLDS(put(nci_air(BENCH, poll, sizeof poll), 0, 1) && put(nci_up(BENCH), 0, 0));
+    HOLDS(put(nci_air(BENCH, says, sizeof says), 0, 0));
+    HOLDS(put(nci_reply(BENCH), 0, 1) && is_packet(NCI_WIRE_UP, 0, bare, sizeof bare));
+    HOLDS(handed(nci_up(BENCH), bare, 0));
+    return 0;
+}
+
+/* Slices of no octets, too few octets, and what is refused for other reasons. */
+static int refuse(void) {
+    HOLDS(nci_power(NULL, 0, out, sizeof out) == NCI_TOO_SHORT);
+    HOLDS(nci_power(area, NCI_AREA_SIZE - 1, out, sizeof out) == NCI_TOO_SHORT);
+    HOLDS(nci_power(area, NCI_AREA_SIZE, NULL, 0) == NCI_TOO_SHORT);
+    HOLDS(nci_packet(BENCH, 2, 0) == NCI_OUTSIDE_LIMIT && nci_packet(BENCH, 0, 0) == NCI_NOTHING_TO_MOVE);
+    HOLDS(nci_send(BENCH, 3, NULL, 0) == NCI_NOT_OPEN && nci_send(BENCH, 1, NULL, 0) == NCI_OUTSIDE_LIMIT);
+    HOLDS(put(nci_send(BENCH, 2, NULL, 0), 0, 0) && nci_send(BENCH, 2, NULL, 0) == NCI_IN_HAND);
+    HOLDS(put(nci_power(BENCH), 0, 0) && nci_push(BENCH, 2) == NCI_NOT_OPEN);
+    HOLDS(nci_fresh(BENCH, NULL, 0) == NCI_OUTSIDE_LIMIT && nci_air(BENCH, NULL, 0) == NCI_OUTSIDE_LIMIT);
+    area[NCI_AREA_SIZE - 512] = 0;
+    HOLDS(nci_down(BENCH) == NCI_RECORD_DAMAGED && nci_packet(BENCH, 0, 0) == NCI_RECORD_DAMAGED);
+    HOLDS(strcmp(nci_card(NCI_NOTHING_TO_MOVE), "there is nothing to move") == 0);
+    HOLDS(area[NCI_AREA_SIZE] == 0x5A);
+    return 0;
+}
+
+int main(void) {
+    memset(area, 0x5A, sizeof area);
+    return bring_up() || loop_back() || speak() || refuse();
+}

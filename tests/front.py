@@ -1,0 +1,397 @@
+#!/usr/bin/env python3
+"""The worked front end, front/keys: built, and worked at a terminal and through a pipe, where each answer is to come before
+the next key is typed.
+
+    front.py            builds it and runs all checks; the last line is 'front: N passed, M failed'
+    front.py --built    leaves the building out
+
+A session with its answers is in tests/data/keys.txt; the second implementation's lists, typed as keys, have to give the
+same fields; the card has to be that of docs/CARD.md; any octets have to be answered line by line, also under the
+sanitizers and valgrind, where they are at hand."""
+import os
+import pty
+import random
+import re
+import select
+import shutil
+import subprocess
+import sys
+import tempfile
+import termios
+from pathlib import Path
+
+ROOT = Path(__file__).resolve().parent.parent
+KEYS = ROOT / "build" / "keys"
+SOURCES = [ROOT / "front" / "keys.c", ROOT / "front" / "words.c"]
+STRICT = ["-std=c99", "-Wall", "-Wextra", "-Wpedantic", "-Werror", f"-I{ROOT / 'include'}"]
+LIBRARY = ROOT / "build" / "lib" / "libnci_bench.a"
+# for an answer, or for a program to end
+SECONDS = 10
+SEED = 13
+MOST_CHARACTERS = 4096
+
+HEX = "(?:[0-9A-F]{2})*"
+SAYS = r'says="[ !#-~]+"'
+CALLS = "fresh|power|command|send|push|down|consume|credit|air|reply|up|report"
+LINE = re.compile(
+    f"ev=(?:{CALLS}) ans=(?:[0-9]|1[0-4]) drop=[01] pkt={HEX} msg=(?:-|{HEX}) {SAYS}"
+    f"|ev=bad ans=3 {SAYS}|ev=(?:card|help|quit) ans=0 {SAYS}"
+)
+FIELDS = re.compile(f"ev=([a-z]+) ans=([0-9]+) drop=([01]) pkt=({HEX}) msg=(-|{HEX}) says=\"(.*)\"")
+
+
+class Checks:
+    """Counts what passes and what fails, and says what fails."""
+
+    def __init__(self):
+        self.passed = self.failed = 0
+
+    def check(self, name, good, seen=""):
+        if good:
+            self.passed += 1
+        else:
+            self.failed += 1
+            print(f"{name}: failed {seen}")
+
+    def equal(self, name, got, expected):
+        self.check(name, got == expected, f"\n  {got!r}, expected\n  {expected!r}")
+
+
+# ---- keys at work
+
+
+def plain(terminal):
+    """No echo, and line ends as they are written."""
+    mode = termios.tcgetattr(terminal)
+    mode[1] &= ~termios.OPOST
+    mode[3] &= ~termios.ECHO
+    termios.tcsetattr(terminal, termios.TCSANOW, mode)
+
+
+class Silent(Exception):
+    """A key that was not answered."""
+
+
+class Worked:
+    """The program while it is worked, at a terminal or through pipes. A key without an answer is a failure and ends it."""
+
+    def __init__(self, checks, terminal):
+        self.checks = checks
+        if terminal:
+            self.typing, behind = pty.openpty()
+            plain(behind)
+            self.process = subprocess.Popen([KEYS], stdin=behind, stdout=behind)
+            os.close(behind)
+            self.hearing = self.typing
+        else:
+            self.process = subprocess.Popen([KEYS], stdin=subprocess.PIPE, stdout=subprocess.PIPE, bufsize=0)
+            self.typing, self.hearing = self.process.stdin.fileno(), self.process.stdout.fileno()
+
+    def __enter__(self):
+        return self
+
+    def __exit__(self, _, error, __):
+        self.process.kill()
+        self.process.wait()
+        if isinstance(error, Silent):
+            self.checks.check(f"an answer to {error}", False)
+        return isinstance(error, Silent)
+
+    def press(self, key):
+        """Types a line and gives what is heard then, without the line feed at its end."""
+        heard = b""
+        try:
+            os.write(self.typing, key.encode() + b"\n")
+            while not heard.endswith(b"\n"):
+                more = select.select([self.hearing], [], [], SECONDS)[0] and os.read(self.hearing, 65536)
+                if not more:
+                    raise Silent(repr(key[:80]))
+                heard += more
+        except OSError:
+            raise Silent(repr(key[:80]))
+        return heard.decode().removesuffix("\n")
+
+
+def fed(program, octets):
+    """Its output, its complaints and its exit status for an input that is there at once."""
+    done = subprocess.run(program, input=octets, capture_output=True, timeout=3 * SECONDS)
+    return done.stdout.decode("latin-1"), done.stderr.decode("latin-1"), done.returncode
+
+
+# ---- the session of tests/data/keys.txt
+
+
+def session():
+    """Keys and their answers: a key's line begins with >, its answer follows."""
+    lines = (ROOT / "tests" / "data" / "keys.txt").read_text().splitlines()
+    lines = [line for line in lines if line and not line.startswith("#")]
+    return [(key.removeprefix("> "), answer) for key, answer in zip(lines[::2], lines[1::2])]
+
+
+def check_session(checks, terminal):
+    with Worked(checks, terminal) as worked:
+        for n, (key, answer) in enumerate(session(), 1):
+            checks.equal(f"{'terminal' if terminal else 'pipe'}, key {n}, {key}", worked.press(key), answer)
+        checks.equal("exit status after quit", worked.process.wait(SECONDS), 0)
+
+
+# ---- the lists of the second implementation, typed as keys
+
+# of each kind of air: its key, and octets with the kind: how many at least and at most
+AIR = {
+    1: ("found", 5, 9999), 2: ("poll", 4, 9999), 3: ("listen", 4, 9999), 4: ("failed", 1, 1), 5: ("sleeps", 1, 1),
+    6: ("lost", 1, 1), 7: ("releases", 1, 1), 8: ("says", 1, 9999),
+}
+
+
+def discover_of(p):
+    """Modes alone are typed, so the count has to be right and every frequency 01."""
+    fits = p and len(p) == 1 + 2 * p[0] > 1 and set(p[2::2]) == {1}
+    return "discover " + p[1::2].hex(" ") if fits else None
+
+
+# of each command that has a key: the key for a payload, where there is one
+COMMANDS = {
+    (0, 0): lambda p: f"reset {p.hex()}" if len(p) == 1 else None,
+    (0, 1): lambda p: "init" if p == bytes([0, 0]) else None,
+    (0, 4): lambda p: "create" if p == bytes([1, 0]) else None,
+    (0, 5): lambda p: f"close {p[0]:X}" if len(p) == 1 else None,
+    (1, 3): discover_of,
+    (1, 4): lambda p: f"select {p[0]:x} {p[1]:02X}" if len(p) == 3 and p[2] == 1 else None,
+    (1, 6): lambda p: f"deactivate {p[0]:X}" if len(p) == 1 else None,
+}
+
+
+def key_of(name, arg):
+    """The key for a line of the sheet: by its own name where it has one."""
+    if name == "command":
+        key = COMMANDS.get((arg[0], arg[1]), lambda _: None)(arg[2:])
+        return key or f"command {arg[0]:X} {arg[1]:X} {arg[2:].hex()}"
+    if name == "air" and arg[0] in AIR:
+        key, least, most = AIR[arg[0]]
+        if least <= len(arg) <= most:
+            return f"{key} {arg[1:].hex(' ')}"
+    return f"{name} {arg.hex().upper()}"
+
+
+def lists():
+    """Keys, and the fields that the second implementation gives. A profile that is not five octets is no key."""
+    text = (ROOT / "tests" / "data" / "lists.txt").read_text()
+    lines = re.findall("^ev=.*$", text, re.M)
+    for asked, answered in zip(lines[::2], lines[1::2]):
+        name, arg = re.fullmatch(f"ev=([a-z]+) arg=({HEX})", asked).groups()
+        fits = name != "fresh" or len(arg) == 10
+        yield key_of(name, bytes.fromhex(arg)), answered if fits else "ev=bad ans=3"
+
+
+NAMES = {
+    (0, 0): "CORE_RESET", (0, 1): "CORE_INIT", (0, 4): "CORE_CONN_CREATE", (0, 5): "CORE_CONN_CLOSE",
+    (0, 6): "CORE_CONN_CREDITS", (0, 7): "CORE_GENERIC_ERROR", (1, 3): "RF_DISCOVER", (1, 4): "RF_DISCOVER_SELECT",
+    (1, 5): "RF_INTF_ACTIVATED", (1, 6): "RF_DEACTIVATE",
+}
+
+
+def named(octets):
+    """What is said first of each packet in a field pkt."""
+    while octets:
+        mt, low, oid, length = octets[0] >> 5, octets[0] & 15, octets[1], octets[2]
+        kind = ["data", "CMD", "RSP", "NTF"][mt]
+        if mt == 0:
+            yield f"data on connection {low}, {length} octet"
+        elif (low, oid) in NAMES:
+            yield f"{NAMES[low, oid]}_{kind}"
+        else:
+            yield f"GID {low:X} OID {oid:02X} {kind}"
+        octets = octets[3 + length:]
+
+
+def counted(length):
+    return f"message of {length} octet{'' if length == 1 else 's'}" if length else "empty message"
+
+
+def says_right(line, card):
+    """Whether a line says its refusal, or names each packet that it shows, in their order, and tells what was handed out or
+    dropped. A command's segments are named once."""
+    fields = FIELDS.fullmatch(line)
+    if fields is None:
+        return line.startswith("ev=bad ")
+    event, answer, dropped, packets, message, says = fields.groups()
+    if answer != "0":
+        return says == f"{answer}: {card[int(answer)]}"
+    names = list(named(bytes.fromhex(packets)))
+    if event == "command":
+        return says == names[0] + (f" in {len(names)} packets" if len(names) > 1 else "")
+    parts = says.removeprefix("looped back ").split("; ")
+    handed = [f"{counted(len(message.strip('-')) // 2)} handed out"] if message and event != "report" else []
+    in_order = len(parts) >= len(names) and all(part.startswith(name) for part, name in zip(parts, names))
+    tells_handed = [part for part in parts if part.endswith("handed out")] == handed
+    return in_order and tells_handed and (dropped == "1") == ("dropped" in says)
+
+
+def check_lists(checks, card):
+    keys, answers = zip(*lists())
+    out, complaints, status = fed([KEYS], "\n".join(keys).encode())
+    lines = out.splitlines()
+    checks.equal("lists, number of answers", len(lines), len(keys))
+    checks.equal("lists, exit status", (complaints, status), ("", 0))
+    for key, line, answer in zip(keys, lines, answers):
+        same = LINE.fullmatch(line) and line.split(" says=")[0] == answer
+        short = len(re.sub("(pkt|msg)=[0-9A-F]*", "", line)) <= 200
+        good = same and short and says_right(line, card)
+        checks.check(f"lists, {key}", good, f"\n  {line}, expected\n  {answer}")
+    met = {line.split()[0] for line in lines}
+    checks.equal("lists, every call", met >= {f"ev={call}" for call in CALLS.split("|")}, True)
+
+
+# ---- the card, help, and what is no key
+
+
+def read_card():
+    """The card's numbers and lines, without the full stop."""
+    text = (ROOT / "docs" / "CARD.md").read_text()
+    return {int(n): line for n, line in re.findall(r"^- ([0-9]+): (.*)\.$", text, re.M)}
+
+
+def check_card(checks, card):
+    checks.equal("the card's numbers", list(card), list(range(1, 15)))
+    with Worked(checks, terminal=False) as worked:
+        for number, line in card.items():
+            checks.equal(f"card {number}", worked.press(f"card {number}"), f'ev=card ans=0 says="{number}: {line}"')
+        checks.equal("card 0", worked.press("card 0"), 'ev=card ans=0 says="0: taken"')
+        for key in ["card", "card 15", "card 9 9", "card -1", "card 0x9", "card 009", "card F", "card 99999999999999999999"]:
+            checks.check(key, worked.press(key).startswith('ev=bad ans=3 says="the card has numbers 0 to 14; card 9: '))
+
+
+def check_help(checks):
+    with Worked(checks, terminal=False) as worked:
+        answer = worked.press("help")
+        names = answer.removeprefix('ev=help ans=0 says="').removesuffix('"').split()
+        checks.equal("number of keys", len(names), 30)
+        document = (ROOT / "docs" / "FRONT-ENDS.md").read_text()
+        for name in names:
+            line = worked.press(f"help {name}")
+            checks.check(f"help {name}", LINE.fullmatch(line) and name in line and len(line) <= 200, line)
+            checks.check(f"docs/FRONT-ENDS.md has {name}", re.search(f"^- `{name}[ `]", document, re.M))
+        checks.equal("help for no key", worked.press("help nothing"), answer)
+
+
+NO_KEYS = [
+    "", " ", "res", "resett", "reset 0 0", "reset 123", "reset g", "reset 0x1", "init 0", "close", "close 2 3",
+    "select 1", "select 1 4 1", "deactivate 0 0", "command", "command 0", "command 0 G", "command 0 0 1234567",
+    "send", "send 2 48656C6C6", "send 2 4865-6C", "push", "push 2 2", "push two", "down 1", "up 1", "consume",
+    "credit 2", "found 1 4 0", "poll 1 4", "listen 1 4", "failed 1", "sleeps 1", "lost 1", "releases 1", "says hello",
+    "air", "reply 0", "report", "power 1", "fresh 20", "fresh 200402040100", "quit 1", "ev=down arg=", "push\0 2",
+    "push\u00a02",
+]
+SAME_KEYS = [
+    ("PUSH 2", "push 2"), ("  push\t02\r", "push 2"), ("Fresh 20 04 02 04 01", "fresh"), ("discover 0 80", "discover"),
+    ("reset 1", "reset"), ("command 0 3f 4a4B", "Command 003F 4A 4B"), ("deactivate 00", "deactivate"),
+    ("close 2", "command 0 5 2"), ("create", "command 0 4 01 00"),
+]
+
+
+def check_no_keys(checks):
+    with Worked(checks, terminal=False) as worked:
+        for key in NO_KEYS:
+            line = worked.press(key)
+            checks.check(f"no key: {key!r}", LINE.fullmatch(line) and line.startswith("ev=bad ") and len(line) <= 200, line)
+        for keys in SAME_KEYS:
+            one, other = [(worked.press(key), worked.press("power"))[0] for key in keys]
+            checks.equal(" as ".join(keys), one, other)
+
+
+def check_lengths(checks):
+    """Lines of any length; the last has no line feed."""
+    longest = "send 0 " + "00" * ((MOST_CHARACTERS - 7) // 2)
+    with Worked(checks, terminal=False) as worked:
+        checks.check("the longest line", worked.press(longest.ljust(MOST_CHARACTERS)).startswith("ev=send ans=3 "))
+        for length in (MOST_CHARACTERS + 1, 10000, 1000000):
+            answer = worked.press("quit".ljust(length))
+            checks.equal(f"{length} characters", answer, 'ev=bad ans=3 says="the line is too long"')
+        checks.check("a message of 1,025 octets", worked.press("send 0 " + "00" * 1025).startswith("ev=send ans=3 "))
+        checks.check("a message of 1,024 octets", worked.press("send 0 " + "00" * 1024).startswith("ev=send ans=6 "))
+        checks.check("a payload of 256 octets", worked.press("command 0 0 " + "00" * 256).startswith("ev=command ans=3 "))
+        checks.check("33 parameters", worked.press("found 1 4 0 2 " + "00" * 33).startswith("ev=air ans=3 "))
+    checks.equal("no line feed at the end", fed([KEYS], b"card 8")[0], 'ev=card ans=0 says="8: there is nothing to move"\n')
+    checks.equal("no line", fed([KEYS], b""), ("", "", 0))
+
+
+# ---- any octets
+
+
+def any_octets(count):
+    """Lines of any octets, and keys with octets of theirs changed."""
+    rng = random.Random(SEED)
+    known = [key.encode() for key, _ in session() + list(lists())[:2000] if not key.startswith("quit")]
+    lines = []
+    while len(lines) < count:
+        line = bytearray(rng.choice(known)) if rng.random() < 0.8 else bytearray(rng.randbytes(rng.randrange(60)))
+        for _ in range(rng.choice([0, 0, 1, 3])):
+            at = rng.randrange(len(line) + 1)
+            line[at:at + rng.randrange(2)] = rng.randbytes(rng.randrange(3))
+        if rng.random() < 0.002:
+            line *= 4000
+        line = bytes(line).replace(b"\n", b"")
+        if line.split() != [b"quit"]:
+            lines.append(line)
+    return lines
+
+
+def check_any(checks, name, program, count):
+    out, complaints, status = fed(program, b"\n".join(any_octets(count)))
+    checks.equal(f"{name}, exit status", (complaints, status), ("", 0))
+    lines = out.splitlines()
+    checks.equal(f"{name}, number of answers", len(lines), count)
+    wrong = [line for line in lines if not LINE.fullmatch(line)]
+    checks.equal(f"{name}, lines of another form", wrong[:3], [])
+
+
+def compiled(command):
+    """What a compiler complains of, and its exit status."""
+    done = subprocess.run(command, capture_output=True, text=True)
+    return done.stderr, done.returncode
+
+
+def check_compilers(checks, folder):
+    for compiler in filter(shutil.which, ("gcc", "clang")):
+        for source in SOURCES:
+            complaints, status = compiled([compiler, *STRICT, "-O2", "-c", source, "-o", folder / "object"])
+            checks.equal(f"{compiler} {source.name}", (complaints, status), ("", 0))
+
+
+def check_sanitized(checks, folder):
+    program = folder / "keys"
+    sanitizers = ["-g", "-fsanitize=address,undefined", "-fno-sanitize-recover=all"]
+    for compiler in filter(shutil.which, ("gcc", "clang")):
+        complaints, status = compiled([compiler, *STRICT, *sanitizers, *SOURCES, LIBRARY, "-o", program])
+        if status == 0:
+            check_any(checks, f"{compiler} with sanitizers", [program], 20000)
+        elif "asan" not in complaints:
+            # a compiler without its sanitizers' library is not at hand
+            checks.equal(f"{compiler} with sanitizers", complaints, "")
+    if shutil.which("valgrind"):
+        check_any(checks, "valgrind", ["valgrind", "-q", "--error-exitcode=9", KEYS], 2000)
+
+
+def main():
+    checks = Checks()
+    if sys.argv[1:] != ["--built"]:
+        checks.equal("front/build", subprocess.run([ROOT / "front" / "build"]).returncode, 0)
+    card = read_card()
+    check_session(checks, terminal=True)
+    check_session(checks, terminal=False)
+    check_lists(checks, card)
+    check_card(checks, card)
+    check_help(checks)
+    check_no_keys(checks)
+    check_lengths(checks)
+    check_any(checks, "any octets", [KEYS], 50000)
+    with tempfile.TemporaryDirectory() as folder:
+        check_compilers(checks, Path(folder))
+        check_sanitized(checks, Path(folder))
+    print(f"front: {checks.passed} passed, {checks.failed} failed")
+    return 1 if checks.failed else 0
+
+
+if __name__ == "__main__":
+    sys.exit(main())

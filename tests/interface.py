@@ -1,0 +1,201 @@
+#!/usr/bin/env python3
+"""The C interface: the library as `./library` builds it, its header, front ends in C and C++ that call every export, damaged
+benches under the sanitizers and valgrind, and the proved bench beside the second implementation (compare/).
+
+The last line is 'interface: N passed, M failed'. The library is made of proved crates: where they are not proved, this takes
+as long as proving them."""
+import os
+import re
+import shutil
+import subprocess
+import sys
+import tempfile
+from concurrent.futures import ThreadPoolExecutor
+from pathlib import Path
+
+ROOT = Path(__file__).resolve().parent.parent
+HEADER = ROOT / "include" / "nci_bench.h"
+CARD = ROOT / "docs" / "CARD.md"
+C = ROOT / "tests" / "c"
+COMPARE = ROOT / "compare"
+LIB = ROOT / "build" / "lib"
+
+WARNINGS = ["-Wall", "-Wextra", "-Wpedantic", "-Werror"]
+COMPILERS = {
+    "gcc": ["gcc", "-std=c99"],
+    "clang": ["clang", "-std=c99"],
+    "g++": ["g++", "-std=c++11", "-x", "c++"],
+    "clang++": ["clang++", "-std=c++11", "-x", "c++"],
+}
+# a compiler brings these itself
+C_LIBRARY = {"memcpy", "memmove", "memset", "memcmp", "bcmp"}
+# sections that a program could write to
+WRITABLE = ("data", "bss", "tdata", "tbss")
+
+LIST_CALLS = 2_000_000
+DAMAGED_CALLS = 1_000_000
+SANITIZED_CALLS = 100_000
+VALGRIND_CALLS = 3_000
+
+
+def run(*command, **named):
+    """Runs a command; a failure tells what it printed."""
+    done = subprocess.run(list(map(str, command)), stdout=subprocess.PIPE, stderr=subprocess.STDOUT, text=True, **named)
+    if done.returncode != 0:
+        raise AssertionError(f"{' '.join(map(str, command))}: status {done.returncode}\n{done.stdout[-3000:]}")
+    return done.stdout
+
+
+def same(found, due):
+    assert found == due, f"{found}, expected {due}"
+
+
+def exports():
+    """The functions that the header declares."""
+    return sorted(re.findall(r"^uint64_t (nci_\w+)\(", HEADER.read_text(), re.M))
+
+
+# ---- the library
+
+
+def symbols(file, *words):
+    """The library offers what the header declares, and asks for nothing but the C library."""
+    found = re.findall(r" ([A-Za-z]) ([^\s@]+)", run("nm", *words, LIB / file))
+    same(sorted(name for kind, name in found if kind.isupper() and kind != "U"), exports())
+    unknown = {name for kind, name in found if kind in "Uw"} - C_LIBRARY
+    assert not unknown, f"undefined: {unknown}"
+
+
+def no_data_that_changes(file):
+    """No section that a program could write to has an octet."""
+    sections = re.findall(r"^\.(\w+)\S*\s+(\d+)", run("size", "-A", LIB / file), re.M)
+    assert any(name == "text" and size != "0" for name, size in sections), "no code"
+    same([(name, size) for name, size in sections if name in WRITABLE and size != "0"], [])
+
+
+def other_prefix(folder):
+    said = run(ROOT / "library", folder / "usr")
+    for file in ["include/nci_bench.h", "lib/libnci_bench.a", "lib/libnci_bench.so"]:
+        assert (folder / "usr" / file).is_file() and file in said, f"no {file}"
+
+
+# ---- the header and front ends in C
+
+
+def header_alone(compiler, folder):
+    source = folder / f"alone-{compiler}.c"
+    source.write_text('#include "nci_bench.h"\n')
+    run(*COMPILERS[compiler], *WARNINGS, f"-I{HEADER.parent}", "-c", source, "-o", source.with_suffix(".o"))
+
+
+def card():
+    """The header says the lines of the card."""
+    lines = re.findall(r"^- (\d+): (.*)\.$", CARD.read_text(), re.M)
+    numbers = dict(re.findall(r"^#define (NCI_\w+) (\d+)u$", HEADER.read_text(), re.M))
+    said = re.findall(r'case (NCI_\w+):\s*return "(.*)";', HEADER.read_text())
+    same([(numbers[name], text) for name, text in said[1:]], lines)
+
+
+def build_c(name, compiler, folder, *words):
+    program = folder / f"{name}-{compiler}{len(words)}"
+    run(*COMPILERS[compiler], "-O2", *WARNINGS, f"-I{HEADER.parent}", C / f"{name}.c", "-x", "none", *words, "-o", program)
+    return program
+
+
+def exports_from_c(compiler, folder):
+    run(build_c("exports", compiler, folder, LIB / "libnci_bench.a"))
+
+
+def exports_from_shared_object(folder):
+    run(build_c("exports", "gcc", folder, f"-L{LIB}", "-lnci_bench", f"-Wl,-rpath,{LIB}"))
+
+
+def sanitized(compiler, folder):
+    words = ["-g", "-fsanitize=address,undefined", "-fno-sanitize-recover=all", LIB / "libnci_bench.a"]
+    run(build_c("exports", compiler, folder, *words))
+    print(run(build_c("damaged", compiler, folder, *words), SANITIZED_CALLS), end="")
+
+
+def valgrind(folder):
+    check = ["valgrind", "--quiet", "--error-exitcode=9"]
+    run(*check, build_c("exports", "gcc", folder, LIB / "libnci_bench.a"))
+    print(run(*check, build_c("damaged", "gcc", folder, LIB / "libnci_bench.a"), VALGRIND_CALLS), end="")
+
+
+# ---- beside the second implementation
+
+
+def cargo(*words):
+    return run("cargo", *words, "--release", "--locked", "--quiet", cwd=COMPARE, env=os.environ | {"CARGO_NET_OFFLINE": "true"})
+
+
+def program(name, *words):
+    """Runs a comparison; what it met is printed."""
+    said = run(COMPARE / "target" / "release" / name, *words)
+    print(said, end="")
+    return dict(field.split("=", 1) for field in said.split())
+
+
+def lists():
+    met = program("lists", LIST_CALLS)
+    same((met["difference"], met["never"], met["gaps"]), ("none", "13", "none"))
+    assert int(met["calls"]) >= LIST_CALLS
+
+
+def damaged():
+    met = program("damaged", DAMAGED_CALLS)
+    same((met["difference"], met["never"], met["gaps"]), ("none", "none", "none"))
+    assert int(met["made"]) >= DAMAGED_CALLS
+
+
+def every_octet():
+    met = program("damaged", "octets")
+    same((met["difference"], met["benches"]), ("none", str(512 * 256)))
+
+
+# ---- all of it
+
+
+def tests(folder):
+    """The tests by name, those that take long last."""
+    compilers = [compiler for compiler in COMPILERS if shutil.which(COMPILERS[compiler][0])]
+    yield "symbols of the archive", lambda: symbols("libnci_bench.a")
+    yield "symbols of the shared object", lambda: symbols("libnci_bench.so", "-D")
+    for file in ["libnci_bench.a", "libnci_bench.so"]:
+        yield f"no data that changes in {file}", lambda file=file: no_data_that_changes(file)
+    yield "another prefix", lambda: other_prefix(folder)
+    yield "the card", card
+    for compiler in compilers:
+        yield f"header alone, {compiler}", lambda compiler=compiler: header_alone(compiler, folder)
+        yield f"exports, {compiler}", lambda compiler=compiler: exports_from_c(compiler, folder)
+    yield "exports of the shared object", lambda: exports_from_shared_object(folder)
+    for compiler in [compiler for compiler in ["gcc", "clang"] if compiler in compilers]:
+        yield f"sanitizers, {compiler}", lambda compiler=compiler: sanitized(compiler, folder)
+    if shutil.which("valgrind"):
+        yield "valgrind", lambda: valgrind(folder)
+    yield "tests of compare", lambda: cargo("test", "--all-targets", "--no-fail-fast")
+    yield "every octet of the record", every_octet
+    yield "lists", lists
+    yield "damaged benches", damaged
+
+
+def attempt(name, test):
+    try:
+        test()
+        return True
+    except Exception as fault:  # whatever stops a test, the others go on
+        print(f"{name}: failed: {type(fault).__name__}: {fault}")
+        return False
+
+
+def main():
+    print(run(ROOT / "library"), end="")
+    cargo("build", "--bins")
+    with tempfile.TemporaryDirectory() as folder, ThreadPoolExecutor(os.cpu_count()) as pool:
+        results = list(pool.map(lambda test: attempt(*test), tests(Path(folder))))
+    print(f"interface: {sum(results)} passed, {len(results) - sum(results)} failed")
+    return 0 if all(results) else 1
+
+
+if __name__ == "__main__":
+    sys.exit(main())
