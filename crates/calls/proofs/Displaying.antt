@@ -92,13 +92,15 @@ module _ (a : Octets) (p : Puts) (o : Account) (s : Stands a p o) (k : Key) (v :
     by-start : (b : Bool) → restarts (k .call) (answerIn word) ≡ b
         → Along (pick b noPuts (record { down = p .down + downIn word; up = p .up + upIn word })) after → Shows (pressed k a)
     by-start true e al =
-        let z = begins-empty (k .call) (viewOf a) (and-right (isTaken (answerIn word)) (starts (k .call)) e) in
-        (none-shown after outs 0 downAt (p .down) (downIn word)
-        (count-none downAt after (p .down) (downIn word) (ap (λ (x : Event). x .toDown) (r .event) ∙ z .0)),
-        none-shown after outs 1 upAt (p .up) (upIn word) (count-none upAt after (p .up) (upIn word) (ap (λ (x : Event). x .toUp) (r .event) ∙ z .1)))
-    by-start false e al =
-        (down-shown after outs (r .good) room _ al (p .down) (downIn word) refl (r .there .down),
-        up-shown after outs (r .good) room _ al (p .up) (upIn word) refl (r .there .up))
+        let z = begins-empty (k .call) (viewOf a) (and-right (isTaken (answerIn word)) (starts (k .call)) e) in (
+          none-shown after outs 0 downAt (p .down) (downIn word)
+              (count-none downAt after (p .down) (downIn word) (ap (λ (x : Event). x .toDown) (r .event) ∙ z .0)),
+          none-shown after outs 1 upAt (p .up) (upIn word) (count-none upAt after (p .up) (upIn word) (ap (λ (x : Event). x .toUp) (r .event) ∙ z .1)),
+        )
+    by-start false e al = (
+      down-shown after outs (r .good) room _ al (p .down) (downIn word) refl (r .there .down),
+      up-shown after outs (r .good) room _ al (p .up) (upIn word) refl (r .there .up),
+    )
 
   shown : Shows (pressed k a)
   shown = go (ltb (length (k .out)) messageSize) refl
