@@ -1,13 +1,13 @@
--- `answers::main` is safe and ends: the turns left fall. Both buffers keep their lengths.
+-- `steps::main` is safe and ends: the turns left fall. Both buffers keep their lengths.
 -- Assumes nothing.
 use borrow.Author.Needs.{needs}
 use lib.ListN.{length}
 use mathlib.Core.Path.{_≡_}
-use Rattle.answers.proofs.main.Statement.{statement}
-use Rattle.answers.proofs.main.Tie as tie
+use Rattle.steps.proofs.main.Statement.{statement}
+use Rattle.steps.proofs.main.Tie as tie
 
 abbrev Inv-loop : tie.InvT-loop
-Inv-loop chunk₀ line₀ input₀ turns₀ chunk line input turns = (4096 ≡ length chunk) × (2401 ≡ length line)
+Inv-loop chunk₀ line₀ input₀ turns₀ chunk line input turns = (4096 ≡ length chunk) × (2701 ≡ length line)
 
 abbrev μ-loop : tie.MeasureT-loop
 μ-loop chunk₀ line₀ input₀ turns₀ chunk line input turns = turns

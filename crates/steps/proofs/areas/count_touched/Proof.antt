@@ -1,12 +1,12 @@
--- `records::areas::count_touched` is safe and ends: no more octets were written over than were looked at.
+-- `steps::areas::count_touched` is safe and ends: no more octets were written over than were looked at.
 -- Assumes nothing.
 use borrow.Author.Needs.{needs}
 use lib.ListN.{length}
 use mathlib.Core.Logic.{⊎-elim}
 use native.Mathlib.Omega.{arith}
 use Prim.Native.Nat.{_≤_, _-_}
-use Rattle.records.proofs.areas.count_touched.Statement.{statement}
-use Rattle.records.proofs.areas.count_touched.Tie as tie
+use Rattle.steps.proofs.areas.count_touched.Statement.{statement}
+use Rattle.steps.proofs.areas.count_touched.Tie as tie
 
 abbrev Inv-loop : tie.InvT-loop
 Inv-loop area n₀ i₀ n i = (i ≤ length area) × (n ≤ i)

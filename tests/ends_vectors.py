@@ -1,35 +1,16 @@
-#!/usr/bin/env python3
-"""What the two ends decide, against a second set of rules.
-
-    answers.py            compares crates/answers/stdin and stdout with what is made here, and the answers to the
-                          packets of tests/data/nci-vectors.txt with the packets that it names for them
-    answers.py --stdin    prints the program's input: commands, events of the air, counts of credits, packets to the host
-    answers.py --stdout   prints what the program has to write
-
-The rules are those of ends_rules.py, the lines those of ends_cases.py and the vectors'."""
+"""The standard's own packets (tests/data/nci-vectors.txt) at the two ends: what each is answered with, or what is heard in it."""
 import re
-import sys
 from dataclasses import replace
-from pathlib import Path
 
-from ends_cases import (
-    STATES, awaiting, choices, conn_ids, counts_forms, counts_held, counts_owed, credit_notices, digits, discoveries,
-    event, events, everywhere, forms, lengths, line_out, notices, other_packets, owed, pairs_found, responses,
-    selections, to_controller, to_host, unknown, values,
-)
+from ends_cases import STATES, awaiting, digits, event, owing, to_controller, to_host
 from ends_rules import COLD, DISCOVERY, IDLE, LISTEN_SLEEP, RESET, State, W4_HOST_SELECT, opened
-from stored import run
+from programs import ROOT
 
-ROOT = Path(__file__).resolve().parent.parent
 VECTORS = ROOT / "tests" / "data" / "nci-vectors.txt"
-CRATE = ROOT / "crates" / "answers"
-
-
-# ---- the vectors
 
 
 def load():
-    """The octets of the vectors of sections B to F."""
+    """The octets of the vectors of sections B to F, by their numbers."""
     octets, section = {}, ""
     for line in VECTORS.read_text().splitlines():
         section = line[2] if re.match(r"# [A-Z]\. ", line) else section
@@ -85,7 +66,8 @@ def vector_events():
     yield "07", listening, "086"
 
 
-VECTOR_CREDITS = {"048": "0002000000", "049": "0103000008"}
+# what is owed on the five connections, and the notice of it
+VECTOR_CREDITS = {"048": (0, 2, 0, 0, 0), "049": (1, 3, 0, 0, 8)}
 # what the host hears in a vector. Some are never written here: a RESET that no command asked for, an NFC-V frame size,
 # credits 00, reserved bits of a Conn ID, bit rates, another interface, a reason that the air does not give
 VECTOR_HEARD = {
@@ -102,8 +84,8 @@ VECTOR_HEARD = {
 }
 
 
-def vector_lines(vectors):
-    """The lines of the vectors, each with the fields that its answer must have."""
+def answered(vectors):
+    """The lines of commands and events, and of credit notices, each with the fields that its answer must have."""
     for i, (told, s, response, notification) in enumerate(vector_commands()):
         octets = vectors[told] if told in vectors else bytes.fromhex(told)
         expected = vectors[response]
@@ -114,63 +96,19 @@ def vector_lines(vectors):
         yield to_controller(f"vector{i}-{response}", s, octets[0] & 15, octets[1], octets[3:]), fields
     for i, (m, s, notification) in enumerate(vector_events()):
         yield event(f"event{i}-{notification}", s, bytes.fromhex(m)), {"ans": "0", "ntf": digits(vectors[notification])}
-    for number, amounts in VECTOR_CREDITS.items():
-        yield f"no=owed-{number} owed={amounts}", {"ntf": digits(vectors[number])}
+    for number, owed in VECTOR_CREDITS.items():
+        yield owing(number, [(8, True)] * 5, owed), {"ans": "0", "ntf": digits(vectors[number])}
+
+
+def heard(vectors):
+    """The lines of packets to the host, each with what is heard in it."""
     for word, numbers in VECTOR_HEARD.items():
         for number in numbers:
             up = vectors[number]
-            yield to_host(f"heard-{number}", awaiting(up[0] & 15, up[1]), up), {"heard": word}
+            yield to_host(f"heard-{number}", awaiting(up[0] & 15, up[1]), up), word
 
 
 def unused(vectors):
-    """The vectors that no line above is about: each is a command to the controller or a packet to the host."""
+    """The vectors that no line is about: each is a command to the controller or a packet to the host."""
     heard_ones = (number for numbers in VECTOR_HEARD.values() for number in numbers)
     return sorted(set(vectors) - {told for told, *_ in vector_commands()} - set(heard_ones))
-
-
-# ---- the checks
-
-
-def lines_in(vectors):
-    for made in (everywhere, lengths, unknown, values, conn_ids, discoveries, selections):
-        yield from made()
-    for made in (events, pairs_found, choices, owed, responses, notices, credit_notices, other_packets):
-        yield from made()
-    # counts of credits, also of connections that are closed or without flow control
-    for made in (counts_owed, counts_held):
-        yield from made()
-    yield from (line for line, _ in vector_lines(vectors))
-    for made in (forms, counts_forms):
-        yield from made()
-    yield to_controller("last", State(), 0, 0, b"\x00")
-
-
-def fields_of(line):
-    return dict(field.split("=", 1) for field in line.split(" ") if "=" in field)
-
-
-def check_vectors(vectors, stored):
-    """The fields of the stored answers against the octets of the vectors."""
-    told = {found.get("no"): found for found in map(fields_of, stored.splitlines())}
-    count = wrong = 0
-    for line, expected in vector_lines(vectors):
-        name = fields_of(line)["no"]
-        for field, value in expected.items():
-            count += 1
-            if told.get(name, {}).get(field) != value:
-                wrong += 1
-                print(f"{name}: {field} is {told.get(name, {}).get(field)!r}, the vector has {value}")
-    for number in unused(vectors):
-        count, wrong = count + 1, wrong + 1
-        print(f"vector {number} is in no line")
-    return count, wrong
-
-
-def main():
-    vectors = load()
-    checks = {"fields of the vectors": lambda stored: check_vectors(vectors, stored)}
-    return run("answers", CRATE, list(lines_in(vectors)), line_out, checks)
-
-
-if __name__ == "__main__":
-    sys.exit(main())

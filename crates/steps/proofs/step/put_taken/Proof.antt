@@ -1,9 +1,9 @@
--- `answers::aired::put_taken` is safe and ends: the notification of an event that was read fits its buffer.
+-- `steps::step::put_taken` is safe and ends: the notification of an event that was read fits its buffer.
 -- Assumes nothing.
 use Rattle.air.proofs.Room.{event-room}
 use borrow.Author.Needs.{needs}
-use Rattle.answers.proofs.aired.put_taken.Statement.{statement}
-use Rattle.answers.proofs.aired.put_taken.Tie as tie
+use Rattle.steps.proofs.step.put_taken.Statement.{statement}
+use Rattle.steps.proofs.step.put_taken.Tie as tie
 
 event-of-requires : tie.Need-event-of-requires
 event-of-requires c κs = search needs
@@ -23,14 +23,8 @@ slice-aggregate-put-packet c = search needs
 put-packet-requires : tie.Need-put-packet-requires
 put-packet-requires c κs = search needs
 
-controller-aired-requires : tie.Need-controller-aired-requires
-controller-aired-requires c κs = search needs
-
-conns-aired-requires : tie.Need-conns-aired-requires
-conns-aired-requires c κs = search needs
-
-put-state-requires : tie.Need-put-state-requires
-put-state-requires c κs = search needs
+put-after-requires : tie.Need-put-after-requires
+put-after-requires c κs = search needs
 
 same-length : tie.Need-same-length
 same-length c = search needs
@@ -48,8 +42,6 @@ put-taken-spec =
     put-requires
     slice-aggregate-put-packet
     put-packet-requires
-    controller-aired-requires
-    conns-aired-requires
-    put-state-requires
+    put-after-requires
     same-length
     returns)
