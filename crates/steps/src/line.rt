@@ -58,7 +58,8 @@ fn of_step(out: &mut [u8], at: usize, first: &[u8], last: &[u8]) -> usize {
     if k != END {
         return at;
     }
-    step::put_step(out, at, read::record_of(&a), label, octets::window(&b, 0, n))
+    let r = read::record_of(&a);
+    step::put_step(out, at, r, label, octets::window(&b, 0, n))
 }
 
 // The fields that answer those of a line after its name; the same index for a line of another form.

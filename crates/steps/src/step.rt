@@ -56,9 +56,10 @@ fn put_command(out: &mut [u8], at: usize, r: Record, c: &[u8]) -> usize {
     if c.len() < 2 || 257 < c.len() || 15 < gid || 63 < oid {
         return at;
     }
+    let m = octets::window(c, 2, 255);
     let mut rsp = [0u8; CONTROL_LIMIT];
     let mut ntf = [0u8; CONTROL_LIMIT];
-    let a = command::answer(r.ends, gid, oid, octets::window(c, 2, 255), &mut rsp, &mut ntf);
+    let a = command::answer(r.ends, gid, oid, m, &mut rsp, &mut ntf);
     let mut n = put_packet(out, at, b" rsp=", packets::RESPONSE, a.response, &rsp);
     n = put_packet(out, n, b" ntf=", packets::NOTIFICATION, a.notice, &ntf);
     put_after(out, n, r, a.decision.next)
