@@ -11,8 +11,7 @@ from records import AtController, AtHost, Hand, Record, Ring, Run, digits, octet
 # ---- records: all that a step does not look at has octets of its own, so that one which is touched is seen
 
 AROUND = Record(
-    profile=(32, 4, 2, 4, 1), size=64, asked=(0, 5, 3), hearing=Run(17, 0, 2, 1, 6), asking=Run(40, 0, 1, 0, 4), down=Ring(3, 5),
-    up=Ring(9, 11),
+    size=64, asked=(0, 5, 3), hearing=Run(17, 0, 2, 1, 6), asking=Run(40, 0, 1, 0, 4), down=Ring(3, 5), up=Ring(9, 11)
 )
 SPOKEN = Hand(1, 700, 255)
 AT_HOST = AtHost(1, 1, 8, 8, Hand(1, 600, 300), Run(258))

@@ -1,5 +1,5 @@
-"""A step of one of the two ends on a record: ends_rules.py judges the part of the record that the end looks at, and the record
-after it is told whole. A line's fields, or None for what the program does not take."""
+"""A step of one of the two ends on a record: ends_rules.py judges the part of the record that the end looks at, and the
+record after it is told whole. A step gives a line's fields, or None for what the program does not take."""
 from dataclasses import replace
 
 from ends_rules import (

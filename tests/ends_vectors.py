@@ -1,4 +1,5 @@
-"""The standard's own packets (tests/data/nci-vectors.txt) at the two ends: what each is answered with, or what is heard in it."""
+"""The standard's own packets (tests/data/nci-vectors.txt) at the two ends: what each is answered with, or what is heard in
+it."""
 import re
 from dataclasses import replace
 

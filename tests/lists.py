@@ -158,7 +158,8 @@ def statements(papers):
     made = [statement(paper) for paper in papers]
     words = set(re.split(r"[\s()]+", "\n".join(made)))
     heading = [
-        "-- Papers that meet every call and every refusal, with the second implementation's answers. Made by tests/lists.py.",
+        "-- Papers that meet every call and every refusal, with the second implementation's answers.",
+        "-- Made by tests/lists.py.",
         "-- Assumes nothing.",
         "use mathlib.Core.Path.{_≡_, refl}",
         use("mathlib.Core.Bool", ["true", "false"], words),

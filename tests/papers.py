@@ -10,6 +10,8 @@ import re
 import subprocess
 import sys
 import tempfile
+import time
+from collections import Counter
 from itertools import zip_longest
 from pathlib import Path
 
@@ -37,9 +39,17 @@ def differences(paper, ours, theirs):
             yield f"line {number}, {(line or b'')[:200]!r}: {a!r}, the second implementation says {b!r}"
 
 
-def wrong_in(paper, program, play, lines):
+def timed(program, paper, seconds):
+    """A program's output, and the time that it took, added to that of its other papers."""
+    started = time.monotonic()
+    told = output(program, paper)
+    seconds[program] += time.monotonic() - started
+    return told
+
+
+def wrong_in(paper, program, play, lines, seconds):
     """What is wrong with a paper's answers, and how many of its lines are bad."""
-    (ours, ended), (theirs, _) = output(program, paper), output(play, paper)
+    (ours, ended), (theirs, _) = timed(program, paper, seconds), timed(play, paper, seconds)
     wrong = list(differences(paper, ours, theirs)) if ours != theirs else []
     if ended != 0:
         wrong.append(f"ended with status {ended}")
@@ -55,12 +65,14 @@ def main():
         numbers = [str(n) for n in (given.papers, given.lines, given.seed)]
         made = subprocess.run([second("papers"), directory, *numbers], capture_output=True, text=True)
         print(made.stdout + made.stderr, end="")
-        covered, bad = COVERED.match(made.stdout), 0
+        covered, bad, seconds = COVERED.match(made.stdout), 0, Counter()
         suite.check("the papers", [] if covered else ["a call or a refusal is not met"])
         for path in sorted(Path(directory).iterdir()):
-            wrong, more = wrong_in(path.read_bytes(), program, play, given.lines)
+            wrong, more = wrong_in(path.read_bytes(), program, play, given.lines, seconds)
             suite.check(f"paper {path.name} of seed {given.seed}", wrong)
             bad += more
+    for name, taken in seconds.items():
+        print(f"{name.name}: {given.papers * given.lines / taken:,.0f} lines a second")
     due = int(covered[1]) if covered else None
     suite.check("bad lines", [] if bad == due else [f"{bad} answered as bad, {due} made"])
     return suite.end()

@@ -86,7 +86,8 @@ def spaced(lines, count):
 
 
 def stored(crate, lines, line_out):
-    """The input and the output that stand in a program's crate, made from some lines: `rt check` runs the program on them."""
+    """The input and the output that stand in a program's crate, made from some lines: `rt check` runs the program on
+    them."""
     folder = ROOT / "crates" / crate
     return {folder / "stdin": "\n".join(lines), folder / "stdout": "".join(line_out(line) + "\n" for line in lines)}
 

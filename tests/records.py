@@ -1,4 +1,5 @@
-"""Records of the bench in areas, loaded, judged by row 1 and written back: a second set of rules, and the cases for steps.py.
+"""Records of the bench in areas, loaded, judged by row 1 and written back: a second set of rules, and the cases for
+steps.py.
 
 The rules come from document 01 ("Profile, record and area", row 1 of "Numbers for a call not taken") and, where that is
 open, from docs/DECISIONS.md ("The record and row 1"). They share nothing with the program."""

@@ -59,7 +59,8 @@ def forms_of_both():
 def forms_of_areas():
     rec = digits(octets(records.BASES["full"]))
     yield from ("no=x len=9000", "no=x len=9000 ", "no=x len=9000 rec", "no=x len=9000 rec=", f"no=x rec={rec} len=9000")
-    for length in ("", "0", "900", "09000", "900000", f"{AREA:04X} ", f"{LONGEST_AREA + 1:04X}", "FFFF", "a000", "900G", "0x90"):
+    too_long = f"{LONGEST_AREA + 1:04X}"
+    for length in ("", "0", "900", "09000", "900000", f"{AREA:04X} ", too_long, "FFFF", "a000", "900G", "0x90"):
         yield f"no=x len={length} rec={rec}"
     for hexes in (rec + "00", rec + "0", rec[:-1], rec[:-1] + "G"):
         yield f"no=x len=9000 rec={hexes}"
@@ -97,7 +98,9 @@ def check_vectors(suite, program):
     wrong = [f"vector {number} is in no line" for number in ends_vectors.unused(vectors)]
     for (line, due), answer in zip(asked, answers):
         told = fields_of(answer)
-        wrong += [f"{told.get('no')}: {key} is {told.get(key)}, the vector has {v}" for key, v in due.items() if told.get(key) != v]
+        for key, value in due.items():
+            if told.get(key) != value:
+                wrong.append(f"{told.get('no')}: {key} is {told.get(key)}, the vector has {value}")
     suite.check("packets that the vectors name", wrong, f"{sum(len(due) for _, due in asked)} fields")
     packets = list(ends_vectors.heard(vectors))
     run_group(suite, program, "packets of the vectors at the host", [line for line, _ in packets], line_out)

@@ -1,4 +1,5 @@
--- Papers that meet every call and every refusal, with the second implementation's answers. Made by tests/lists.py.
+-- Papers that meet every call and every refusal, with the second implementation's answers.
+-- Made by tests/lists.py.
 -- Assumes nothing.
 use mathlib.Core.Path.{_≡_, refl}
 use mathlib.Core.Bool.{true, false}

@@ -57,8 +57,8 @@ pub fn put_record(out: &mut [u8], at: usize, len: usize, r: Record) -> usize {
     text::put_number(out, n, b" out=", count_touched(&area))
 }
 
-// The fields that answer a record of up to 160 octets in an area of len octets: the number of its refusal, or 0 and the record
-// as it is written back. The same index for an area that is longer than any here.
+// The fields that answer a record of up to 160 octets in an area of len octets: the number of its refusal, or 0 and the
+// record as it is written back. The same index for an area that is longer than any here.
 pub fn put_loaded(out: &mut [u8], at: usize, len: usize, rec: &[u8]) -> usize {
     if END < rec.len() || 40960 < len {
         return at;

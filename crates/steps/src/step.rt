@@ -89,8 +89,8 @@ fn put_event(out: &mut [u8], at: usize, r: Record, m: &[u8]) -> usize {
     put_taken(out, at, r, m, met.next)
 }
 
-// A whole control packet at the host: the drop flag, and the record. A packet that the reader drops is dropped; data or a part
-// of a message is no whole control packet, and gives the same index.
+// A whole control packet at the host: the drop flag, and the record. A packet that the reader drops is dropped; data or a
+// part of a message is no whole control packet, and gives the same index.
 fn put_heard(out: &mut [u8], at: usize, r: Record, p: &[u8]) -> usize {
     let packets::Reading::Packet(h, len) = packets::read(p) else {
         let n = text::put(out, at, b" drop=1");
