@@ -193,7 +193,7 @@ unfolding lines
 close = refl
 
 -- A reset in the middle of traffic, and the power key.
-power :
+reset-and-power :
     lines
     (fresh (hex 5 0x2004020401) ∷ command 0 0 (hex 1 0x01) ∷ down ∷ up ∷ up ∷ command 0 1 (hex 2 0x0000) ∷ down ∷ up
     ∷ command 0 4 (hex 2 0x0100) ∷ down ∷ up ∷ send 2 (hex 5 0x0102030405) ∷ push 2 ∷ down ∷ command 0 0 (hex 1 0x00)
@@ -212,7 +212,7 @@ power :
     ∷ done ∷ done ∷ puts (hex 5 0x2001020000) ∷ puts (hex 19 0x40011000000000000400002000000000010100) ∷ done
     ∷ refusal 6 ∷ puts (hex 5 0x2004020100) ∷ puts (hex 7 0x40040400040202) ∷ done ∷ hands (hex 5 0x0200000000) ∷ []
 unfolding lines
-power = refl
+reset-and-power = refl
 
 -- Arguments outside their limits, and commands that are unknown, too short or too early.
 limits :
