@@ -1,116 +1,61 @@
-"""The lines of the program answers: how a line is answered by ends_rules.py, and the lines that are asked."""
-import re
+"""The lines of the program steps that ask what an end decides."""
 from dataclasses import replace
 from itertools import combinations, product
 
 from ends_rules import (
-    COLD, COMMANDS, CONNS, Counts, DISCOVERY, Host, LISTEN_ACTIVE, LISTEN_MODES, LISTEN_SLEEP, Limits, NOTIFICATION,
-    NO_FLOW_CONTROL, NotTaken, POLL_ACTIVE, POLL_MODES, READY, RESET, RESPONSE, State, W4_ALL_DISCOVERIES,
-    W4_HOST_SELECT, aired, answer, credits_ntf, heard, held_after, mask, opened, owed_after, owed_on, packet, state_of,
+    COLD, COMMANDS, CONNS, DISCOVERY, Host, LISTEN_ACTIVE, LISTEN_MODES, LISTEN_SLEEP, NOTIFICATION, NO_FLOW_CONTROL,
+    POLL_ACTIVE, POLL_MODES, READY, RESET, RESPONSE, State, W4_ALL_DISCOVERIES, W4_HOST_SELECT, mask, opened, packet,
 )
+from records import AtController, AtHost, Hand, Record, Ring, Run, digits, octets
 
-LONGEST_LINE = 2400
+# ---- records: all that a step does not look at has octets of its own, so that one which is touched is seen
+
+AROUND = Record(
+    size=64, asked=(0, 5, 3), hearing=Run(17, 0, 2, 1, 6), asking=Run(40, 0, 1, 0, 4), down=Ring(3, 5), up=Ring(9, 11)
+)
+SPOKEN = Hand(1, 700, 255)
+AT_HOST = AtHost(1, 1, 8, 8, Hand(1, 600, 300), Run(258))
+AT_CONTROLLER = AtController(1, 6, 2, Ring(6, 3), Run(513))
+
+
+def with_state(s):
+    """A record whose controller is in a state; where connection 0 is open, the endpoint has a message in hand."""
+    return replace(
+        AROUND,
+        profile=tuple(s.profile),
+        phase=s.phase,
+        given=s.given,
+        rf=s.rf,
+        carries=s.carries,
+        pairs=(s.pairs + ((0, 0),) * 8)[:8],
+        found=len(s.pairs),
+        endpoint=SPOKEN if 0 in s.opened else Hand(),
+        host={conn: AT_HOST for conn in CONNS},
+        controller={conn: AT_CONTROLLER if conn in s.opened else AtController() for conn in CONNS},
+    )
+
+
+def with_host(h):
+    """A record with a host."""
+    return replace(
+        AROUND,
+        size=h.size,
+        asked=h.pending,
+        phase=READY,
+        endpoint=SPOKEN,
+        host={conn: AT_HOST if conn in h.opened else AtHost() for conn in CONNS},
+        controller={conn: AT_CONTROLLER for conn in CONNS},
+    )
 
 
 # ---- lines
 
 
-def digits(octets):
-    return bytes(octets).hex().upper()
+def line_in(name, r, kind, m):
+    return f"no={name} rec={digits(octets(r))} {kind}={digits(m)}"
 
 
-def state_fields(s):
-    pairs = [octet for pair in s.pairs for octet in pair]
-    return f"phase={s.phase} given={s.given} open={mask(s.opened):02X} rf={digits(s.rf_octets())} pairs={digits(pairs)}"
-
-
-def command_out(s, command):
-    if not 2 <= len(command) <= 257 or command[0] > 15 or command[1] > 63:
-        return None
-    response, notification, after = answer(s, command[0], command[1], command[2:])
-    return f"rsp={digits(response)} ntf={digits(notification)} {state_fields(after)}"
-
-
-def event_out(s, event):
-    if len(event) > 1100:
-        return None
-    try:
-        after, notification = aired(s, event)
-    except Limits:
-        return "ans=3"
-    except NotTaken:
-        return "ans=11"
-    return f"ans=0 ntf={digits(notification)} {state_fields(after)}"
-
-
-def host_out(octets, up):
-    if len(octets) not in (2, 5) or octets[1] > 31 or len(up) > 300:
-        return None
-    h = Host(octets[0], opened(octets[1]), tuple(octets[2:]))
-    mt, pbf = up[0] >> 5 if up else 7, up[0] >> 4 & 1 if up else 0
-    if len(up) < 3 or len(up) < 3 + up[2] or mt > 3:
-        word, octets, drop, after = "dropped", b"", 1, h
-    elif mt == 0 or pbf:
-        return None
-    else:
-        word, octets, drop, after = heard(h, mt, up[0] & 15, up[1] & 63, up[3 : 3 + up[2]])
-    fields = f"size={after.size:02X} pend={digits(after.pending)} open={mask(after.opened):02X}"
-    return f"heard={word} with={digits(octets)} drop={drop} {fields}"
-
-
-def counts_of(octets):
-    """The counts that octets are: the connections open, and for each of the five its grant and its count; or None."""
-    if len(octets) != 11 or octets[0] > 31:
-        return None
-    return Counts(opened(octets[0]), tuple(octets[1::2]), tuple(octets[2::2]))
-
-
-def owed_out(octets):
-    if len(octets) == 5:
-        return f"ntf={digits(credits_ntf(octets))}"
-    c = counts_of(octets)
-    if not c:
-        return None
-    if not any(owed_on(c)):
-        return "ans=8"
-    return f"ans=0 ntf={digits(credits_ntf(owed_on(c)))} owed={digits(owed_after(c))}"
-
-
-def held_out(octets, up):
-    """A packet that is a whole CORE_CONN_CREDITS_NTF by its header, whatever its contents."""
-    c = counts_of(octets)
-    if not c or not 3 <= len(up) <= 300 or up[0] != NOTIFICATION << 5 or up[1] & 63 != 6 or len(up) < 3 + up[2]:
-        return None
-    word, given, drop, _ = heard(Host(opened=c.opened), NOTIFICATION, 0, 6, up[3 : 3 + up[2]])
-    after = held_after(c, given) if given else c.credits
-    return f"heard={word} with={digits(given)} drop={drop} held={digits(after)}"
-
-
-FORM = re.compile(r"no=([^ ]+) (?:owed=(.*)|(st|host|held)=([^ ]*) (cmd|air|up)=(.*))")
-
-
-def line_out(line):
-    form = FORM.fullmatch(line)
-    hexes = [part or "" for part in form.group(2, 4, 6)] if form else ["?"]
-    if len(line) > LONGEST_LINE or not all(re.fullmatch("(?:[0-9A-F][0-9A-F])*", part) for part in hexes):
-        return "bad"
-    owed, first, last = map(bytes.fromhex, hexes)
-    kind = form[3], form[5]
-    out = None
-    if kind == (None, None):
-        out = owed_out(owed)
-    elif kind == ("host", "up"):
-        out = host_out(first, last)
-    elif kind == ("held", "up"):
-        out = held_out(first, last)
-    elif kind in (("st", "cmd"), ("st", "air")):
-        s = state_of(first)
-        if s:
-            out = command_out(s, last) if form[5] == "cmd" else event_out(s, last)
-    return f"no={form[1]} {out}" if out else "bad"
-
-
-# ---- the input: names and lines
+# ---- the cases
 
 EDGES = [*range(12), 31, 32, 33, 127, 128, 129, 130, 131, 132, 143, 144, 160, 253, 254, 255]
 ALL = range(256)
@@ -151,7 +96,7 @@ WHOLE = {
 
 
 def to_controller(name, s, gid, oid, payload):
-    return f"no={name} st={digits(s.octets())} cmd={digits([gid, oid, *payload])}"
+    return line_in(name, with_state(s), "cmd", [gid, oid, *payload])
 
 
 def command(name, s, kind, payload):
@@ -160,11 +105,11 @@ def command(name, s, kind, payload):
 
 
 def event(name, s, m):
-    return f"no={name} st={digits(s.octets())} air={digits(m)}"
+    return line_in(name, with_state(s), "air", m)
 
 
 def to_host(name, h, up):
-    return f"no={name} host={digits(h.octets())} up={digits(up)}"
+    return line_in(name, with_host(h), "pkt", up)
 
 
 def response(name, h, gid, oid, m):
@@ -314,15 +259,6 @@ def choices():
         yield event(f"{name}-failed", s, [4])
 
 
-def owed():
-    """Credit notices: each set of connections, with the least and the most credits."""
-    for m in range(1, 32):
-        for credits in (1, 8):
-            amounts = [credits if m >> i & 1 else 0 for i in range(5)]
-            yield f"no=owed-{m:02X}-{credits} owed={digits(amounts)}"
-    yield "no=owed-each owed=0102030405"
-
-
 # a message of each kind, as the controller writes it
 RESPONSES = {
     "reset": (0, 0, b"\x00"),
@@ -448,18 +384,17 @@ def credit_notices():
 SIDES = ((8, False), (NO_FLOW_CONTROL, True), (8, True))
 
 
-def counts_octets(sides, credits):
-    """The octets of counts, from a side of each of the five and its count."""
-    open_ones = {conn for conn, (_, is_open) in zip(CONNS, sides) if is_open}
-    return [mask(open_ones), *(octet for (grant, _), n in zip(sides, credits) for octet in (grant, n))]
-
-
 def owing(name, sides, credits):
-    return f"no=owing-{name} owed={digits(counts_octets(sides, credits))}"
+    """A notice of a controller whose five connections have these sides and owe so much. Any octet may stand for a grant or a
+    count, also of a connection that is closed."""
+    five = [AtController(int(on), grant, n, Ring(6, 3), Run(513)) for (grant, on), n in zip(sides, credits)]
+    return line_in(f"owing-{name}", replace(with_host(ALONE), controller=dict(zip(CONNS, five))), "ntf", b"")
 
 
 def holding(name, sides, credits, up):
-    return f"no=holding-{name} held={digits(counts_octets(sides, credits))} up={digits(up)}"
+    """A packet to a host whose five connections have these sides and hold so much."""
+    five = [AtHost(int(on), 1, grant, n, Hand(1, 600, 300), Run(258)) for (grant, on), n in zip(sides, credits)]
+    return line_in(f"holding-{name}", replace(with_host(ALONE), host=dict(zip(CONNS, five))), "pkt", up)
 
 
 def only(place, side):
@@ -468,7 +403,10 @@ def only(place, side):
 
 
 def counts_owed():
-    """What a notice pays, and what it leaves: each side of each connection, then counts and grants at their edges."""
+    """What a notice pays, and what it leaves: each set of connections with the least and the most credits, each side of each
+    connection, then counts and grants at their edges."""
+    for m, credits in product(range(32), (1, 8)):
+        yield owing(f"{m:02X}-{credits}", [SIDES[2]] * 5, [credits if m >> i & 1 else 0 for i in range(5)])
     for numbers in product(range(3), repeat=5):
         name = "".join(map(str, numbers))
         yield owing(name, [SIDES[i] for i in numbers], (1, 2, 3, 4, 8))
@@ -492,20 +430,6 @@ def counts_held():
     yield holding("spare", [SIDES[2]] * 5, (1, 2, 3, 4, 5), b"\x60\xc6\x03\x01\x00\x01\xff")
 
 
-def counts_forms():
-    """Lines about the form of those above, all of them bad."""
-    good, told = bytes(counts_octets([SIDES[2]] * 5, (1, 2, 3, 4, 5))), notice([(0, 1)])
-    for octets in (b"", good[:5], good[:10], good + b"\x00", b"\x20" + good[1:]):
-        yield f"no=x held={digits(octets)} up={digits(told)}"
-    for octets in (good[:10], good + b"\x00", b"\x20" + good[1:], b"\xff" + good[1:]):
-        yield f"no=x owed={digits(octets)}"
-    for first in (0x00, 0x20, 0x40, 0x61, 0x70, 0x80):
-        yield f"no=x held={digits(good)} up={digits([first, *told[1:]])}"
-    for up in (b"", told[:2], told[:-1], packet(NOTIFICATION, 0, 7, b"\xa1"), told + b"\x00" * 295):
-        yield f"no=x held={digits(good)} up={digits(up)}"
-    yield from (f"no=x held={digits(good)} cmd=000000", f"no=x held={digits(good)}", f"no=x owed={digits(good)} up=")
-
-
 def other_packets():
     """Commands, RFU message types, spare bits and packets too short or too long, at the host."""
     h = awaiting(0, 1)
@@ -520,30 +444,21 @@ def other_packets():
     yield to_host("data", ALONE, b"\x00\x00\x01\xaa")
 
 
-def forms():
-    """Lines about the form of a line, most of them bad."""
-    st, host = digits(State().octets()), digits(ALONE.octets())
-    good = f"no=x st={st} cmd=000000"
-    yield from ("", "x", "no=x", f"no=x st={st}", f"no=x st={st} ", good, good + " ", good + "0", " " + good)
-    yield from (f"no= st={st} cmd=000000", f"no=x  st={st} cmd=000000", f"no=x st={st}  cmd=000000")
-    yield from (f"no=x cmd=000000 st={st}", f"no=x st={st} up=000000", f"no=x st={st} cmd=003f")
-    for cmd in ("", "00", "0000", "1000", "0040", "0000" + "00" * 255, "0000" + "00" * 256):
-        yield f"no=x st={st} cmd={cmd}"
-    for n in (1099, 1100):
-        yield f"no=x st={st} air=08{'00' * n}"
-    yield from (f"no=x host={host} cmd=000000", f"no=x host={host} up=", f"no=x host={host} up={'00' * 301}")
-    for octets in ("20", "2020", host + "00", host + "0000", host + "00000000"):
-        yield f"no=x host={octets} up=40000100"
-    for octets in ("", "00010203", "000102030405", "0001020304 ", "00010203G4"):
-        yield f"no=x owed={octets}"
-    yield from (f"no=x st={octets} cmd=000000" for octets in (st[:-2], st + "00", st * 6))
-    for at, v in ((5, 3), (7, 32), (8, 7), (12, 1), (12, 9)):
-        octets = bytearray(State().octets())
-        octets[at] = v
-        yield f"no=state{at}-{v} st={digits(octets)} cmd=000000"
-        yield f"no=state{at}-{v}-air st={digits(octets)} air=08"
-    for rf in range(7):
-        octets = bytearray(State().octets())
-        octets[8:12] = [rf, 0xFF, 0xFE, 0xFD]
-        yield f"no=carries{rf} st={digits(octets)} cmd=003F"
-    yield from (f"no={'x' * (LONGEST_LINE + more - len(good) + 1)}{good[4:]}" for more in (0, 1, 3000))
+CASES = {
+    "commands in every state": everywhere,
+    "commands of every length": lengths,
+    "every GID and OID": unknown,
+    "values of commands": values,
+    "Conn IDs given": conn_ids,
+    "configurations of DISCOVER": discoveries,
+    "selections": selections,
+    "events of the air": events,
+    "pairs found": pairs_found,
+    "activations and failures after a selection": choices,
+    "responses at the host": responses,
+    "notifications at the host": notices,
+    "credit notices at the host": credit_notices,
+    "other packets at the host": other_packets,
+    "credits owed": counts_owed,
+    "credits held": counts_held,
+}

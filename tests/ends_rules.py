@@ -1,4 +1,4 @@
-"""What the two ends decide: a second set of rules, for answers.py.
+"""What the two ends decide: a second set of rules, for steps.py.
 
 They come from document 01 ("What the controller answers", "The air", and up under "Calls"), from the points that are
 settled where it is open, and from the standard (003, cited by line as L). They share nothing with the program."""
@@ -41,15 +41,6 @@ class State:
         """In another RF state. The list of pairs is emptied in IDLE."""
         return replace(self, rf=rf, carries=carries, pairs=() if rf == IDLE else self.pairs)
 
-    def octets(self):
-        pairs = [octet for pair in self.pairs for octet in pair]
-        numbers = [self.phase, self.given, mask(self.opened), *self.rf_octets()]
-        return bytes([*self.profile, *numbers, len(self.pairs), *pairs])
-
-    def rf_octets(self):
-        first = [self.rf, int(bool(self.carries))] if self.rf == W4_HOST_SELECT else [self.rf]
-        return bytes([*first, *self.carries, 0, 0, 0][:4])
-
 
 def mask(conns):
     """A bit for each connection, bit 0 for connection 0, bits 1 to 4 for 2 to 5."""
@@ -58,21 +49,6 @@ def mask(conns):
 
 def opened(bits):
     return frozenset(conn for i, conn in enumerate(CONNS) if bits >> i & 1)
-
-
-def state_of(octets):
-    """The state that octets are, or None."""
-    if len(octets) < 13 or octets[5] > READY or octets[7] > 31 or octets[8] > LISTEN_SLEEP or octets[12] > 8:
-        return None
-    if len(octets) != 13 + 2 * octets[12]:
-        return None
-    rf, carried = octets[8], tuple(octets[9:12])
-    if rf == W4_HOST_SELECT:
-        carried = carried[1:] if carried[0] else ()
-    elif rf not in ACTIVE:
-        carried = ()
-    pairs = tuple(zip(octets[13::2], octets[14::2]))
-    return State(octets[:5], octets[5], octets[6], opened(octets[7]), rf, carried, pairs)
 
 
 # ---- what the controller answers
@@ -330,9 +306,6 @@ class Host:
     opened: frozenset = frozenset()
     # GID and OID of the unanswered command, and the connection that it names
     pending: tuple = ()
-
-    def octets(self):
-        return bytes([self.size, mask(self.opened), *self.pending])
 
 
 # the contents that the controller writes, each field in its limits

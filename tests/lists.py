@@ -1,25 +1,24 @@
 #!/usr/bin/env python3
-"""The lists of tests/data/lists.txt as statements about the model.
+"""The papers of tests/data/lists.txt, answered by the second implementation and stated about the model.
 
-    lists.py            compares the files of crates/opinions/proofs with what is made here
-    lists.py --write    writes them
+    lists.py            plays the papers with the second implementation, compares its answers with those of the file, and
+                        the statements of crates/opinions/proofs/Lists.antt with what is made here
+    lists.py --write    writes the answers and the statements
 
-The second implementation makes the lists and answers them (tests/second.sh). Here each list becomes the statement that
-the model gives the same answers; `rt check opinions` proves it by computing."""
+Each paper becomes the statement that the model gives the same answers; `rt check opinions` proves it by computing. Together
+they meet every call and every refusal."""
 import re
 import sys
+import textwrap
 from collections import Counter
-from itertools import zip_longest
-from pathlib import Path
 
-ROOT = Path(__file__).resolve().parent.parent
+from programs import ROOT, Suite, output, second
+
 LISTS = ROOT / "tests" / "data" / "lists.txt"
-PROOFS = ROOT / "crates" / "opinions" / "proofs"
-LISTS_A_FILE = 25
-# written by hand, beside what is made here
-PAPER = "Paper"
+STATEMENTS = ROOT / "crates" / "opinions" / "proofs" / "Lists.antt"
+WIDTH = 120
 
-# of each call: its single octets, whether octets of any number follow them, and the refusals that lists have to meet.
+# of each call: its single octets, whether octets of any number follow them, and the refusals that papers have to meet.
 # 1 and 2 are about areas, which the model does not have; 13 is met by no list from fresh.
 CALLS = {
     "fresh": (0, True, [3]),
@@ -39,10 +38,11 @@ CALLS = {
 SHOWN = ["hex", "line", "refusal", "done", "puts", "hands", "start", "lines"]
 
 
-# ---- the sheet
+# ---- the papers
 
 
 HEX = "(?:[0-9A-F]{2})*"
+HEADING = re.compile("# ([a-z-]+): (.+)")
 ASKED = re.compile(f"ev=([a-z]+) arg=({HEX})")
 ANSWERED = re.compile(f"ev=([a-z]+) ans=([0-9]+) drop=([01]) pkt=({HEX}) msg=(-|{HEX})")
 
@@ -64,17 +64,35 @@ class Call:
         self.message = bytes.fromhex(answer[5].strip("-")) if answer[5] else None
 
 
+class Paper:
+    """A name, what the paper shows, its lines and their answers, and the answers that stand in the file."""
+
+    def __init__(self, text, play):
+        heading, *lines = text.split("\n")
+        form = HEADING.fullmatch(heading)
+        if not form:
+            raise SystemExit(f"not the heading of a paper: {heading}")
+        self.name, self.shows = form[1], form[2]
+        self.asked = [line for line in lines if ASKED.fullmatch(line)]
+        self.stored = [line for line in lines if not ASKED.fullmatch(line)]
+        self.answered = output(play, "\n".join(self.asked).encode())[0].decode().splitlines()
+        self.calls = [Call(*pair) for pair in zip(self.asked, self.answered, strict=True)]
+
+    def text(self):
+        lines = [line for pair in zip(self.asked, self.answered) for line in pair]
+        return "\n".join([f"# {self.name}: {self.shows}", *lines])
+
+
 def load():
-    lists = []
-    for text in LISTS.read_text().strip().split("\n\n"):
-        lines = text.split("\n")
-        lists.append([Call(*pair) for pair in zip_longest(lines[::2], lines[1::2], fillvalue="")])
-    return lists
+    play = second("play")
+    return [Paper(text, play) for text in LISTS.read_text().strip().split("\n\n")]
 
 
-def coverage(lists):
-    """How often each call got each answer."""
-    return Counter((call.name, call.answer) for calls in lists for call in calls)
+def missing(papers):
+    """Calls never taken, and refusals that a call never met."""
+    met = Counter((call.name, call.answer) for paper in papers for call in paper.calls)
+    due = [(name, answer) for name, (_, _, refusals) in CALLS.items() for answer in [0, *refusals]]
+    return [f"no paper has {name} with answer {answer}" for name, answer in due if not met[name, answer]]
 
 
 # ---- statements
@@ -104,95 +122,79 @@ def line_term(call):
     return f"line {call.answer} {str(call.drop).lower()} {octets(call.packets)} {message}"
 
 
-def list_term(terms):
-    return " ∷ ".join([*terms, "[]"])
+def list_lines(first, terms, last):
+    """A list in lines of some width, each after the first begun by `∷`."""
+    lines = [first]
+    for i, term in enumerate([*terms, "[]" + last]):
+        link = " ∷ " if i else ""
+        if len(lines[-1] + link + term) <= WIDTH:
+            lines[-1] += link + term
+        else:
+            lines.append(f"    ∷ {term}")
+    return lines
 
 
-def statement(number, calls):
-    asked, answered = list_term(map(call_term, calls)), list_term(map(line_term, calls))
-    return f"list-{number} : lines ({asked}) start\n    ≡ {answered}\nunfolding lines\nlist-{number} = refl"
-
-
-# ---- files
+def statement(paper):
+    return "\n".join(
+        [
+            *textwrap.wrap(paper.shows, WIDTH, initial_indent="-- ", subsequent_indent="-- "),
+            f"{paper.name} :",
+            "    lines",
+            *list_lines("    (", map(call_term, paper.calls), ")"),
+            "    start",
+            *list_lines("    ≡ ", map(line_term, paper.calls), ""),
+            "unfolding lines",
+            f"{paper.name} = refl",
+        ]
+    )
 
 
 def use(module, names, words):
-    """A `use` line of the names that occur, where one does."""
-    used = [name for name in names if name in words]
-    return [f"use {module}.{{{', '.join(used)}}}"] if used else []
+    """A `use` line of the names that occur."""
+    return f"use {module}.{{{', '.join(name for name in names if name in words)}}}"
 
 
-def lists_file(first, lists):
-    statements = [statement(number, calls) for number, calls in enumerate(lists, first)]
-    words = set(re.split(r"[\s()]+", "\n".join(statements)))
-    last = first + len(lists) - 1
+def statements(papers):
+    made = [statement(paper) for paper in papers]
+    words = set(re.split(r"[\s()]+", "\n".join(made)))
     heading = [
-        f"-- Lists {first} to {last}, with the second implementation's answers. Made by tests/lists.py.",
+        "-- Papers that meet every call and every refusal, with the second implementation's answers.",
+        "-- Made by tests/lists.py.",
         "-- Assumes nothing.",
         "use mathlib.Core.Path.{_≡_, refl}",
-        *use("mathlib.Core.Bool", ["true", "false"], words),
+        use("mathlib.Core.Bool", ["true", "false"], words),
         "use mathlib.Core.List.{[], _∷_}",
-        *use("Rattle.model.specs.Effects", CALLS, words),
-        *use("Rattle.opinions.specs.Shown", SHOWN, words),
+        use("Rattle.model.specs.Effects", CALLS, words),
+        use("Rattle.opinions.specs.Shown", SHOWN, words),
     ]
-    return "\n\n".join(["\n".join(heading), *statements]) + "\n"
+    return "\n\n".join(["\n".join(heading), *made]) + "\n"
 
 
-def lib_file(lists, names):
-    """Says what the lists cover, and names the files."""
-    met = coverage(lists)
-    lines = [f"-- {len(lists)} lists, {sum(met.values())} calls; how often each call is taken and refused:"]
-    for name in CALLS:
-        refused = [f"{number} ({count})" for (call, number), count in sorted(met.items()) if call == name and number]
-        lines.append(f"-- {name}: {met[name, 0]} taken" + "; refusals " * bool(refused) + ", ".join(refused))
-    lines.append("-- Made by tests/lists.py.")
-    return "\n".join([*lines, *(f"pub mod {name}" for name in [PAPER, *names])]) + "\n"
-
-
-def make(lists):
-    """The text of each file by its name."""
-    files = {}
-    for first in range(0, len(lists), LISTS_A_FILE):
-        files[f"Lists{len(files) + 1}"] = lists_file(first + 1, lists[first : first + LISTS_A_FILE])
-    return {"Lib": lib_file(lists, files), **files}
-
-
-# ---- the check
-
-
-def compare(name, stored, made):
-    """How many statements of a file are those made here, and how many parts of it, its heading among them, are not."""
-    parts = list(zip_longest(stored.split("\n\n"), made.split("\n\n")))
-    for place, (a, b) in enumerate(parts):
-        if a != b:
-            print(f"{name}: the {f'statement at place {place}' if place else 'heading'} is not the one made here")
-    return sum(a == b for a, b in parts[1:]), sum(a != b for a, b in parts)
-
-
-def missing(lists):
-    """Calls never taken, and refusals that a call never met."""
-    met = coverage(lists)
-    due = [(name, answer) for name, (_, _, refusals) in CALLS.items() for answer in [0, *refusals]]
-    return [f"{name} with answer {answer}" for name, answer in due if not met[name, answer]]
+# ---- the suite
 
 
 def main():
-    lists = load()
-    made = make(lists)
-    stored = {path.stem: path.read_text() for path in PROOFS.glob("*.antt") if path.stem != PAPER}
+    papers = load()
+    made = statements(papers)
     if sys.argv[1:] == ["--write"]:
-        for name in stored.keys() - made.keys():
-            (PROOFS / f"{name}.antt").unlink()
-        for name, text in made.items():
-            (PROOFS / f"{name}.antt").write_text(text)
+        LISTS.write_text("\n\n".join(paper.text() for paper in papers) + "\n")
+        STATEMENTS.write_text(made)
         return 0
-    results = [compare(name, stored.get(name, ""), made.get(name, "")) for name in sorted(stored.keys() | made.keys())]
-    passed, failed = map(sum, zip(*results))
-    for gap in missing(lists):
-        print(f"no list has {gap}")
-        failed += 1
-    print(f"lists: {passed} passed, {failed} failed")
-    return 1 if failed else 0
+    suite = Suite("lists")
+    for paper in papers:
+        wrong = [f"{a}\n    {c}, the second implementation says {b}" for a, b, c in paper_differences(paper)]
+        suite.check(paper.name, wrong, f"{len(paper.calls)} calls")
+    suite.check("all of them", missing(papers), f"{sum(len(paper.calls) for paper in papers)} calls")
+    same = STATEMENTS.exists() and STATEMENTS.read_text() == made
+    suite.check(str(STATEMENTS.relative_to(ROOT)), [] if same else ["is not what is made here; --write writes it"])
+    return suite.end()
+
+
+def paper_differences(paper):
+    """The lines whose answer in the file is another."""
+    if len(paper.stored) != len(paper.asked):
+        return [("the file", f"{len(paper.asked)} answers", f"{len(paper.stored)} answers")]
+    return [three for three in zip(paper.asked, paper.answered, paper.stored) if three[1] != three[2]]
 
 
 if __name__ == "__main__":

@@ -1,22 +1,11 @@
-#!/usr/bin/env python3
-"""Records of the bench in areas: loaded, judged by row 1 and written back, against a second set of rules.
-
-    records.py            compares crates/records/stdin and stdout with what is made here
-    records.py --stdin    prints the program's input: a record and the length of its area a line
-    records.py --stdout   prints what the program has to write
+"""Records of the bench in areas, loaded, judged by row 1 and written back: a second set of rules, and the cases for
+steps.py.
 
 The rules come from document 01 ("Profile, record and area", row 1 of "Numbers for a call not taken") and, where that is
 open, from docs/DECISIONS.md ("The record and row 1"). They share nothing with the program."""
 import random
-import re
-import sys
 from dataclasses import dataclass, field, replace
 from itertools import product
-from pathlib import Path
-
-from stored import run
-
-CRATE = Path(__file__).resolve().parent.parent / "crates" / "records"
 
 CONNS = (0, 2, 3, 4, 5)
 COLD, RESET, READY = range(3)
@@ -27,7 +16,7 @@ NO_FLOW_CONTROL = 255
 AREA = 36864
 RECORD = AREA - 512
 # what the program fills its area with before it lays the record there, and the most octets that it has
-FILL, LONGEST_AREA, LONGEST_LINE = 0xA5, 40960, 600
+FILL, LONGEST_AREA = 0xA5, 40960
 
 
 # ---- a record
@@ -341,27 +330,29 @@ def row_one(o):
     return any(applies(n) for applies in ROW_ONE)
 
 
-# ---- a line and its answer
-
-FORM = re.compile("no=([^ ]+) len=([0-9A-F]{4}) rec=((?:[0-9A-F]{2}){0,%d})" % SIZE)
+# ---- the answer to a record in an area
 
 
 def digits(o):
     return bytes(o).hex().upper()
 
 
-def line_out(line):
-    form = FORM.fullmatch(line)
-    if not form or len(line) > LONGEST_LINE or int(form[2], 16) > LONGEST_AREA:
-        return "no=bad"
-    given = bytes.fromhex(form[3])
-    if int(form[2], 16) < AREA:
+def loaded(given, length):
+    """The fields that answer the first octets of a record in an area of so many octets, or None."""
+    if length > LONGEST_AREA:
+        return None
+    if length < AREA:
         # row 2: "an area too short has no record to be judged"
-        return f"no={form[1]} ans=2 rec="
+        return "ans=2"
     o = given + bytes([FILL]) * (SIZE - len(given))
     if row_one(o):
-        return f"no={form[1]} ans=1 rec="
-    return f"no={form[1]} ans=0 rec={digits(octets(record_of(o)))} out=0"
+        return "ans=1"
+    return f"ans=0 {written(record_of(o))}"
+
+
+def written(r):
+    """The fields of a record that is written into an area: its octets, and no other octet is touched."""
+    return f"rec={digits(octets(r))} out=0"
 
 
 def line_in(name, o, length=AREA):
@@ -642,49 +633,19 @@ def chance():
         yield line_in(f"any-{i}", bytes(below(256) for _ in range(SIZE)))
 
 
-def forms():
-    """Lines of another form, and the longest of the right one."""
-    rec = digits(octets(BASES["full"]))
-    yield from ("", " ", "bad", "no", "no=", "no=x", "no=x ", "no=x len=9000", "no=x len=9000 ", "no=x len=9000 rec")
-    yield from ("no=x len=9000 rec=", f"no=x rec={rec} len=9000", f"no=x rec={rec}", f"len=9000 rec={rec}")
-    for name in ("no= ", " no=x ", "no=x  ", "NO=x ", "xno=x ", "no=x=y ", "no=x\t", "x "):
-        yield f"{name}len=9000 rec={rec}"
-    for length in ("", "0", "900", "09000", "9000 ", "A001", "FFFF", "a000", "900G", "0x90", "-001"):
-        yield f"no=x len={length} rec={rec}"
-    for hexes in (rec + "00", rec + "0", rec[:-1], rec + " ", rec.lower(), rec[:-1] + "G"):
-        yield f"no=x len=9000 rec={hexes}"
-    for middle in (" Len=9000 rec=", " len=9000 Rec=", " len=9000  rec=", " len=9000\trec=", "len=9000 rec="):
-        yield f"no=x{middle}{rec}"
-    yield from (f"no=x len=9000 rec={rec}{more}" for more in (" out=0", "\t", ","))
-    room = LONGEST_LINE - len(line_in("", octets(Record())))
-    yield from (line_in("x" * (room + more), octets(Record())) for more in (0, 1, 2, 2000))
-    yield from (line_in("x" * (LONGEST_LINE - len(line_in("", b"")) + more), b"", 0) for more in (0, 1))
-
-
-def lines_in():
+def good_lines():
     yield from (line_in(f"good-{name}", octets(r)) for name, r in good())
-    for made in (every_octet, together, lengths, chance, forms):
-        yield from made()
-    yield line_in("last", octets(Record()))
 
 
-# ---- the checks
+def misread():
+    """The good records against what is known of them beforehand: row 1 does not apply, and they are read as themselves."""
+    return [name for name, r in good() if row_one(octets(r)) or record_of(octets(r)) != r]
 
 
-def check_good():
-    """The good records against what is known of them beforehand: row 1 does not apply, and they come back unchanged."""
-    count = wrong = 0
-    for name, r in good():
-        count += 1
-        if row_one(octets(r)) or record_of(octets(r)) != r:
-            wrong += 1
-            print(f"{name}: a good record is refused, or read as another")
-    return count, wrong
-
-
-def main():
-    return run("records", CRATE, list(lines_in()), line_out, {"good records": lambda stored: check_good()})
-
-
-if __name__ == "__main__":
-    sys.exit(main())
+CASES = {
+    "good records": good_lines,
+    "every octet at its limits": every_octet,
+    "octets that are judged together": together,
+    "lengths of the area": lengths,
+    "records by chance": chance,
+}

@@ -1,23 +1,21 @@
 #!/usr/bin/env python3
 """The packets of tests/data/nci-vectors.txt against the packet layer.
 
-    vectors.py            compares crates/vectors/stdin and stdout with what is made here, and the fields of each packet
-                          with what the packet's explanation says of it
-    vectors.py --stdin    prints the program's input: each packet, and the damaged packets derived from it
-    vectors.py --stdout   prints what the program has to write
+    vectors.py            runs the program `vectors` on each packet, on the damaged packets derived from it and on lines of
+                          every form, and compares the fields of each packet with what its explanation says of it
+    vectors.py --write    writes crates/vectors/stdin and stdout, some of these lines
 
 The reading and writing here come from the standard (003, 3.4) and from document 01, "Packets", and share nothing with
 the program."""
 import re
 import sys
-from pathlib import Path
 
-from stored import run
+from programs import ROOT, Suite, built, check_stored, run_group, spaced, stored, write_stored
 
-ROOT = Path(__file__).resolve().parent.parent
 VECTORS = ROOT / "tests" / "data" / "nci-vectors.txt"
-CRATE = ROOT / "crates" / "vectors"
 LONGEST_LINE = 600
+# of each group, so many lines are stored
+STORED = 34
 
 
 # ---- the vectors
@@ -78,17 +76,16 @@ def damaged(name, octets):
         yield f"{name}-rfu{mt}", bytes([mt << 5 | octets[0] & 0b11111]) + octets[1:]
 
 
-def lines_in(vectors):
+def packets(vectors):
+    """The vectors' packets, and those at the limits of a header."""
     payload = bytes(range(255))
-    packets = [(v.number, v.octets) for v in vectors]
-    packets += [("spare-data", b"\x02\xff\x00"), ("spare-control", b"\x2f\xff\x00")]
-    packets += [("full-data", b"\x1f\x00\xff" + payload), ("full-control", b"\x7f\x3f\xff" + payload)]
-    lines = [line_in(*p) for packet in packets for p in (packet, *damaged(*packet))]
-    return lines + ["no=none pkt=", "no=one pkt=02", *lines_of_form(), "no=last pkt=020000"]
+    yield from ((v.number, v.octets) for v in vectors)
+    yield from (("spare-data", b"\x02\xff\x00"), ("spare-control", b"\x2f\xff\x00"), ("none", b""), ("one", b"\x02"))
+    yield from (("full-data", b"\x1f\x00\xff" + payload), ("full-control", b"\x7f\x3f\xff" + payload))
 
 
 def lines_of_form():
-    """Lines about the form of a line, most of them bad. The character before and after each run of digits is tried."""
+    """Lines about the form of a line, most of them bad. The characters beside the digits are tried."""
     good = "no=x pkt=020000"
     yield from ["", "x", "no=x", "no=x pkt", good, " " + good, good + " ", good + "0", "no= pkt=020000"]
     yield from ["no=x  pkt=020000", "No=x pkt=020000", "no=x Pkt=020000", "no=x arg=020000", "pkt=020000 no=x"]
@@ -287,40 +284,46 @@ def fields(lines):
 # ---- the checks
 
 
-def check_facts(vectors, told):
-    count = wrong = 0
-    before = {}
+def wrong_facts(vectors, told):
+    """How many facts the explanations have, and those that a packet's fields do not bear out."""
+    count, wrong, before = 0, [], {}
     for v in vectors:
         found = told.get(v.number, {})
         for field, values in facts(v, before):
             count += 1
             if found.get(field) not in values:
-                wrong += 1
-                print(f"{v.number}: {field} is {found.get(field)!r}, the explanation says {values}: {v.meaning}")
+                wrong.append(f"{v.number}: {field} is {found.get(field)!r}, the explanation says {values}: {v.meaning}")
         before = dict(found, meaning=v.meaning)
     return count, wrong
 
 
-def check_damage(vectors, told):
+def wrong_damage(vectors, whole, told):
     """A packet too short or of an RFU message type is a drop; an octet too many changes nothing."""
-    count = wrong = 0
     for v in vectors:
         for name, _ in damaged(v.number, v.octets):
-            expected = told.get(v.number) if name.endswith("-long") else {"read": "drop"}
-            count += 1
+            expected = whole.get(v.number) if name.endswith("-long") else {"read": "drop"}
             if told.get(name) != expected:
-                wrong += 1
-                print(f"{name}: {told.get(name)}, expected {expected}")
-    return count, wrong
+                yield f"{name}: {told.get(name)}, expected {expected}"
 
 
 def main():
     vectors = load()
-    checks = {
-        "facts of the explanations": lambda stored: check_facts(vectors, fields(stored.splitlines())),
-        "damaged packets": lambda stored: check_damage(vectors, fields(stored.splitlines())),
+    all_packets = list(packets(vectors))
+    groups = {
+        "packets": [line_in(*packet) for packet in all_packets],
+        "damaged packets": [line_in(*p) for packet in all_packets if packet[1] for p in damaged(*packet)],
+        "forms of a line": list(lines_of_form()),
     }
-    return run("vectors", CRATE, lines_in(vectors), line_out, checks)
+    files = stored("vectors", [line for lines in groups.values() for line in spaced(lines, STORED)], line_out)
+    if sys.argv[1:] == ["--write"]:
+        return write_stored(files)
+    suite, program = Suite("vectors"), built("vectors")
+    told = {name: fields(run_group(suite, program, name, lines, line_out)) for name, lines in groups.items()}
+    count, wrong = wrong_facts(vectors, told["packets"])
+    suite.check("explanations of the vectors", wrong, f"{count} facts")
+    suite.check("damage", list(wrong_damage(vectors, told["packets"], told["damaged packets"])))
+    check_stored(suite, files)
+    return suite.end()
 
 
 if __name__ == "__main__":

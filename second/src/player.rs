@@ -129,6 +129,11 @@ impl Player {
         self.random_call(bench)
     }
 
+    /// A report of a connection that is open, if there is one.
+    pub fn report(&mut self, bench: &Bench) -> Call {
+        Call::Report(self.open_conn(bench))
+    }
+
     fn next_planned(&mut self, bench: &Bench) -> Option<Call> {
         while let Some(step) = self.plan.pop_front() {
             let call = match &step {

@@ -82,8 +82,8 @@ returns-3 c =
     ∙ (λ i. reported (same i) (s .args .conn) a out)
     ∙ called-taken _ _ a out (sym z ∙ e .answer) refl none
 
-pub report-spec : {M : Type 1} → statement M
-report-spec =
+pub nci-report-spec : {M : Type 1} → statement M
+nci-report-spec =
     tie.close
     (tie.spec
     enter-requires

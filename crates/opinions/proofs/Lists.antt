@@ -1,0 +1,237 @@
+-- Papers that meet every call and every refusal, with the second implementation's answers.
+-- Made by tests/lists.py.
+-- Assumes nothing.
+use mathlib.Core.Path.{_≡_, refl}
+use mathlib.Core.Bool.{true, false}
+use mathlib.Core.List.{[], _∷_}
+use Rattle.model.specs.Effects.{fresh, power, command, send, push, down, consume, credit, air, reply, up, report}
+use Rattle.opinions.specs.Shown.{hex, line, refusal, done, puts, hands, start, lines}
+
+-- Payload 4 and two credits: a message of three packets waits for a notice; after it the five numbers of report still
+-- come to the grant.
+last-credit :
+    lines
+    (fresh (hex 5 0x2004020401) ∷ command 0 0 (hex 1 0x01) ∷ down ∷ up ∷ up ∷ command 0 1 (hex 2 0x0000) ∷ down ∷ up
+    ∷ command 0 4 (hex 2 0x0100) ∷ down ∷ up ∷ report 2 ∷ credit ∷ push 2 ∷ send 2 (hex 9 0x010203040506070809)
+    ∷ send 2 (hex 1 0xAA) ∷ push 2 ∷ push 2 ∷ push 2 ∷ report 2 ∷ consume 2 ∷ down ∷ report 2 ∷ consume 2 ∷ report 2
+    ∷ credit ∷ report 2 ∷ down ∷ up ∷ report 2 ∷ up ∷ report 2 ∷ push 2 ∷ push 2 ∷ down ∷ consume 2 ∷ consume 2
+    ∷ report 2 ∷ up ∷ up ∷ credit ∷ report 2 ∷ up ∷ report 2 ∷ up ∷ credit ∷ [])
+    start
+    ≡ done ∷ puts (hex 4 0x20000101) ∷ puts (hex 12 0x400001006000050201200000) ∷ done ∷ done
+    ∷ puts (hex 5 0x2001020000) ∷ puts (hex 19 0x40011000000000000400002000000000010100) ∷ done
+    ∷ puts (hex 5 0x2004020100) ∷ puts (hex 7 0x40040400040202) ∷ done ∷ hands (hex 5 0x0200000000) ∷ refusal 8
+    ∷ refusal 8 ∷ done ∷ refusal 7 ∷ puts (hex 7 0x12000401020304) ∷ puts (hex 7 0x12000405060708) ∷ refusal 9
+    ∷ hands (hex 5 0x0002000000) ∷ refusal 8 ∷ done ∷ hands (hex 5 0x0001010000) ∷ puts (hex 7 0x12000401020304)
+    ∷ hands (hex 5 0x0001000100) ∷ puts (hex 6 0x600603010201) ∷ hands (hex 5 0x0001000001) ∷ done ∷ done
+    ∷ hands (hex 5 0x0000010001) ∷ done ∷ hands (hex 5 0x0100010000) ∷ puts (hex 4 0x02000109) ∷ refusal 8 ∷ done
+    ∷ puts (hex 7 0x12000405060708) ∷ line 0 false (hex 4 0x02000109) ((hex 9 0x010203040506070809) ∷ [])
+    ∷ hands (hex 5 0x0000000200) ∷ done ∷ hands (hex 9 0x010203040506070809) ∷ puts (hex 6 0x600603010202)
+    ∷ hands (hex 5 0x0000000002) ∷ done ∷ hands (hex 5 0x0200000000) ∷ refusal 8 ∷ refusal 8 ∷ []
+unfolding lines
+last-credit = refl
+
+-- An empty message and one of exactly two packets, there and back.
+empty-message :
+    lines
+    (fresh (hex 5 0x2004020401) ∷ command 0 0 (hex 1 0x01) ∷ down ∷ up ∷ up ∷ command 0 1 (hex 2 0x0000) ∷ down ∷ up
+    ∷ command 0 4 (hex 2 0x0100) ∷ down ∷ up ∷ send 2 [] ∷ push 2 ∷ down ∷ consume 2 ∷ up
+    ∷ send 2 (hex 8 0x0102030405060708) ∷ push 2 ∷ credit ∷ up ∷ push 2 ∷ push 2 ∷ down ∷ down ∷ consume 2 ∷ consume 2
+    ∷ up ∷ up ∷ report 2 ∷ [])
+    start
+    ≡ done ∷ puts (hex 4 0x20000101) ∷ puts (hex 12 0x400001006000050201200000) ∷ done ∷ done
+    ∷ puts (hex 5 0x2001020000) ∷ puts (hex 19 0x40011000000000000400002000000000010100) ∷ done
+    ∷ puts (hex 5 0x2004020100) ∷ puts (hex 7 0x40040400040202) ∷ done ∷ done ∷ puts (hex 3 0x020000) ∷ done
+    ∷ line 0 false (hex 3 0x020000) ([] ∷ []) ∷ hands [] ∷ done ∷ puts (hex 7 0x12000401020304)
+    ∷ puts (hex 6 0x600603010201) ∷ done ∷ puts (hex 7 0x02000405060708) ∷ refusal 8 ∷ done ∷ done
+    ∷ puts (hex 7 0x12000401020304) ∷ line 0 false (hex 7 0x02000405060708) ((hex 8 0x0102030405060708) ∷ []) ∷ done
+    ∷ hands (hex 8 0x0102030405060708) ∷ hands (hex 5 0x0000000200) ∷ []
+unfolding lines
+empty-message = refl
+
+-- Without flow control nothing but the store's eight places holds the host back.
+full-store :
+    lines
+    (fresh (hex 5 0x2001FF01FF) ∷ command 0 0 (hex 1 0x01) ∷ down ∷ up ∷ up ∷ command 0 1 (hex 2 0x0000) ∷ down ∷ up
+    ∷ command 0 4 (hex 2 0x0100) ∷ down ∷ up ∷ report 2 ∷ send 2 (hex 10 0x01020304050607080910) ∷ push 2 ∷ down
+    ∷ push 2 ∷ down ∷ push 2 ∷ down ∷ push 2 ∷ down ∷ push 2 ∷ down ∷ push 2 ∷ down ∷ push 2 ∷ down ∷ push 2 ∷ down
+    ∷ push 2 ∷ down ∷ report 2 ∷ consume 2 ∷ down ∷ up ∷ push 2 ∷ down ∷ consume 2 ∷ credit ∷ report 2 ∷ [])
+    start
+    ≡ done ∷ puts (hex 4 0x20000101) ∷ puts (hex 12 0x400001006000050201200000) ∷ done ∷ done
+    ∷ puts (hex 5 0x2001020000) ∷ puts (hex 19 0x40011000000000000400002000000000010100) ∷ done
+    ∷ puts (hex 5 0x2004020100) ∷ puts (hex 7 0x4004040001FF02) ∷ done ∷ hands (hex 5 0xFF00000000) ∷ done
+    ∷ puts (hex 4 0x12000101) ∷ done ∷ puts (hex 4 0x12000102) ∷ done ∷ puts (hex 4 0x12000103) ∷ done
+    ∷ puts (hex 4 0x12000104) ∷ done ∷ puts (hex 4 0x12000105) ∷ done ∷ puts (hex 4 0x12000106) ∷ done
+    ∷ puts (hex 4 0x12000107) ∷ done ∷ puts (hex 4 0x12000108) ∷ done ∷ puts (hex 4 0x12000109) ∷ refusal 12
+    ∷ hands (hex 5 0xFF01080000) ∷ puts (hex 4 0x12000101) ∷ done ∷ done ∷ puts (hex 4 0x02000110) ∷ refusal 12
+    ∷ puts (hex 4 0x12000102) ∷ refusal 8 ∷ hands (hex 5 0xFF01070000) ∷ []
+unfolding lines
+full-store = refl
+
+-- Sixteen packets on the way down: neither a seventeenth nor a command has a slot.
+full-down-wire :
+    lines
+    (fresh (hex 5 0x2001FF01FF) ∷ command 0 0 (hex 1 0x01) ∷ down ∷ up ∷ up ∷ command 0 1 (hex 2 0x0000) ∷ down ∷ up
+    ∷ command 0 4 (hex 2 0x0100) ∷ down ∷ up ∷ send 2 (hex 17 0x0102030405060708090A0B0C0D0E0F1011) ∷ push 2 ∷ push 2
+    ∷ push 2 ∷ push 2 ∷ push 2 ∷ push 2 ∷ push 2 ∷ push 2 ∷ push 2 ∷ push 2 ∷ push 2 ∷ push 2 ∷ push 2 ∷ push 2 ∷ push 2
+    ∷ push 2 ∷ push 2 ∷ command 0 5 (hex 1 0xFF) ∷ report 2 ∷ down ∷ push 2 ∷ command 0 5 (hex 1 0xFF) ∷ down
+    ∷ command 0 5 (hex 1 0xFF) ∷ push 2 ∷ [])
+    start
+    ≡ done ∷ puts (hex 4 0x20000101) ∷ puts (hex 12 0x400001006000050201200000) ∷ done ∷ done
+    ∷ puts (hex 5 0x2001020000) ∷ puts (hex 19 0x40011000000000000400002000000000010100) ∷ done
+    ∷ puts (hex 5 0x2004020100) ∷ puts (hex 7 0x4004040001FF02) ∷ done ∷ done ∷ puts (hex 4 0x12000101)
+    ∷ puts (hex 4 0x12000102) ∷ puts (hex 4 0x12000103) ∷ puts (hex 4 0x12000104) ∷ puts (hex 4 0x12000105)
+    ∷ puts (hex 4 0x12000106) ∷ puts (hex 4 0x12000107) ∷ puts (hex 4 0x12000108) ∷ puts (hex 4 0x12000109)
+    ∷ puts (hex 4 0x1200010A) ∷ puts (hex 4 0x1200010B) ∷ puts (hex 4 0x1200010C) ∷ puts (hex 4 0x1200010D)
+    ∷ puts (hex 4 0x1200010E) ∷ puts (hex 4 0x1200010F) ∷ puts (hex 4 0x12000110) ∷ refusal 4 ∷ refusal 4
+    ∷ hands (hex 5 0xFF10000000) ∷ done ∷ puts (hex 4 0x02000111) ∷ refusal 4 ∷ done ∷ puts (hex 4 0x200501FF)
+    ∷ refusal 4 ∷ []
+unfolding lines
+full-down-wire = refl
+
+-- Sixteen packets on the way up: what needs a slot there waits, and the last packet of a command needs two.
+full-up-wire :
+    lines
+    (fresh (hex 5 0x2001FF01FF) ∷ command 0 0 (hex 1 0x01) ∷ down ∷ up ∷ up ∷ command 0 1 (hex 2 0x0000) ∷ down ∷ up
+    ∷ command 0 4 (hex 2 0x0100) ∷ down ∷ up ∷ send 2 (hex 17 0x0102030405060708090A0B0C0D0E0F1011) ∷ push 2 ∷ down
+    ∷ consume 2 ∷ push 2 ∷ down ∷ consume 2 ∷ push 2 ∷ down ∷ consume 2 ∷ push 2 ∷ down ∷ consume 2 ∷ push 2 ∷ down
+    ∷ consume 2 ∷ push 2 ∷ down ∷ consume 2 ∷ push 2 ∷ down ∷ consume 2 ∷ push 2 ∷ down ∷ consume 2 ∷ push 2 ∷ down
+    ∷ consume 2 ∷ push 2 ∷ down ∷ consume 2 ∷ push 2 ∷ down ∷ consume 2 ∷ push 2 ∷ down ∷ consume 2 ∷ push 2 ∷ down
+    ∷ consume 2 ∷ push 2 ∷ down ∷ consume 2 ∷ push 2 ∷ down ∷ consume 2 ∷ push 2 ∷ down ∷ consume 2 ∷ push 2 ∷ down
+    ∷ consume 2 ∷ credit ∷ reply ∷ air (hex 1 0x04) ∷ command 0 4 (hex 2 0x0100) ∷ down ∷ report 2 ∷ up ∷ consume 2
+    ∷ down ∷ up ∷ up ∷ down ∷ up ∷ [])
+    start
+    ≡ done ∷ puts (hex 4 0x20000101) ∷ puts (hex 12 0x400001006000050201200000) ∷ done ∷ done
+    ∷ puts (hex 5 0x2001020000) ∷ puts (hex 19 0x40011000000000000400002000000000010100) ∷ done
+    ∷ puts (hex 5 0x2004020100) ∷ puts (hex 7 0x4004040001FF02) ∷ done ∷ done ∷ puts (hex 4 0x12000101) ∷ done
+    ∷ puts (hex 4 0x12000101) ∷ puts (hex 4 0x12000102) ∷ done ∷ puts (hex 4 0x12000102) ∷ puts (hex 4 0x12000103)
+    ∷ done ∷ puts (hex 4 0x12000103) ∷ puts (hex 4 0x12000104) ∷ done ∷ puts (hex 4 0x12000104)
+    ∷ puts (hex 4 0x12000105) ∷ done ∷ puts (hex 4 0x12000105) ∷ puts (hex 4 0x12000106) ∷ done
+    ∷ puts (hex 4 0x12000106) ∷ puts (hex 4 0x12000107) ∷ done ∷ puts (hex 4 0x12000107) ∷ puts (hex 4 0x12000108)
+    ∷ done ∷ puts (hex 4 0x12000108) ∷ puts (hex 4 0x12000109) ∷ done ∷ puts (hex 4 0x12000109)
+    ∷ puts (hex 4 0x1200010A) ∷ done ∷ puts (hex 4 0x1200010A) ∷ puts (hex 4 0x1200010B) ∷ done
+    ∷ puts (hex 4 0x1200010B) ∷ puts (hex 4 0x1200010C) ∷ done ∷ puts (hex 4 0x1200010C) ∷ puts (hex 4 0x1200010D)
+    ∷ done ∷ puts (hex 4 0x1200010D) ∷ puts (hex 4 0x1200010E) ∷ done ∷ puts (hex 4 0x1200010E)
+    ∷ puts (hex 4 0x1200010F) ∷ done ∷ puts (hex 4 0x1200010F) ∷ puts (hex 4 0x12000110) ∷ done
+    ∷ puts (hex 4 0x12000110) ∷ puts (hex 4 0x02000111) ∷ done ∷ refusal 4 ∷ refusal 4 ∷ refusal 4 ∷ refusal 4
+    ∷ puts (hex 5 0x2004020100) ∷ refusal 4 ∷ hands (hex 5 0xFF00010000) ∷ done
+    ∷ line 0 false (hex 4 0x02000111) ((hex 17 0x0102030405060708090A0B0C0D0E0F1011) ∷ []) ∷ refusal 4 ∷ done ∷ done
+    ∷ puts (hex 7 0x4004040001FF03) ∷ done ∷ []
+unfolding lines
+full-up-wire = refl
+
+-- Two tags are found; one is selected, fails, is selected again, activated, spoken with, put to sleep and released.
+tag :
+    lines
+    (fresh (hex 5 0x2004020401) ∷ command 0 0 (hex 1 0x01) ∷ down ∷ up ∷ up ∷ command 0 1 (hex 2 0x0000) ∷ down ∷ up
+    ∷ command 1 3 (hex 5 0x020001020A) ∷ down ∷ up ∷ air (hex 7 0x0101040002AABB) ∷ up ∷ air (hex 5 0x0101040000)
+    ∷ air (hex 5 0x0102040000) ∷ up ∷ air (hex 4 0x02010400) ∷ command 1 4 (hex 3 0x030401) ∷ down ∷ up
+    ∷ command 1 4 (hex 3 0x010401) ∷ down ∷ up ∷ air (hex 1 0x04) ∷ up ∷ command 1 4 (hex 3 0x010401) ∷ down ∷ up
+    ∷ air (hex 5 0x02010400CC) ∷ up ∷ air (hex 5 0x0811223344) ∷ air (hex 1 0x08) ∷ reply ∷ reply ∷ up
+    ∷ send 0 (hex 2 0x3000) ∷ push 0 ∷ down ∷ push 0 ∷ consume 0 ∷ report 0 ∷ credit ∷ up ∷ report 0 ∷ air (hex 1 0x05)
+    ∷ command 1 6 (hex 1 0x01) ∷ down ∷ up ∷ up ∷ report 0 ∷ command 1 4 (hex 3 0x020401) ∷ down ∷ up
+    ∷ air (hex 4 0x02020400) ∷ up ∷ command 1 6 (hex 1 0x00) ∷ down ∷ up ∷ up ∷ air (hex 1 0x04) ∷ [])
+    start
+    ≡ done ∷ puts (hex 4 0x20000101) ∷ puts (hex 12 0x400001006000050201200000) ∷ done ∷ done
+    ∷ puts (hex 5 0x2001020000) ∷ puts (hex 19 0x40011000000000000400002000000000010100) ∷ done
+    ∷ puts (hex 8 0x210305020001020A) ∷ puts (hex 4 0x41030100) ∷ done ∷ puts (hex 10 0x61030701040002AABB02) ∷ done
+    ∷ refusal 11 ∷ puts (hex 8 0x6103050204000000) ∷ done ∷ refusal 11 ∷ puts (hex 6 0x210403030401)
+    ∷ puts (hex 4 0x41040101) ∷ done ∷ puts (hex 6 0x210403010401) ∷ puts (hex 4 0x41040100) ∷ done
+    ∷ puts (hex 4 0x600701A1) ∷ done ∷ puts (hex 6 0x210403010401) ∷ puts (hex 4 0x41040100) ∷ done
+    ∷ puts (hex 15 0x61050C01010400040101CC00000000) ∷ done ∷ done ∷ refusal 7 ∷ puts (hex 7 0x00000411223344)
+    ∷ refusal 8 ∷ hands (hex 4 0x11223344) ∷ done ∷ puts (hex 5 0x0000023000) ∷ done ∷ refusal 8 ∷ hands (hex 2 0x3000)
+    ∷ hands (hex 5 0x0000000100) ∷ puts (hex 6 0x600603010001) ∷ done ∷ hands (hex 5 0x0100000000) ∷ refusal 11
+    ∷ puts (hex 4 0x21060101) ∷ puts (hex 9 0x410601006106020100) ∷ done ∷ done ∷ refusal 6
+    ∷ puts (hex 6 0x210403020401) ∷ puts (hex 4 0x41040100) ∷ done ∷ puts (hex 14 0x61050B0201040004010000000000) ∷ done
+    ∷ puts (hex 4 0x21060100) ∷ puts (hex 9 0x410601006106020000) ∷ done ∷ done ∷ refusal 11 ∷ []
+unfolding lines
+tag = refl
+
+-- The bench listens: no activation over a packet on a wire, no Sleep for NFC-F; a packet that the host sends after the
+-- link was lost is dropped.
+listener :
+    lines
+    (fresh (hex 5 0x2004020401) ∷ command 0 0 (hex 1 0x01) ∷ down ∷ up ∷ up ∷ command 0 1 (hex 2 0x0000) ∷ down ∷ up
+    ∷ command 1 3 (hex 5 0x0282018001) ∷ down ∷ up ∷ command 0 5 (hex 1 0xFF) ∷ air (hex 4 0x03010482) ∷ down ∷ up
+    ∷ air (hex 4 0x03010482) ∷ up ∷ command 1 6 (hex 1 0x01) ∷ down ∷ up ∷ air (hex 1 0x05) ∷ up
+    ∷ air (hex 4 0x03020480) ∷ up ∷ send 0 (hex 2 0x0102) ∷ air (hex 1 0x06) ∷ push 0 ∷ down ∷ up
+    ∷ air (hex 4 0x03030483) ∷ up ∷ air (hex 3 0x08A1A2) ∷ reply ∷ air (hex 1 0x07) ∷ up ∷ up ∷ air (hex 1 0x07)
+    ∷ command 1 6 (hex 1 0x00) ∷ down ∷ up ∷ [])
+    start
+    ≡ done ∷ puts (hex 4 0x20000101) ∷ puts (hex 12 0x400001006000050201200000) ∷ done ∷ done
+    ∷ puts (hex 5 0x2001020000) ∷ puts (hex 19 0x40011000000000000400002000000000010100) ∷ done
+    ∷ puts (hex 8 0x2103050282018001) ∷ puts (hex 4 0x41030100) ∷ done ∷ puts (hex 4 0x200501FF) ∷ refusal 14
+    ∷ puts (hex 4 0x40050101) ∷ done ∷ puts (hex 14 0x61050B0101048204010082000000) ∷ done ∷ puts (hex 4 0x21060101)
+    ∷ puts (hex 4 0x41060101) ∷ done ∷ puts (hex 5 0x6106020101) ∷ done ∷ puts (hex 14 0x61050B0201048004010080000000)
+    ∷ done ∷ done ∷ puts (hex 5 0x6106020302) ∷ puts (hex 5 0x0000020102) ∷ line 0 true [] [] ∷ done
+    ∷ puts (hex 14 0x61050B0301048304010083000000) ∷ done ∷ done ∷ puts (hex 5 0x000002A1A2) ∷ puts (hex 5 0x6106020301)
+    ∷ hands (hex 2 0xA1A2) ∷ done ∷ refusal 11 ∷ puts (hex 4 0x21060100) ∷ puts (hex 4 0x41060100) ∷ done ∷ []
+unfolding lines
+listener = refl
+
+-- A connection is closed with half a message on its way; its number is not given again at once, and the next holder
+-- starts with nothing.
+close :
+    lines
+    (fresh (hex 5 0x2004020401) ∷ command 0 0 (hex 1 0x01) ∷ down ∷ up ∷ up ∷ command 0 1 (hex 2 0x0000) ∷ down ∷ up
+    ∷ command 0 4 (hex 2 0x0100) ∷ down ∷ up ∷ command 0 4 (hex 2 0x0100) ∷ down ∷ up ∷ send 2 (hex 6 0x010203040506)
+    ∷ push 2 ∷ down ∷ command 0 5 (hex 1 0x02) ∷ push 2 ∷ push 3 ∷ command 0 4 (hex 2 0x0100) ∷ down ∷ report 2
+    ∷ send 2 (hex 1 0xAA) ∷ up ∷ report 2 ∷ send 2 (hex 1 0xAA) ∷ consume 2 ∷ push 2 ∷ command 0 4 (hex 2 0x0100) ∷ down
+    ∷ up ∷ command 0 4 (hex 2 0x0100) ∷ down ∷ up ∷ command 0 4 (hex 2 0x0100) ∷ down ∷ up ∷ send 2 (hex 1 0xAA)
+    ∷ push 2 ∷ down ∷ consume 2 ∷ up ∷ report 2 ∷ command 0 5 (hex 1 0x00) ∷ down ∷ up ∷ [])
+    start
+    ≡ done ∷ puts (hex 4 0x20000101) ∷ puts (hex 12 0x400001006000050201200000) ∷ done ∷ done
+    ∷ puts (hex 5 0x2001020000) ∷ puts (hex 19 0x40011000000000000400002000000000010100) ∷ done
+    ∷ puts (hex 5 0x2004020100) ∷ puts (hex 7 0x40040400040202) ∷ done ∷ puts (hex 5 0x2004020100)
+    ∷ puts (hex 7 0x40040400040203) ∷ done ∷ done ∷ puts (hex 7 0x12000401020304) ∷ done ∷ puts (hex 4 0x20050102)
+    ∷ refusal 10 ∷ refusal 8 ∷ refusal 5 ∷ puts (hex 4 0x40050100) ∷ refusal 6 ∷ refusal 7 ∷ done ∷ refusal 6
+    ∷ refusal 6 ∷ refusal 6 ∷ refusal 6 ∷ puts (hex 5 0x2004020100) ∷ puts (hex 7 0x40040400040204) ∷ done
+    ∷ puts (hex 5 0x2004020100) ∷ puts (hex 7 0x40040400040205) ∷ done ∷ puts (hex 5 0x2004020100)
+    ∷ puts (hex 7 0x40040400040202) ∷ done ∷ done ∷ puts (hex 4 0x020001AA) ∷ done
+    ∷ line 0 false (hex 4 0x020001AA) ((hex 1 0xAA) ∷ []) ∷ hands (hex 1 0xAA) ∷ hands (hex 5 0x0100000100)
+    ∷ puts (hex 4 0x20050100) ∷ puts (hex 4 0x40050101) ∷ done ∷ []
+unfolding lines
+close = refl
+
+-- A reset in the middle of traffic, and the power key.
+reset-and-power :
+    lines
+    (fresh (hex 5 0x2004020401) ∷ command 0 0 (hex 1 0x01) ∷ down ∷ up ∷ up ∷ command 0 1 (hex 2 0x0000) ∷ down ∷ up
+    ∷ command 0 4 (hex 2 0x0100) ∷ down ∷ up ∷ send 2 (hex 5 0x0102030405) ∷ push 2 ∷ down ∷ command 0 0 (hex 1 0x00)
+    ∷ push 2 ∷ down ∷ consume 2 ∷ report 2 ∷ up ∷ up ∷ push 2 ∷ command 0 1 (hex 2 0x0000) ∷ down ∷ up
+    ∷ command 0 4 (hex 2 0x0100) ∷ down ∷ up ∷ send 2 (hex 1 0xAA) ∷ push 2 ∷ power ∷ down ∷ up ∷ report 2 ∷ push 2
+    ∷ command 0 0 (hex 1 0x01) ∷ down ∷ up ∷ up ∷ command 0 1 (hex 2 0x0000) ∷ down ∷ up ∷ report 2
+    ∷ command 0 4 (hex 2 0x0100) ∷ down ∷ up ∷ report 2 ∷ [])
+    start
+    ≡ done ∷ puts (hex 4 0x20000101) ∷ puts (hex 12 0x400001006000050201200000) ∷ done ∷ done
+    ∷ puts (hex 5 0x2001020000) ∷ puts (hex 19 0x40011000000000000400002000000000010100) ∷ done
+    ∷ puts (hex 5 0x2004020100) ∷ puts (hex 7 0x40040400040202) ∷ done ∷ done ∷ puts (hex 7 0x12000401020304) ∷ done
+    ∷ puts (hex 4 0x20000100) ∷ refusal 10 ∷ puts (hex 12 0x400001006000050200200000) ∷ refusal 6 ∷ refusal 6 ∷ done
+    ∷ done ∷ refusal 6 ∷ puts (hex 5 0x2001020000) ∷ puts (hex 19 0x40011000000000000400002000000000010100) ∷ done
+    ∷ puts (hex 5 0x2004020100) ∷ puts (hex 7 0x40040400040202) ∷ done ∷ done ∷ puts (hex 4 0x020001AA) ∷ done
+    ∷ refusal 8 ∷ refusal 8 ∷ refusal 6 ∷ refusal 6 ∷ puts (hex 4 0x20000101) ∷ puts (hex 12 0x400001006000050201200000)
+    ∷ done ∷ done ∷ puts (hex 5 0x2001020000) ∷ puts (hex 19 0x40011000000000000400002000000000010100) ∷ done
+    ∷ refusal 6 ∷ puts (hex 5 0x2004020100) ∷ puts (hex 7 0x40040400040202) ∷ done ∷ hands (hex 5 0x0200000000) ∷ []
+unfolding lines
+reset-and-power = refl
+
+-- Arguments outside their limits, and commands that are unknown, too short or too early.
+limits :
+    lines
+    (fresh (hex 5 0x2004020401) ∷ fresh (hex 5 0x1F04020401) ∷ fresh (hex 5 0x2004090401) ∷ command 16 0 (hex 1 0x00)
+    ∷ command 0 64 (hex 1 0x00) ∷ send 1 (hex 1 0x01) ∷ push 6 ∷ consume 1 ∷ report 255 ∷ air (hex 1 0x00)
+    ∷ air (hex 5 0x0200040000) ∷ send 2 (hex 1 0x01) ∷ push 2 ∷ consume 2 ∷ report 2 ∷ down ∷ up ∷ reply ∷ credit
+    ∷ command 0 63 [] ∷ command 0 0 [] ∷ down ∷ up ∷ command 0 0 [] ∷ down ∷ up ∷ command 0 0 (hex 1 0x02) ∷ down ∷ up
+    ∷ command 0 4 (hex 2 0x0100) ∷ down ∷ up ∷ command 0 1 (hex 1 0x01) ∷ down ∷ up ∷ command 0 0 (hex 1 0x00) ∷ down
+    ∷ up ∷ up ∷ command 0 1 (hex 2 0x0000) ∷ down ∷ up ∷ air (hex 1 0x09) ∷ air (hex 1 0x08) ∷ air (hex 5 0x0101040003)
+    ∷ air (hex 5 0x0101040002) ∷ [])
+    start
+    ≡ done ∷ refusal 3 ∷ refusal 3 ∷ refusal 3 ∷ refusal 3 ∷ refusal 3 ∷ refusal 3 ∷ refusal 3 ∷ refusal 3 ∷ refusal 3
+    ∷ refusal 3 ∷ refusal 6 ∷ refusal 6 ∷ refusal 6 ∷ refusal 6 ∷ refusal 8 ∷ refusal 8 ∷ refusal 8 ∷ refusal 8
+    ∷ puts (hex 3 0x203F00) ∷ refusal 5 ∷ puts (hex 4 0x403F0105) ∷ done ∷ puts (hex 3 0x200000)
+    ∷ puts (hex 4 0x40000105) ∷ done ∷ puts (hex 4 0x20000102) ∷ puts (hex 4 0x40000105) ∷ done
+    ∷ puts (hex 5 0x2004020100) ∷ puts (hex 4 0x40040106) ∷ done ∷ puts (hex 4 0x20010101) ∷ puts (hex 4 0x40010105)
+    ∷ done ∷ puts (hex 4 0x20000100) ∷ puts (hex 12 0x400001006000050200200000) ∷ done ∷ done
+    ∷ puts (hex 5 0x2001020000) ∷ puts (hex 19 0x40011000000000000400002000000000010100) ∷ done ∷ refusal 3 ∷ refusal 11
+    ∷ refusal 3 ∷ refusal 11 ∷ []
+unfolding lines
+limits = refl

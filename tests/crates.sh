@@ -1,0 +1,29 @@
+#!/usr/bin/env bash
+# Proves every crate from nothing, tries the wrong programs and runs each program on its stored input, by `rt ci`. The last
+# line is 'crates: N passed, M failed'; any failure makes the exit status non-zero.
+set -u
+cd "$(dirname "$0")/.." || exit 1
+log=$(mktemp)
+trap 'rm -f "$log"' EXIT
+passed=0
+failed=0
+
+rt ci 2>&1 | tee "$log"
+status=${PIPESTATUS[0]}
+if [[ $(tail -n 1 "$log") =~ ([0-9]+)\ passed,\ ([0-9]+)\ failed ]]; then
+    passed=${BASH_REMATCH[1]}
+    failed=${BASH_REMATCH[2]}
+fi
+# a run that died has no count
+if [ "$failed" -eq 0 ] && { [ "$status" -ne 0 ] || [ "$passed" -eq 0 ]; }; then
+    echo "rt ci: exit status $status"
+    failed=1
+fi
+# a wrong program is to be refused by a proof; an edit that is no definition any more shows nothing
+unread=$(grep -c 'must-fail .*(first at specs/' "$log")
+if [ "$unread" -ne 0 ]; then
+    echo "must-fail edits: $unread stop at their own definition"
+    failed=$((failed + unread))
+fi
+echo "crates: $passed passed, $failed failed"
+[ "$failed" -eq 0 ]

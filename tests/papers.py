@@ -1,0 +1,82 @@
+#!/usr/bin/env python3
+"""Random papers through the program `paper` and through the second implementation's `play`, compared line by line.
+
+    papers.py [--program PATH] [--papers N] [--lines N] [--seed N]
+
+The second implementation makes the papers (second/src/bin/papers.rs), anew in each run; the same seed makes the same
+papers. A paper that is answered alike is one passed test."""
+import argparse
+import re
+import subprocess
+import sys
+import tempfile
+import time
+from collections import Counter
+from itertools import zip_longest
+from pathlib import Path
+
+from programs import Suite, built, output, second
+
+BAD = b"ev=bad ans=3"
+# every call is taken and meets each of its refusals; 13 is met by no list of calls from fresh
+COVERED = re.compile(r"seed=\d+ .* bad=(\d+) .* never=13 gaps=none")
+
+
+def arguments():
+    parser = argparse.ArgumentParser()
+    parser.add_argument("--program", type=Path)
+    parser.add_argument("--papers", type=int, default=210)
+    parser.add_argument("--lines", type=int, default=1000)
+    parser.add_argument("--seed", type=int, default=1)
+    return parser.parse_args()
+
+
+def differences(paper, ours, theirs):
+    """The lines of a paper with two answers, each with both."""
+    lines = zip_longest(*(text.split(b"\n") for text in (paper, ours, theirs)))
+    for number, (line, a, b) in enumerate(lines, 1):
+        if a != b:
+            yield f"line {number}, {(line or b'')[:200]!r}: {a!r}, the second implementation says {b!r}"
+
+
+def timed(program, paper, seconds):
+    """A program's output, and the time that it took, added to that of its other papers."""
+    started = time.monotonic()
+    told = output(program, paper)
+    seconds[program] += time.monotonic() - started
+    return told
+
+
+def wrong_in(paper, program, play, lines, seconds):
+    """What is wrong with a paper's answers, and how many of its lines are bad."""
+    (ours, ended), (theirs, _) = timed(program, paper, seconds), timed(play, paper, seconds)
+    wrong = list(differences(paper, ours, theirs)) if ours != theirs else []
+    if ended != 0:
+        wrong.append(f"ended with status {ended}")
+    if ours.count(b"\n") != lines:
+        wrong.append(f"{ours.count(10)} answers to {lines} lines")
+    return wrong, ours.split(b"\n").count(BAD)
+
+
+def main():
+    given, suite = arguments(), Suite("papers")
+    program, play = given.program or built("paper"), second("play")
+    with tempfile.TemporaryDirectory() as directory:
+        numbers = [str(n) for n in (given.papers, given.lines, given.seed)]
+        made = subprocess.run([second("papers"), directory, *numbers], capture_output=True, text=True)
+        print(made.stdout + made.stderr, end="")
+        covered, bad, seconds = COVERED.match(made.stdout), 0, Counter()
+        suite.check("the papers", [] if covered else ["a call or a refusal is not met"])
+        for path in sorted(Path(directory).iterdir()):
+            wrong, more = wrong_in(path.read_bytes(), program, play, given.lines, seconds)
+            suite.check(f"paper {path.name} of seed {given.seed}", wrong)
+            bad += more
+    for name, taken in seconds.items():
+        print(f"{name.name}: {given.papers * given.lines / taken:,.0f} lines a second")
+    due = int(covered[1]) if covered else None
+    suite.check("bad lines", [] if bad == due else [f"{bad} answered as bad, {due} made"])
+    return suite.end()
+
+
+if __name__ == "__main__":
+    sys.exit(main())
