@@ -36,6 +36,8 @@ LIST_CALLS = 2_000_000
 DAMAGED_CALLS = 1_000_000
 SANITIZED_CALLS = 100_000
 VALGRIND_CALLS = 3_000
+# octets of stack that suffice for every call
+STACK = 12_288
 
 
 def run(*command, **named):
@@ -116,6 +118,10 @@ def sanitized(compiler, folder):
     print(run(build_c("damaged", compiler, folder, *words), SANITIZED_CALLS), end="")
 
 
+def stack(folder):
+    print(run(build_c("stack", "gcc", folder, LIB / "libnci_bench.a"), STACK), end="")
+
+
 def valgrind(folder):
     check = ["valgrind", "--quiet", "--error-exitcode=9"]
     run(*check, build_c("exports", "gcc", folder, LIB / "libnci_bench.a"))
@@ -169,6 +175,7 @@ def tests(folder):
         yield f"header alone, {compiler}", lambda compiler=compiler: header_alone(compiler, folder)
         yield f"exports, {compiler}", lambda compiler=compiler: exports_from_c(compiler, folder)
     yield "exports of the shared object", lambda: exports_from_shared_object(folder)
+    yield "a small stack", lambda: stack(folder)
     for compiler in [compiler for compiler in ["gcc", "clang"] if compiler in compilers]:
         yield f"sanitizers, {compiler}", lambda compiler=compiler: sanitized(compiler, folder)
     if shutil.which("valgrind"):

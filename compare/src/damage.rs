@@ -112,13 +112,14 @@ impl Damage {
     fn change(&mut self, octets: &mut [u8]) {
         let random = &mut self.random;
         let record = RECORD_AT..RECORD_AT + RECORD;
-        match random.below(12) {
+        match random.below(15) {
             0 => octets[RECORD_AT + random.below(RECORD)] = random.octet(),
             1 => several(random, &mut octets[record], Random::octet),
             2..=4 => octets[RECORD_AT + random.below(RECORD)] = small(random),
             5 => several(random, &mut octets[record], small),
             6 => fill(random, &mut octets[RECORD_AT..]),
             7..=8 => forge(random, octets),
+            12..=14 => reshape(random, &mut octets[record]),
             9 => {
                 let place = random.below(SLOTS);
                 fill(random, slot(place, octets));
@@ -162,6 +163,75 @@ fn several(random: &mut Random, octets: &mut [u8], value: fn(&mut Random) -> u8)
     for _ in 0..2 + random.below(7) {
         let place = random.below(octets.len());
         octets[place] = value(random);
+    }
+}
+
+/// Octets of the record become others that they may well be; mostly so that all of them
+/// together may be.
+fn reshape(random: &mut Random, record: &mut [u8]) {
+    for _ in 0..1 + random.below(30) {
+        let place = random.below(RECORD);
+        record[place] = random.below(usize::from(most(place)) + 1) as u8;
+    }
+    if random.chance(90) {
+        mend(record);
+    }
+}
+
+/// What must hold between octets: least sizes, credits up to the grant, positions up to
+/// the length.
+fn mend(record: &mut [u8]) {
+    for size in [0, 11] {
+        record[size] = record[size].max(32);
+    }
+    for term in 1..5 {
+        record[term] = record[term].max(1);
+    }
+    if record[23] == 1 {
+        record[23] = 2;
+    }
+    mend_hand(&mut record[51..56]);
+    for conn in record[56..156].chunks_exact_mut(20) {
+        conn[1] = conn[1].max(1);
+        conn[3] = conn[3].min(conn[2]);
+        mend_hand(&mut conn[4..9]);
+        mend_length(&mut conn[9..11]);
+        conn[14] = conn[14].min(conn[13]);
+        mend_length(&mut conn[17..19]);
+    }
+}
+
+fn mend_hand(hand: &mut [u8]) {
+    mend_length(&mut hand[1..3]);
+    let (length, position) = ([hand[1], hand[2]], [hand[3], hand[4]]);
+    hand[3..].copy_from_slice(&position.min(length));
+}
+
+/// At most 1,024.
+fn mend_length(length: &mut [u8]) {
+    let most = [length[0], length[1]].min([4, 0]);
+    length.copy_from_slice(&most);
+}
+
+/// The most that an octet of the record mostly is: both ends and the wires, in the order
+/// of the record. Lengths are kept under 256 or at 1,024.
+fn most(place: usize) -> u8 {
+    const PROFILE: [u8; 11] = [255, 255, 8, 255, 8, 0, 0, 0, 0, 0, 0];
+    const HOST: [u8; 5] = [255, 1, 1, 6, 6];
+    const RUN: [u8; 6] = [3, 1, 6, 0, 255, 1];
+    const CONTROLLER: [u8; 23] = [2, 5, 6, 1, 9, 5, 9, 5, 9, 5, 9, 5, 9, 5, 9, 5, 9, 5, 9, 5, 9, 5, 8];
+    const HAND: [u8; 5] = [1, 4, 0, 4, 0];
+    const CONN: [u8; 20] = [1, 255, 8, 8, 1, 4, 0, 4, 0, 4, 0, 1, 1, 8, 8, 7, 8, 4, 0, 1];
+    const WIRES: [u8; 4] = [15, 16, 15, 16];
+    match place {
+        0..11 => PROFILE[place],
+        11..16 => HOST[place - 11],
+        16..22 => RUN[place - 16],
+        22..45 => CONTROLLER[place - 22],
+        45..51 => RUN[place - 45],
+        51..56 => HAND[place - 51],
+        56..156 => CONN[(place - 56) % 20],
+        _ => WIRES[place - 156],
     }
 }
 

@@ -1,9 +1,10 @@
 //! How fast: each call and a mixed paper on both benches, in one run.
 //!
 //! A call is timed on several benches that all stand where it is taken; they are set
-//! up again outside the time. The proved bench gets its area and a buffer, which no one
-//! clears; the second implementation keeps its state in memory of its own and makes
-//! vectors of what it answers.
+//! up again outside the time. A paper is timed piece by piece. Everything is done many
+//! times and the best counts, since other programs may run meanwhile. The proved bench
+//! gets its area and a buffer, which no one clears; the second implementation keeps its
+//! state in memory of its own and makes vectors of what it answers.
 
 use std::hint::black_box;
 use std::time::{Duration, Instant};
@@ -20,12 +21,16 @@ const COPIES: usize = 16;
 /// Calls of a list of the mixed paper.
 const LIST_CALLS: usize = 400;
 
-/// Calls and the time that each bench took for them.
-#[derive(Clone, Copy, Default)]
+/// Calls of a piece of a paper, and how often the paper is played.
+const PIECE: usize = 1_000;
+const PASSES: usize = 15;
+
+/// Calls and the best time that each bench took for them.
+#[derive(Clone, Copy)]
 pub struct Times {
-    pub calls: u64,
-    pub proved: Duration,
-    pub second: Duration,
+    calls: usize,
+    proved: Duration,
+    second: Duration,
 }
 
 impl Times {
@@ -120,28 +125,28 @@ pub fn time_call(before: &[Call], call: &Call, rounds: usize) -> Times {
         bench.play(call);
     }
     let mut areas: Vec<Octets> = (0..COPIES).map(|_| Octets::new()).collect();
-    let mut times = Times::default();
+    let mut times = Times { calls: COPIES, proved: Duration::MAX, second: Duration::MAX };
     for _ in 0..rounds {
         areas.iter_mut().for_each(|copy| copy.area.copy_from_slice(&octets.area));
-        let start = Instant::now();
-        for copy in &mut areas {
-            black_box(copy.play(call));
-        }
-        times.proved += start.elapsed();
+        times.proved = times.proved.min(time(&mut areas, |copy| copy.play(call)));
         let mut benches: Vec<Bench> = (0..COPIES).map(|_| bench.clone()).collect();
-        let start = Instant::now();
-        for copy in &mut benches {
-            black_box(copy.play(call));
-        }
-        times.second += start.elapsed();
-        times.calls += COPIES as u64;
+        times.second = times.second.min(time(&mut benches, |copy| copy.play(call)));
     }
     times
 }
 
+/// How long it takes to do this with each of them.
+fn time<T, A>(all: &mut [T], mut act: impl FnMut(&mut T) -> A) -> Duration {
+    let start = Instant::now();
+    for one in all {
+        black_box(act(one));
+    }
+    start.elapsed()
+}
+
 /// A paper of random lists, as the second implementation's player deals them.
-pub fn mixed_paper(calls: usize, seed: u64) -> Vec<Call> {
-    let mut player = Player::new(seed, Lengths::Any);
+pub fn mixed_paper(calls: usize, seed: u64, lengths: Lengths) -> Vec<Call> {
+    let mut player = Player::new(seed, lengths);
     let mut bench = Bench::new(PROFILE).expect("the profile is inside its limits");
     let mut paper = Vec::new();
     while paper.len() < calls {
@@ -161,15 +166,23 @@ pub fn mixed_paper(calls: usize, seed: u64) -> Vec<Call> {
 /// Times a whole paper.
 pub fn time_paper(paper: &[Call]) -> Times {
     let mut octets = Octets::new();
-    let start = Instant::now();
-    for call in paper {
-        black_box(octets.play(call));
-    }
-    let proved = start.elapsed();
+    let proved = time_pieces(paper, |call| octets.play(call));
     let mut bench = Bench::new(PROFILE).expect("the profile is inside its limits");
-    let start = Instant::now();
-    for call in paper {
-        black_box(bench.play(call));
+    let second = time_pieces(paper, |call| bench.play(call));
+    Times { calls: paper.len(), proved, second }
+}
+
+/// The sum of each piece's best time.
+fn time_pieces<A>(paper: &[Call], mut play: impl FnMut(&Call) -> A) -> Duration {
+    let mut best = vec![Duration::MAX; paper.len().div_ceil(PIECE)];
+    for _ in 0..PASSES {
+        for (piece, best) in paper.chunks(PIECE).zip(&mut best) {
+            let start = Instant::now();
+            for call in piece {
+                black_box(play(call));
+            }
+            *best = start.elapsed().min(*best);
+        }
     }
-    Times { calls: paper.len() as u64, proved, second: start.elapsed() }
+    best.into_iter().sum()
 }

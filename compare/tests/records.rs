@@ -9,6 +9,11 @@ const PROFILE: [u8; 5] = [0x20, 4, 2, 4, 1];
 const UP_HEAD: usize = RECORD_AT + 158;
 const UP_COUNT: usize = RECORD_AT + 159;
 
+/// Where it has the RF state, and the pairs with their count.
+const RF: usize = RECORD_AT + 24;
+const PAIRS: usize = RECORD_AT + 28;
+const W4_ALL_DISCOVERIES: u8 = 2;
+
 /// Connection 0 open at both ends, wires empty.
 fn active() -> Both {
     let mut both = Both::default();
@@ -78,4 +83,29 @@ fn the_longest_packet_is_read_to_its_last_octet() {
     forge_up(&mut both, &packet);
     both.wires().unwrap();
     step(&mut both, Call::Up);
+}
+
+/// A list of eight pairs in W4_ALL_DISCOVERIES has no place for a ninth, whatever its type.
+#[test]
+fn a_ninth_pair_is_refused() {
+    for (pairs, event, answer) in [
+        (8, [1, 9, 4, 0, 0], 11),
+        (8, [1, 9, 4, 0, 1], 11),
+        (8, [1, 9, 4, 0, 2], 11),
+        (7, [1, 9, 4, 0, 2], 11),
+        (7, [1, 9, 4, 0, 0], 0),
+        (6, [1, 9, 4, 0, 2], 0),
+    ] {
+        let mut both = active();
+        let mut octets = both.lent.octets().to_vec();
+        octets[RF] = W4_ALL_DISCOVERIES;
+        for pair in 0..8 {
+            octets[PAIRS + 2 * pair..][..2].copy_from_slice(&[pair as u8 + 1, 4]);
+        }
+        octets[PAIRS + 16] = pairs;
+        both.put(&octets);
+        let before = both.tally.refusals(11);
+        both.step(&Call::Air(event.to_vec())).unwrap();
+        assert_eq!(both.tally.refusals(11) - before, u64::from(answer == 11), "{pairs} pairs, {event:?}");
+    }
 }

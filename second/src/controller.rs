@@ -453,13 +453,14 @@ impl Controller {
 
     /// DISCOVERY takes "more follow" only and starts a new list. In
     /// W4_ALL_DISCOVERIES a repeated pair, or an eighth with more to follow, is
-    /// not taken.
+    /// not taken, and a ninth has no place (decision on a list that is full).
     fn takes_found(&self, pair: Pair, more: bool) -> bool {
         match self.rf {
             Rf::Discovery => more,
             Rf::W4AllDiscoveries => {
+                let full = self.pairs.len() >= MOST_PAIRS;
                 let eighth = self.pairs.len() + 1 >= MOST_PAIRS;
-                !(self.pairs.contains(&pair) || eighth && more)
+                !(self.pairs.contains(&pair) || full || eighth && more)
             }
             _ => false,
         }

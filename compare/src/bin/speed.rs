@@ -4,10 +4,11 @@
 //! profiler.
 
 use compare::{exports, number, record, speed};
+use exam_bench::player::Lengths;
 use exam_bench::sheet;
 
-const ROUNDS: usize = 4_000;
-const PAPER_CALLS: u64 = 400_000;
+const ROUNDS: usize = 10_000;
+const PAPER_CALLS: u64 = 100_000;
 const SEED: u64 = 1;
 /// How often the paper is played for a profiler.
 const REPEATED: usize = 40;
@@ -16,12 +17,14 @@ fn main() {
     let mut arguments = std::env::args().skip(1);
     let what = arguments.next();
     let calls = number(arguments.next(), PAPER_CALLS) as usize;
-    let paper = || speed::mixed_paper(calls, SEED);
+    let paper = |lengths| speed::mixed_paper(calls, SEED, lengths);
     match what.as_deref() {
-        Some("paper") => paper().iter().for_each(|call| println!("{}", sheet::write_call(call))),
+        Some("paper") => {
+            paper(Lengths::Short).iter().for_each(|call| println!("{}", sheet::write_call(call)));
+        }
         Some("proved") => {
             let (mut area, mut buffer) = (vec![0; record::AREA], vec![0; 1024]);
-            let paper = paper();
+            let paper = paper(Lengths::Any);
             for call in (0..REPEATED).flat_map(|_| &paper) {
                 exports::play(&mut area, &mut buffer, call, exports::argument(call));
             }
@@ -30,7 +33,7 @@ fn main() {
             for (name, before, call) in speed::cases() {
                 println!("{}", speed::time_call(&before, &call, ROUNDS).fields(name));
             }
-            println!("{}", speed::time_paper(&paper()).fields("a mixed paper"));
+            println!("{}", speed::time_paper(&paper(Lengths::Any)).fields("a mixed paper"));
         }
     }
 }
