@@ -1,12 +1,12 @@
 -- The record after a verdict: it is one that row 1 lets pass, of octets, and stands for what the model decides.
 -- Assumes nothing.
-use Prim.Native.Nat.{ℕ, _<_, _%_}
+use Prim.Native.Nat.{ℕ, _<_}
 use native.Mathlib.Omega.{arith}
 use mathlib.Core.Path.{_≡_, refl, sym, _∙_, subst}
-use lib.ListN.{getD}
 use lib.Dec.{eqb}
 use borrow.Author.Tests.{eqb-true}
 use Rattle.octets.specs.Octets.{Octets}
+use Rattle.state.specs.Commands.{aimIn}
 use Rattle.octets.specs.Octal.{Octal}
 use Rattle.calls.specs.Kinds.{Record, Verdict, Profile, Controller, Pairs, Rf}
 use Rattle.calls.specs.Kinds.verdict as verdict
@@ -92,7 +92,7 @@ module _ (a : Octets) (t : Record) (s : Sound a t) (small : Small t) (gid oid : 
   abbrev pub decidedRecord : Record
   decidedRecord = withEnds (endsAfter (t .ends) v) t
 
-  fits : Fits gid oid (getD m 0 0 % 16) (t .ends .profile) v
+  fits : Fits gid oid (aimIn m) (t .ends .profile) v
   fits = judge-fits (t .ends .profile) (t .ends .controller) (openAt (t .ends .conns)) gid oid m
 
   pub verdict-small : SmallVerdict v
@@ -104,7 +104,7 @@ module _ (a : Octets) (t : Record) (s : Sound a t) (small : Small t) (gid oid : 
 
   steady-after : Steady (controllerAfter (t .ends .controller) v)
   steady-after =
-      after-steady gid oid (getD m 0 0 % 16) (t .ends .profile) (t .ends .controller) v fits
+      after-steady gid oid (aimIn m) (t .ends .profile) (t .ends .controller) v fits
       (fits-steady (t .ends .controller) (s .fit .own .controller) (s .shape .pairs))
 
   pub decided-shape : Shape decidedRecord
@@ -160,6 +160,6 @@ module _ (a : Octets) (t : Record) (s : Sound a t) (small : Small t) (gid oid : 
   decided-view =
       let all =
       controllers-changed a t (changeBy v) (endpointAfter (t .ends .endpoint) v) (connsAfter (t .ends .conns) v) (s .shape .conns) (length-after (t .ends .conns) v) counts
-      (endpoint-after (t .ends .endpoint) v) (none-opens gid oid (getD m 0 0 % 16) (t .ends .profile) v fits)
+      (endpoint-after (t .ends .endpoint) v) (none-opens gid oid (aimIn m) (t .ends .profile) v fits)
       in
       λ i. bench.withControllerState (controllerAfter (t .ends .controller) v) (all i)

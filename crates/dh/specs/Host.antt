@@ -1,7 +1,7 @@
 -- The host's reading of a whole control message (document 01, up under "Calls"): what a host that stands alone makes of it, behind
 -- one guard, `written` of Contents: could the bench's controller have written these contents?
 -- Assumes nothing.
-use Prim.Native.Nat.{ℕ, zero, suc, _+_, _%_}
+use Prim.Native.Nat.{ℕ, zero, suc, _+_}
 use mathlib.Core.Bool.{Bool, true, false, _&&_, _||_, not}
 use mathlib.Core.List.{List}
 use lib.ListN.{getD}
@@ -16,7 +16,7 @@ use Rattle.dh.specs.Kinds.notice as notice
 use Rattle.dh.specs.Kinds.answer.{Done, ClosesAll, Sized, Opens, Closes}
 use Rattle.dh.specs.Kinds.heard.{Nothing, Dropped, Answered, Activated, Deactivated, Credits}
 use Rattle.state.specs.Conn.{flows, creditSum, countsOf, withHost, leftAt, joinedAt, allLeft}
-use Rattle.state.specs.Commands.{commandOf}
+use Rattle.state.specs.Commands.{commandOf, aimIn}
 use Rattle.state.specs.Profile.{leastSize}
 use Rattle.dh.specs.Contents.{noticeOf, entryId, entryCredits, written}
 
@@ -24,7 +24,7 @@ use Rattle.dh.specs.Contents.{noticeOf, entryId, entryCredits, written}
 
 -- what the host remembers of a command that it sends
 abbrev pub askedOf : ℕ → ℕ → Octets → Asked
-askedOf gid oid m = record { gid = gid; oid = oid; aim = getD m 0 0 % 16 }
+askedOf gid oid m = record { gid = gid; oid = oid; aim = aimIn m }
 
 -- a response is awaited by the command with its GID and OID
 abbrev pub awaits : Pending → ℕ → ℕ → Bool

@@ -37,15 +37,16 @@ pub enum Heard {
 }
 
 // What the host remembers of a command that it sends: CORE_CONN_CLOSE_RSP names no connection, so the one that the command
-// named is kept.
+// named is kept; 1 for a command without octets, which names none.
 pub fn asked_of(gid: u8, oid: u8, m: &[u8]) -> Asked
     ensures { λ r. ⌜ r ≡ askedOf gid oid (now (m .entry)) ⌝ }
 {
     let first = octets::octet_at(m, 0);
+    let aim = octets::choose(m.len() == 0, 1, first % 16);
     Asked {
         gid: gid,
         oid: oid,
-        aim: first % 16,
+        aim: aim,
     }
 }
 

@@ -1,15 +1,16 @@
 -- Each call that is taken keeps the invariant: those of the host, and consume, credit and reply.
 -- Assumes nothing.
-use Prim.Native.Nat.{ℕ, _+_, _≤_, _<_, _%_}
+use Prim.Native.Nat.{ℕ, _+_, _≤_, _<_}
 use native.Mathlib.Omega.{arith}
 use mathlib.Core.Path.{_≡_, refl, sym, ap, _∙_}
 use mathlib.Core.Logic.{inr}
 use mathlib.Core.Bool.{Bool, true, false, not, _&&_, _||_, false≢true}
 use mathlib.Core.List.{List, [], _∷_, _++_, append-nil, cons≢nil}
 use lib.Dec.{eqb, ltb}
-use lib.ListN.{length, getD}
+use lib.ListN.{length}
 use borrow.Author.Tests.{eq-eqb, ltb-false, not-false}
 use Rattle.octets.specs.Octets.{Octets, pick}
+use Rattle.state.specs.Commands.{aimIn}
 use Rattle.packets.specs.Segments.{Segment, last, segments, segmentPacket, packetsOf}
 use Rattle.packets.specs.Reassembly.{grown, finished}
 use Rattle.state.specs.Conn.{flows, owing}
@@ -183,7 +184,7 @@ module _ (s : State) (aim : ℕ) (l : ℕ → Ledger) where
   command-keeps gid oid m t f =
       kept
       record {
-        good = λ d. rw (segs d, items-aim (getD m 0 0 % 16) aim d (s .up) no-replies) (f .good d);
+        good = λ d. rw (segs d, items-aim (aimIn m) aim d (s .up) no-replies) (f .good d);
         order =
             record {
               clear = λ d z c. rw (segs d) (f .order .clear d z c);

@@ -1,14 +1,15 @@
 -- The laws of `specs/invariant/Commands.antt`: one command at a time, no data behind one that closes, and a command on its way.
 -- Assumes nothing.
-use Prim.Native.Nat.{ℕ, zero, suc, _≤_, _<_, _%_}
+use Prim.Native.Nat.{ℕ, zero, suc, _≤_, _<_}
 use native.Mathlib.Omega.{arith}
 use mathlib.Core.Path.{_≡_, refl, sym, ap, _∙_, subst}
 use mathlib.Core.Bool.{Bool, true, false}
 use mathlib.Core.List.{List, [], _∷_, _++_, map, append-assoc, append-nil, cons≢nil, tail-eq-of-cons-eq}
 use lib.Dec.{eqb, ltb}
-use lib.ListN.{length, getD, take, drop}
+use lib.ListN.{length, take, drop}
 use borrow.Author.Tests.{eq-eqb}
 use Rattle.octets.specs.Octets.{Octets, pick}
+use Rattle.state.specs.Commands.{aimIn}
 use Rattle.packets.specs.Segments.{Segment, more, last, segmentsWithin, segments, parse, left, segmentPacket}
 use Rattle.packets.specs.Reassembly.{Run, run, grown, Fit}
 use Rattle.packets.proofs.Reassembly.{run-fits, within}
@@ -216,7 +217,7 @@ pick-same false x = refl
 pub command-way : (aim size : ℕ) (r : ControlRun) (w : List Octets) (gid oid : ℕ) (m : Octets) → gid < 16 → oid < 64
     → ((x : Segment) → meaning (segmentPacket (controlHeader 1 gid oid) x) ≡ control 1 gid oid x)
     → length m ≤ controlLimit → heads w ≡ [] → OnItsWay aim r w
-    → OnItsWay (getD m 0 0 % 16) r (w ++ ordered gid oid (segments size m))
+    → OnItsWay (aimIn m) r (w ++ ordered gid oid (segments size m))
 unfolding left parse Fit
 command-way aim size r w gid oid m low small means short e q =
     let none = no-orders w e (q .complete) in
@@ -368,7 +369,7 @@ way-more aim r p w mt gid oid b means order q =
 
 -- the last segment: what is known of the whole command, and what is then under way
 pub record Whole (aim : ℕ) (r : ControlRun) (w : List Octets) (gid oid : ℕ) (m : Octets) : Type 0 where
-  pub aimed : getD m 0 0 % 16 ≡ aim
+  pub aimed : aimIn m ≡ aim
   pub short : length m ≤ controlLimit
   pub rest : OnItsWay aim (record { mt = 1; gid = gid; oid = oid; run = run [] }) w
 

@@ -1,14 +1,15 @@
 -- The sizes of everything that a bench holds: down keeps them.
 -- Assumes nothing.
-use Prim.Native.Nat.{ℕ, _+_, _≤_, _<_, _%_}
+use Prim.Native.Nat.{ℕ, _+_, _≤_, _<_}
 use native.Mathlib.Omega.{arith}
 use mathlib.Core.Path.{_≡_, refl}
 use mathlib.Core.Bool.{Bool, true, false, _&&_}
 use mathlib.Core.List.{List, [], _∷_}
 use lib.Dec.{eqb, leb}
-use lib.ListN.{length, getD, length-append}
+use lib.ListN.{length, length-append}
 use borrow.Author.Tests.{ltb-false, leb-false}
 use Rattle.octets.specs.Octets.{Octets, pick}
+use Rattle.state.specs.Commands.{aimIn}
 use Rattle.packets.specs.Segments.{Segment, more, last}
 use Rattle.model.specs.Kinds.{Profile, Verdict}
 use Rattle.model.specs.Kinds.verdict as verdict
@@ -107,7 +108,7 @@ module _ (s : State) (aim : ℕ) (l : ℕ → Ledger) (p : Octets) (w : List Oct
   answering-small gid oid x [] b low small fits = joined gid oid x
   answering-small gid oid x (o ∷ ms) b low small fits =
       let z = withAsking (runAfter (s .asking) 1 gid oid x) (withDown w s) in
-      deciding-small z gid oid (getD o 0 0 % 16) (judgeOf (s .profile) (s .controller) (isOpen z) gid oid o) (f .limits)
+      deciding-small z gid oid (aimIn o) (judgeOf (s .profile) (s .controller) (isOpen z) gid oid o) (f .limits)
       (judge-fits (s .profile) (s .controller) (isOpen z) gid oid o) low small fits (joined gid oid x)
 
   store-small : (c : ℕ) → isOpen s c ≡ true → (isOpen s c && leb 8 (length (s .conns c .controller .store))) ≡ false

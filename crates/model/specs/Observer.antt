@@ -1,12 +1,13 @@
 -- The observer: what is counted from arguments, answers, packets put on wires and messages handed out, never from the bench's own
 -- numbers (document 01, "Demand 3 is a single claim about the list"). A refused call counts for nothing.
 -- Assumes nothing.
-use Prim.Native.Nat.{ℕ, _+_, _-_, _%_}
+use Prim.Native.Nat.{ℕ, _+_, _-_}
 use mathlib.Core.Bool.{Bool, true, false}
 use mathlib.Core.List.{List, [], _∷_, _++_}
 use lib.Dec.{eqb}
 use lib.ListN.{getD, drop}
 use Rattle.octets.specs.Octets.{Octets, pick}
+use Rattle.state.specs.Commands.{aimIn}
 use Rattle.wires.specs.Meaning.{Meaning, datum, control, junk, meaning}
 use Rattle.wires.specs.Tally.{saysIn, contents}
 use Rattle.model.specs.State.{State, at}
@@ -173,7 +174,7 @@ airedL m g = pick (eqb (getD m 0 0) 8) (at 0 (spokenL (drop 1 m)) g) g
 abbrev pub seen : Call → Event → Account → Account
 seen (fresh m) e o = opening
 seen power e o = opening
-seen (command gid oid m) e o = record { down = o .down ++ e .toDown; up = o .up; aim = getD m 0 0 % 16; ledger = o .ledger }
+seen (command gid oid m) e o = record { down = o .down ++ e .toDown; up = o .up; aim = aimIn m; ledger = o .ledger }
 seen (send c m) e o = record { down = o .down; up = o .up; aim = o .aim; ledger = at c (sentL m) (o .ledger) }
 seen (push c) e o = record { down = o .down ++ e .toDown; up = o .up; aim = o .aim; ledger = at c pushedL (o .ledger) }
 seen down e o =

@@ -2,13 +2,13 @@
 -- Assumes nothing.
 use Prim.Native.Nat.{ℕ, zero, suc, _%_, _≤_}
 use native.Mathlib.Omega.{arith}
-use mathlib.Core.Path.{_≡_, refl}
+use mathlib.Core.Path.{_≡_, refl, sym, ap, subst}
 use mathlib.Core.Logic.{_⊎_, inl, inr}
 use mathlib.Core.Bool.{Bool, true, false, not, _&&_, true≢false, false≢true}
 use lib.Dec.{eqb, ltb, leb}
 use lib.ListN.{length, getD}
-use borrow.Author.Tests.{eqb-true, ltb-true, ltb-false, leb-true, not-true}
-use Rattle.octets.specs.Octets.{Octets}
+use borrow.Author.Tests.{eqb-true, ltb-true, ltb-false, leb-true, not-true, ne-eqb}
+use Rattle.octets.specs.Octets.{Octets, pick}
 use Rattle.octets.specs.Octal.{Octal}
 use Rattle.octets.proofs.Octal.{octal-at}
 use Rattle.nfcc.specs.Kinds.{Profile, Controller, Pair, Pairs, Rf, Command, Verdict}
@@ -17,7 +17,7 @@ use Rattle.nfcc.specs.Kinds.rf.{Idle, Discovery, W4AllDiscoveries, W4Hos
 use Rattle.nfcc.specs.Kinds.command as command
 use Rattle.nfcc.specs.Kinds.verdict as verdict
 use Rattle.state.specs.Conn.{termsOf}
-use Rattle.state.specs.Commands.{commandOf}
+use Rattle.state.specs.Commands.{commandOf, aimIn}
 use Rattle.state.specs.Radio.{isIdle, isActive, listed}
 use Rattle.state.proofs.Chains.{on, and-left, and-right}
 use Rattle.state.proofs.Steady.{Steady}
@@ -139,24 +139,30 @@ module _ (p : Profile) (k : Controller) (isOpen : ℕ → Bool) (gid oid : ℕ) 
       on (Fits gid oid aim p) (ltb 3 type) (λ e. omega arith)
       (λ e. on (Fits gid oid aim p) (eqb type 0) (λ z. (n .0, inr (n .1))) (λ z. omega arith))
 
-  values-fit : (c : Command) (m : Octets) → Named gid oid c → Fits gid oid (getD m 0 0 % 16) p (valuesOf p k isOpen c m)
-  values-fit command.Reset m n = reset-fits (getD m 0 0 % 16) (getD m 0 0) n
-  values-fit command.Init m n = n
-  values-fit command.ConnCreate m n = create-fits (getD m 0 0 % 16) m n
-  values-fit command.ConnClose m n = close-fits (getD m 0 0) n
-  values-fit command.Discover m n = discover-fits (getD m 0 0 % 16) m n
-  values-fit command.Select m n = select-fits (getD m 0 0 % 16) (k .rf) (k .pairs) (record { id = getD m 0 0; protocol = getD m 1 0 }) (getD m 2 0) n
-  values-fit command.Deactivate m n = deactivate-fits (getD m 0 0 % 16) (k .rf) (getD m 0 0) n
-  values-fit command.Unknown m n = omega arith
+  -- a CONN_CLOSE that is long enough names a connection
+  names-one : (m : Octets) → 1 ≤ length m → getD m 0 0 % 16 ≡ aimIn m
+  names-one m h = ap (λ (b : Bool). pick b 1 (getD m 0 0 % 16)) (sym (ne-eqb (length m) 0 (λ z. omega (arith, h))))
+
+  values-fit : (c : Command) (m : Octets) → shortest c m ≤ length m → Named gid oid c → Fits gid oid (aimIn m) p (valuesOf p k isOpen c m)
+  unfolding shortest
+  values-fit command.Reset m h n = reset-fits (aimIn m) (getD m 0 0) n
+  values-fit command.Init m h n = n
+  values-fit command.ConnCreate m h n = create-fits (aimIn m) m n
+  values-fit command.ConnClose m h n =
+      subst (λ (aim : ℕ). Fits gid oid aim p (valuesOf p k isOpen command.ConnClose m)) (names-one m h) (close-fits (getD m 0 0) n)
+  values-fit command.Discover m h n = discover-fits (aimIn m) m n
+  values-fit command.Select m h n = select-fits (aimIn m) (k .rf) (k .pairs) (record { id = getD m 0 0; protocol = getD m 1 0 }) (getD m 2 0) n
+  values-fit command.Deactivate m h n = deactivate-fits (aimIn m) (k .rf) (getD m 0 0) n
+  values-fit command.Unknown m h n = omega arith
 
   -- every verdict fits its command
-  pub judge-fits : (m : Octets) → Fits gid oid (getD m 0 0 % 16) p (judgeOf p k isOpen gid oid m)
+  pub judge-fits : (m : Octets) → Fits gid oid (aimIn m) p (judgeOf p k isOpen gid oid m)
   unfolding judgeOf
   judge-fits m =
       let c = commandOf gid oid in
-      let aim = getD m 0 0 % 16 in
+      let aim = aimIn m in
       on (Fits gid oid aim p) (ltb (length m) (shortest c m)) (λ e. omega arith)
-      (λ e. on (Fits gid oid aim p) (allowed (k .phase) c) (λ a. values-fit c m (command-named gid oid)) (λ a. omega arith))
+      (λ e. on (Fits gid oid aim p) (allowed (k .phase) c) (λ a. values-fit c m (ltb-false (length m) (shortest c m) e) (command-named gid oid)) (λ a. omega arith))
 
 -- ---- what a verdict says of the state that it was reached in, by the RF state and the connections open at the controller
 

@@ -1,8 +1,9 @@
 -- The commands that the bench knows, by GID and OID.
 -- Assumes nothing.
-use Prim.Native.Nat.{ℕ}
+use Prim.Native.Nat.{ℕ, _%_}
 use lib.Dec.{eqb}
-use Rattle.octets.specs.Octets.{pick}
+use lib.ListN.{length, getD}
+use Rattle.octets.specs.Octets.{Octets, pick}
 use Rattle.state.specs.Kinds.{Command}
 use Rattle.state.specs.Names.{gidCore, gidRf, oidReset, oidInit, oidConnCreate, oidConnClose, oidDiscover, oidSelect, oidDeactivate}
 use Rattle.state.specs.Kinds.command.{Reset, Init, ConnCreate, ConnClose, Discover, Select, Deactivate, Unknown}
@@ -19,3 +20,8 @@ commandOf gid oid =
     (pick (eqb oid oidSelect) Select
     (pick (eqb oid oidDeactivate) Deactivate Unknown)))
     Unknown)
+
+-- the connection that CORE_CONN_CLOSE names: the low four bits of its first octet. One without octets names none, and 1 stands for that: no
+-- connection has this ID
+abbrev pub aimIn : Octets → ℕ
+aimIn m = pick (eqb (length m) 0) 1 (getD m 0 0 % 16)

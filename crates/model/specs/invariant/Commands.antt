@@ -1,12 +1,12 @@
 -- The invariant of demand 3, fourth part: commands and answers on the wires, which of them are under way and what lies behind them.
 -- Assumes nothing.
-use Prim.Native.Nat.{ℕ, _<_, _%_}
+use Prim.Native.Nat.{ℕ, _<_}
 use mathlib.Core.Path.{_≡_}
 use mathlib.Core.Bool.{Bool, true, false}
 use mathlib.Core.List.{List, [], _∷_, _++_}
 use lib.Dec.{eqb}
-use lib.ListN.{getD}
 use Rattle.octets.specs.Octets.{Octets, pick}
+use Rattle.state.specs.Commands.{aimIn}
 use Rattle.packets.specs.Segments.{Segment, more, last, parse, left}
 use Rattle.packets.specs.Reassembly.{run, Fit}
 use Rattle.model.specs.Kinds.{Pending}
@@ -108,7 +108,7 @@ AllNamed n = Each (λ p. NamedIn n (meaning p))
 
 -- every command still to be judged names the connection `aim`, if it names one
 abbrev pub AllAim : ℕ → List Octets → Type 0
-AllAim aim = Each (λ m. getD m 0 0 % 16 ≡ aim)
+AllAim aim = Each (λ m. aimIn m ≡ aim)
 
 -- r is the controller's run of control packets, w the down wire
 pub record OnItsWay (aim : ℕ) (r : ControlRun) (w : List Octets) : Type 0 where
