@@ -2,7 +2,7 @@
 -- Assumes nothing.
 use Prim.Native.Nat.{ℕ, zero, suc, _+_, _%_, _≤_, _<_}
 use native.Mathlib.Omega.{arith}
-use mathlib.Core.Path.{_≡_, refl, sym, ap, _∙_}
+use mathlib.Core.Path.{_≡_, refl, sym, ap, _∙_, subst}
 use mathlib.Core.Bool.{Bool, true, false}
 use mathlib.Core.List.{List, [], _∷_, _++_}
 use lib.ListN.{length, length-take}
@@ -10,20 +10,28 @@ use lib.Dec.{eqb}
 use borrow.Author.Tests.{leb-false, le-ltb, lt-leb}
 use Rattle.octets.specs.Octets.{Octets, pick, cut, splice}
 use Rattle.octets.proofs.Octets.{cut-same}
-use Rattle.calls.specs.Kinds.{Ring, Record}
+use Rattle.calls.specs.Kinds.{Record}
 use Rattle.area.specs.Map.{slotSize, wireSlots, wireSize, areaSize, messageSize, downAt, upAt}
 use Rattle.area.specs.Ring.{trim, slotPacket, tab, packetsFrom}
+use Rattle.area.proofs.Rings.{length-packets}
 use Rattle.record.specs.Reading.{decodeOf}
 use Rattle.record.specs.Fit.{Fit, FitRing}
-use Rattle.model.specs.Effects.{taken}
+use Rattle.state.proofs.Chains.{and-right}
+use Rattle.views.specs.View.{viewOf}
+use Rattle.model.specs.State.{State}
+use Rattle.model.specs.Effects.{Call, taken}
+use Rattle.model.specs.Bench.{step}
 use Rattle.model.specs.Refusals.{first}
+use Rattle.model.specs.Observer.{Event}
 use Rattle.model.proofs.Order.{need}
-use Rattle.calls.specs.Outcome.{lowest}
-use Rattle.calls.specs.Seen.{Puts}
-use Rattle.calls.specs.Refines.{Good, Follows, Along}
+use Rattle.calls.specs.Word.{answerIn, downIn, upIn}
+use Rattle.calls.specs.Outcome.{Outcome, lowest}
+use Rattle.calls.specs.Seen.{Puts, noPuts, starts, isTaken, restarts, seenBy}
+use Rattle.calls.specs.Refines.{Good, Follows, Along, Refines}
 use Rattle.calls.specs.Packet.{wireRing, wireAt, slotBack, packetBack, packetRules, shownPacket, packetCall, Showable, handedBy, lastPackets}
 use Rattle.calls.proofs.Rules.{first-taken}
 use Rattle.calls.proofs.Called.{enters, called-own}
+use Rattle.calls.proofs.Putting.{OnWires, step-puts}
 use Rattle.calls.proofs.Words.{word-handed, word-length}
 
 -- ---- a wire by its number
@@ -45,10 +53,6 @@ wire-room wire = go (eqb wire 0)
     go false = omega arith
 
 -- ---- a packet
-
-pub length-trim : (s : Octets) → length (trim s) ≤ length s
-unfolding trim
-length-trim s = simp length-take (omega arith)
 
 pub length-slot : (base : ℕ) (a : Octets) (i : ℕ) → length (slotPacket base a i) ≤ slotSize
 unfolding slotPacket trim cut
@@ -109,3 +113,50 @@ module _ (a : Octets) (outs : ℕ → Octets) (g : Good a) (room : (i : ℕ) →
       → lastPackets a outs 1 n ≡ packetsFrom upAt wireSlots a p n
   unfolding wireRing wireAt
   up-shown q al p n e few = wire-shown 1 p n (omega arith) few (omega (arith, al .up, e))
+
+-- ---- the packets seen of a call
+
+module _ (c : Call) (p : Puts) (a : Octets) (o : Outcome) (r : Refines c p a o) (outs : ℕ → Octets) (room : (i : ℕ) → messageSize ≤ length (outs i)) where
+  puts : OnWires c (step c (viewOf a) .effect)
+  puts = step-puts c (viewOf a)
+
+  abbrev again : Bool
+  again = restarts c (answerIn (o .word))
+
+  -- a call that starts both wires anew puts nothing, and nothing is read
+  either : (wire base q n : ℕ) → (starts c ≡ true → n ≡ 0)
+      → (again ≡ false → lastPackets (o .area) outs wire n ≡ packetsFrom base wireSlots (o .area) q n)
+      → lastPackets (o .area) outs wire n ≡ packetsFrom base wireSlots (o .area) q n
+  unfolding lastPackets packetsFrom tab
+  either wire base q n none same = go again refl
+    where
+      go : (b : Bool) → again ≡ b → lastPackets (o .area) outs wire n ≡ packetsFrom base wireSlots (o .area) q n
+      go true e =
+          let z = none (and-right (isTaken (answerIn (o .word))) (starts c) e) in
+          (λ i. lastPackets (o .area) outs wire (z i)) ∙ sym (λ i. packetsFrom base wireSlots (o .area) q (z i))
+      go false e = same e
+
+  still : again ≡ false → Along (record { down = p .down + downIn (o .word); up = p .up + upIn (o .word) }) (o .area)
+  still e =
+      subst (λ (b : Bool). Along (pick b noPuts (record { down = p .down + downIn (o .word); up = p .up + upIn (o .word) })) (o .area)) e (r .along)
+
+  -- with any buffers of at least 1,024 octets
+  pub seen-down : seenBy c p o .toDown ≡ lastPackets (o .area) outs 0 (downIn (o .word))
+  seen-down =
+      let n = downIn (o .word) in
+      let many = sym (length-packets downAt wireSlots (o .area) (record { head = p .down; count = n })) ∙ ap (λ (e : Event). length (e .toDown)) (r .event) in
+      let now-on = length-packets downAt wireSlots (o .area) (decodeOf (o .area) .down) in
+      let few : n ≤ decodeOf (o .area) .down .count = omega (arith, many, puts .down, ap (λ (s : State). length (s .down)) (r .next), now-on) in
+      sym
+      (either 0 downAt (p .down) n (λ e. many ∙ puts .none e .0)
+      (λ e. down-shown (o .area) outs (r .good) room _ (still e) (p .down) n refl few))
+
+  pub seen-up : seenBy c p o .toUp ≡ lastPackets (o .area) outs 1 (upIn (o .word))
+  seen-up =
+      let n = upIn (o .word) in
+      let many = sym (length-packets upAt wireSlots (o .area) (record { head = p .up; count = n })) ∙ ap (λ (e : Event). length (e .toUp)) (r .event) in
+      let now-on = length-packets upAt wireSlots (o .area) (decodeOf (o .area) .up) in
+      let few : n ≤ decodeOf (o .area) .up .count = omega (arith, many, puts .up, ap (λ (s : State). length (s .up)) (r .next), now-on) in
+      sym
+      (either 1 upAt (p .up) n (λ e. many ∙ puts .none e .1)
+      (λ e. up-shown (o .area) outs (r .good) room _ (still e) (p .up) n refl few))
