@@ -19,9 +19,10 @@
  * taken changes octets among the first 36,864 of the area, and of the buffer only
  * the front that the message handed out fills. All other octets keep their values.
  *
- * Nothing is kept between calls: no pointer, no allocation, no variable. Calls on
- * different areas, each with its own buffer, may run at the same time. Calls on
- * one area are made one after the other, and nobody else writes it meanwhile.
+ * Nothing is kept between calls: no pointer, no allocation, no variable. A stack of
+ * 12,288 octets suffices for every call. Calls on different areas, each with its own
+ * buffer, may run at the same time. Calls on one area are made one after the other,
+ * and nobody else writes it meanwhile.
  *
  * What a call returns. One number of 64 bits, the word. The functions nci_word_..
  * below take it apart: the answer, the drop flag, whether a message was handed

@@ -126,6 +126,7 @@ def valgrind(folder):
     check = ["valgrind", "--quiet", "--error-exitcode=9"]
     run(*check, build_c("exports", "gcc", folder, LIB / "libnci_bench.a"))
     print(run(*check, build_c("damaged", "gcc", folder, LIB / "libnci_bench.a"), VALGRIND_CALLS), end="")
+    run(*check, COMPARE / "target" / "release" / "damaged", VALGRIND_CALLS)
 
 
 # ---- beside the second implementation

@@ -152,7 +152,7 @@ impl Damage {
         self.after.both.put(octets);
         self.after.lines.clear();
         for _ in 0..self.random.below(GOING_ON) {
-            self.after.next()?;
+            self.after.next_call()?;
         }
         Ok(())
     }
@@ -184,8 +184,8 @@ fn mend(record: &mut [u8]) {
     for size in [0, 11] {
         record[size] = record[size].max(32);
     }
-    for term in 1..5 {
-        record[term] = record[term].max(1);
+    for term in &mut record[1..5] {
+        *term = (*term).max(1);
     }
     if record[23] == 1 {
         record[23] = 2;

@@ -37,7 +37,7 @@ impl Lists {
     pub fn play(&mut self, most: usize) -> Result<(), String> {
         let most = most.clamp(1, LIST_CALLS);
         let place = self.both.tally.lists;
-        let (length, profile) = if place % LED == 0 {
+        let (length, profile) = if place.is_multiple_of(LED) {
             (most, self.player.begin_towards(GOALS[(place / LED) as usize % GOALS.len()]))
         } else {
             (self.player.list_length(most), self.player.begin())
@@ -45,13 +45,13 @@ impl Lists {
         self.lines.clear();
         self.both.begin(profile)?;
         for _ in 1..length {
-            self.next()?;
+            self.next_call()?;
         }
         Ok(())
     }
 
     /// The next call of the list. A bench that is damaged has none.
-    pub fn next(&mut self) -> Result<(), String> {
+    pub fn next_call(&mut self) -> Result<(), String> {
         let Some(bench) = &self.both.second else {
             return Ok(());
         };
