@@ -2,7 +2,6 @@
 // function is the definition of its name in specs/Judge.antt, test by test. Tags are looked at in the octets, since a
 // record has none that is not there.
 use crate::places;
-use crate::read::decode;
 use area::map::AREA;
 use area::map::CONTROL;
 use area::map::MESSAGE;
@@ -22,6 +21,7 @@ ghost use Prim.Native.Nat.{_+_, _≤_};
 ghost use lib.ListN.{length};
 ghost use Rattle.area.specs.Map.{areaSize};
 ghost use Rattle.record.specs.Layout.{countsSize, connsSize, recordEnd};
+ghost use Rattle.record.specs.Reading.{decodeOf};
 ghost use Rattle.record.specs.Judge.{handOk, givenOk, hostSideOk, controllerSideOk, countsOk, connsOk, endsOk, recordOk, rfKnown, connKnown, connsKnown, tagsOk, judgeOf};
 
 // Where tags stand in the record: of the unanswered command, of the two control runs, of the RF state and its selection.
@@ -149,12 +149,12 @@ fn tags_ok(s: &[u8]) -> bool
 }
 
 // Whether row 1 does not apply.
-pub fn judge(area: &[u8]) -> bool
-    requires { ⌜ areaSize ≤ length (now area) ⌝ }
-    ensures { λ r. ⌜ r ≡ judgeOf (now (area .entry)) ⌝ }
+// The area's record r is decoded by the caller, who needs it too.
+pub fn judge(area: &[u8], r: Record) -> bool
+    requires { ⌜ (areaSize ≤ length (now area)) × (r ≡ decodeOf (now area)) ⌝ }
+    ensures { λ ok. ⌜ ok ≡ judgeOf (now (area .entry)) ⌝ }
 {
     let known = tags_ok(&area[RECORD_AT..AREA]);
-    let r = decode(area);
     let ok = record_ok(r);
     known & ok
 }

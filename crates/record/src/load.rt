@@ -32,17 +32,11 @@ pub fn load(area: &[u8]) -> Loaded
             record: blank(),
         };
     }
-    let good = judge(area);
     let r = decode(area);
-    if good {
-        Loaded {
-            answer: 0,
-            record: r,
-        }
-    } else {
-        Loaded {
-            answer: 1,
-            record: r,
-        }
+    let good = judge(area, r);
+    let answer = octets::choose(good, 0, 1);
+    Loaded {
+        answer: answer,
+        record: r,
     }
 }

@@ -19,15 +19,12 @@ part-tags-ok-end c = search needs
 tags-ok-requires : tie.Need-tags-ok-requires
 tags-ok-requires c κs = search needs
 
-decode-requires : tie.Need-decode-requires
-decode-requires c κs = search needs
-
 record-ok-requires : tie.Need-record-ok-requires
 record-ok-requires c κs = search needs
 
 returns : tie.Need-returns
 unfolding judgeOf slot cut
-returns c = rw (c .record-ok .ensures, c .before .decode .ensures, c .before .before .tags-ok .ensures)
+returns c = rw (c .record-ok .ensures, c .before .tags-ok .ensures, c .before .before .before .before .pre .1)
 
 pub judge-spec : {M : Type 1} → statement M
 judge-spec =
@@ -37,6 +34,5 @@ judge-spec =
     part-tags-ok-start
     part-tags-ok-end
     tags-ok-requires
-    decode-requires
     record-ok-requires
     returns)
