@@ -225,7 +225,7 @@ impl Reader<'_> {
 /// The first part in which two benches differ, or none.
 ///
 /// A control run without octets that is not lost goes on like none, whatever message
-/// it names. A command that named no connection is kept as naming 0.
+/// it names. A command that named no connection is kept as naming 1, which no connection is.
 pub fn difference(one: &Bench, other: &Bench) -> Option<&'static str> {
     let parts = [
         ("the profile", one.profile == other.profile && one.controller.profile == other.controller.profile),
@@ -247,7 +247,7 @@ pub fn difference(one: &Bench, other: &Bench) -> Option<&'static str> {
 }
 
 fn unanswered(bench: &Bench) -> Option<(u8, u8, u8)> {
-    bench.host.unanswered.map(|command| (command.gid, command.oid, command.named.unwrap_or(0)))
+    bench.host.unanswered.map(|command| (command.gid, command.oid, command.named.unwrap_or(1)))
 }
 
 fn same_run(one: &ControlRun, other: &ControlRun) -> bool {

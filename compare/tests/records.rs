@@ -48,7 +48,6 @@ fn forge_up(both: &mut Both, packet: &[u8]) {
 
 /// Only on a damaged bench: a sound controller answers a CONN_CLOSE without octets by 05.
 #[test]
-#[ignore = "open: the proved host takes a CONN_CLOSE without octets for one of connection 0"]
 fn a_close_that_names_no_connection_closes_none() {
     let mut both = active();
     forge_up(&mut both, &[0x40, 0x05, 0x01, 0x00]);
