@@ -1,17 +1,22 @@
 #!/usr/bin/env python3
-"""The documents name what is there: every name in backticks is found in the repository, and the README's list of what is to be read is what the claim's
-imports reach, with the lines of each file. `--reading` prints that list; `--write` writes the lines and sums of today into the documents. The last line is
-'documents: N passed, M failed'."""
+"""The documents name what is there: every name in backticks is found in the repository, in the file or module that is named with it; every public function has
+its wrong programs and every must-fail edit its row; no cell of a table holds more than three names; and the README's list of what is to be read is what the
+claim's imports reach, with the lines of each file. `--reading` prints that list; `--write` writes the lines and sums of today into the documents. The last line
+is 'documents: N passed, M failed'."""
 import os
 import re
 import sys
 
 ROOT = os.path.join(os.path.dirname(os.path.abspath(__file__)), "..")
-DOCUMENTS = ["README.md", "examples/README.md", "docs"]
+DOCUMENTS = ["README.md", "examples/README.md", "second/README.md", "compare/README.md", "docs"]
 # what the claim speaks of, and what is proved beside it
 CLAIM = "crates/calls/specs/Demand.antt"
 BESIDE = ["Packet", "Refines", "Reached", "Played"]
 SKIPPED = {".git", "target", "build"}
+WRONG = "docs/WRONG-PROGRAMS.md"
+LOGS = "docs/PROOFS.md"
+# crates of programs: their functions have no contracts of their own, other scripts compare what they print
+PROGRAMS = {"text", "vectors", "steps", "paper"}
 
 
 def files():
@@ -149,6 +154,91 @@ def unknown(document, texts, words):
             yield name
 
 
+def placed(name, texts):
+    """The files that `crate/File` stands for: a definition file, a proof file or a module of the crate."""
+    crate, _, rest = name.partition("/")
+    ends = ("specs/%s.antt", "%s.antt", "src/%s.rt", "must-fail/%s.edit")
+    return [p for p in ("crates/%s/" % crate + e % rest for e in ends) if p in texts]
+
+
+def cells(text):
+    """The cells of all tables, each with the heading of its column and the files that its section names."""
+    heads, files = [], []
+    for line in text.split("\n"):
+        if line.startswith("#"):
+            files = []
+        named = re.search(r"Definitions: ((?:`[^`]+`(?:, )?)+)\.", line)
+        if named:
+            files = re.findall(r"`([^`]+)`", named.group(1))
+        if not line.startswith("|"):
+            heads = []
+        elif not heads:
+            heads = [h.strip() for h in line.strip("|").split("|")]
+        elif not line.startswith("|--"):
+            row = [c.strip() for c in re.split(r"(?<!\\)\|", line.strip("|"))]
+            for head, cell in zip(heads, row):
+                yield head, cell, files
+
+
+def has(text, name):
+    return re.search(r"(?<![\w-])%s(?![\w-])" % re.escape(name), text) is not None
+
+
+def misplaced(document, texts):
+    """Names that are not in the file or the module which the document gives for them, and cells that are too full."""
+    for name in sorted(set(re.findall(r"`([a-z_]+/\w+(?:/\w+)*)`", texts[document]))):
+        if "crates/" + name.split("/")[0] in {os.path.dirname(os.path.dirname(p)) for p in texts if p.startswith("crates/")}:
+            if not placed(name, texts) and not any(("/%s/" % name) in p for p in texts):
+                yield "there is no file `%s`" % name
+    for module, name in sorted(set(re.findall(r"`([a-z_]+)::([a-z_]+)`", texts[document]))):
+        ends = ("/src/%s.rt" % module, "crates/%s/src/lib.rt" % module)
+        sources = [p for p in texts if p.startswith("crates/") and p.endswith(ends)]
+        if not any(re.search(r"\bfn %s\b" % name, texts[p]) for p in sources):
+            yield "no module %s has a function %s" % (module, name)
+    for head, cell, files in cells(texts[document]):
+        names = re.findall(r"`([^`]+)`", cell)
+        if len(names) > 4 or len([n for n in names if "/" not in n]) > 3:
+            yield "a cell has too many names: %s" % cell
+        for part in cell.split(";"):
+            inside = re.search(r"((?:`[^`/]+`(?:, | and )?)+) in `(\w+/[\w/]+)`$", part.strip())
+            found = re.findall(r"`([^`]+)`", part)
+            if inside:
+                found, where = re.findall(r"`([^`]+)`", inside.group(1)), [inside.group(2)]
+            elif head == "definition" and files:
+                where = files
+            else:
+                continue
+            sources = [p for w in where for p in placed(w, texts)]
+            for name in found:
+                if not any(has(texts[p], name) for p in sources):
+                    yield "`%s` is not in %s" % (name, ", ".join(where))
+
+
+def public_functions(texts):
+    """module::function of every public function that has a contract."""
+    for path in sorted(texts):
+        parts = path.split("/")
+        if parts[0] == "crates" and parts[2] == "src" and path.endswith(".rt") and parts[1] not in PROGRAMS:
+            module = os.path.splitext(parts[-1])[0]
+            module = parts[1] if module == "lib" else module
+            for name in re.findall(r"^pub (?:extern \"C\" )?fn (\w+)", texts[path], re.M):
+                yield name if module == "exports" else "%s::%s" % (module, name)
+
+
+def unruled(texts):
+    """Public functions without wrong programs, and must-fail edits without a row in the tables of wrong programs or of logs."""
+    firsts = set(re.findall(r"^\| `([^`]+)` \|", texts[WRONG], re.M))
+    for name in public_functions(texts):
+        if name not in firsts:
+            yield "%s has no row for %s" % (WRONG, name)
+    for path in sorted(texts):
+        if re.fullmatch(r"crates/\w+/must-fail/\w+\.edit", path):
+            edit = "%s/%s" % (path.split("/")[1], os.path.splitext(os.path.basename(path))[0])
+            for document in (WRONG, LOGS):
+                if "`%s`" % edit not in texts[document]:
+                    yield "%s does not name %s" % (document, edit)
+
+
 def main():
     texts = dict(files())
     if "--write" in sys.argv:
@@ -158,17 +248,15 @@ def main():
         for path in sorted(reached(CLAIM, texts)):
             print(path, lines(path, texts))
         return 0
-    failed, passed = 0, 0
-    problems = list(reading(texts))
-    for problem in problems:
-        print("reading:", problem)
-    failed, passed = (1, 0) if problems else (0, 1)
     words = words_of(texts)
+    checks = {"reading": list(reading(texts)), "wrong programs": list(unruled(texts))}
     for document in sorted(p for p in texts if p.endswith(".md") and (p in DOCUMENTS or p.split("/")[0] in DOCUMENTS)):
-        names = list(unknown(document, texts, words))
-        for name in names:
-            print("%s: `%s` is nowhere" % (document, name))
-        failed, passed = (failed + 1, passed) if names else (failed, passed + 1)
+        checks[document] = ["`%s` is nowhere" % name for name in unknown(document, texts, words)] + list(misplaced(document, texts))
+    for name, problems in checks.items():
+        for problem in problems:
+            print("%s: %s" % (name, problem))
+    failed = sum(1 for problems in checks.values() if problems)
+    passed = len(checks) - failed
     print("documents: %d passed, %d failed" % (passed, failed))
     return 1 if failed else 0
 
