@@ -1,10 +1,10 @@
--- `text::digit` meets its contract: a decimal digit, or a letter.
+-- `ascii::hex::digit` meets its contract: a decimal digit, or a letter.
 -- Assumes nothing.
 use borrow.Author.Needs.{needs}
 use mathlib.Core.Path.{sym}
-use Rattle.text.proofs.Digits.{digit-decimal, digit-letter}
-use Rattle.text.proofs.digit.Statement.{statement}
-use Rattle.text.proofs.digit.Tie as tie
+use Rattle.ascii.proofs.Digits.{digit-decimal, digit-letter}
+use Rattle.ascii.proofs.hex.digit.Statement.{statement}
+use Rattle.ascii.proofs.hex.digit.Tie as tie
 
 add-result : tie.Need-add-result
 add-result c = search needs

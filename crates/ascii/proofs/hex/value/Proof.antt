@@ -1,10 +1,10 @@
--- `text::value` meets its contract, case by case.
+-- `ascii::hex::value` meets its contract, case by case.
 -- Assumes nothing.
 use borrow.Author.Needs.{needs}
 use mathlib.Core.Path.{sym}
-use Rattle.text.proofs.Digits.{value-low, value-decimal, value-between, value-letter, value-high}
-use Rattle.text.proofs.value.Statement.{statement}
-use Rattle.text.proofs.value.Tie as tie
+use Rattle.ascii.proofs.Digits.{value-low, value-decimal, value-between, value-letter, value-high}
+use Rattle.ascii.proofs.hex.value.Statement.{statement}
+use Rattle.ascii.proofs.hex.value.Tie as tie
 
 sub-result : tie.Need-sub-result
 sub-result c = search needs
