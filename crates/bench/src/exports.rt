@@ -221,8 +221,9 @@ pub extern "C" fn nci_air(area: &mut [u8], out: &mut [u8], event: &[u8]) -> u64
     airing::act(area, r, event)
 }
 
-// Five numbers of a connection. It is exported with the claim that it belongs to.
-pub fn report(area: &mut [u8], out: &mut [u8], conn: u8) -> u64
+// Five numbers of a connection.
+#[no_mangle]
+pub extern "C" fn nci_report(area: &mut [u8], out: &mut [u8], conn: u8) -> u64
     ensures { λ w. ⌜ outcome w (now (area .exit)) (now (out .exit)) ≡ reportCall (now (area .entry)) (now (out .entry)) conn ⌝ }
 {
     let l = enter(area, out.len());

@@ -1,4 +1,4 @@
--- `bench::exports::report` meets its contract: not entered, refused, or taken.
+-- `bench::exports::nci_report` meets its contract: not entered, refused, or taken.
 -- Assumes nothing.
 use Rattle.model.specs.calls.Report.{reportRules}
 use Rattle.calls.specs.calls.Report.{reported, reportCall}
@@ -12,8 +12,8 @@ use Rattle.views.specs.View.{view}
 use Rattle.calls.specs.Outcome.{outcome, lowest}
 use Rattle.calls.proofs.Called.{entered, called-unentered, called-refused, called-taken}
 use borrow.Author.Needs.{needs}
-use Rattle.bench.proofs.exports.report.Statement.{statement}
-use Rattle.bench.proofs.exports.report.Tie as tie
+use Rattle.bench.proofs.exports.nci_report.Statement.{statement}
+use Rattle.bench.proofs.exports.nci_report.Tie as tie
 
 enter-requires : tie.Need-enter-requires
 enter-requires c κs = search needs
@@ -82,8 +82,8 @@ returns-3 c =
     ∙ (λ i. reported (same i) (s .args .conn) a out)
     ∙ called-taken _ _ a out (sym z ∙ e .answer) refl none
 
-pub report-spec : {M : Type 1} → statement M
-report-spec =
+pub nci-report-spec : {M : Type 1} → statement M
+nci-report-spec =
     tie.close
     (tie.spec
     enter-requires
