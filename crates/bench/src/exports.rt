@@ -221,7 +221,7 @@ pub extern "C" fn nci_air(area: &mut [u8], out: &mut [u8], event: &[u8]) -> u64
     airing::act(area, r, event)
 }
 
-// Five numbers of a connection.
+// Five numbers of a connection. It is exported with the claim that it belongs to.
 #[no_mangle]
 pub extern "C" fn nci_report(area: &mut [u8], out: &mut [u8], conn: u8) -> u64
     ensures { λ w. ⌜ outcome w (now (area .exit)) (now (out .exit)) ≡ reportCall (now (area .entry)) (now (out .entry)) conn ⌝ }
