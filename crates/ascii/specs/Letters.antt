@@ -8,9 +8,6 @@ blank = 32
 abbrev pub dash : ℕ
 dash = 45
 
-abbrev pub zero : ℕ
-zero = 48
-
 abbrev pub equals : ℕ
 equals = 61
 
@@ -71,8 +68,11 @@ t = 116
 abbrev pub u : ℕ
 u = 117
 
+abbrev pub v : ℕ
+v = 118
+
 abbrev pub w : ℕ
 w = 119
 
-abbrev pub x : ℕ
-x = 120
+abbrev pub y : ℕ
+y = 121

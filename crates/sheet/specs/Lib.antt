@@ -1,0 +1,5 @@
+pub mod Kinds
+pub mod Names
+pub mod Form
+pub mod Play
+pub mod Show
