@@ -1,6 +1,7 @@
 // The calls as C makes them. Each takes any area, any buffer and any arguments, and answers its effect or one number.
 use crate::entry::enter;
 use crate::fresh;
+use crate::packet;
 use crate::power;
 use crate::report;
 use controller_calls::airing;
@@ -26,6 +27,7 @@ ghost use Rattle.calls.specs.calls.Reply.{replyCall};
 ghost use Rattle.calls.specs.calls.Up.{upCall};
 ghost use Rattle.calls.specs.calls.Air.{airCall};
 ghost use Rattle.calls.specs.calls.Report.{reportCall};
+ghost use Rattle.calls.specs.Packet.{packetCall};
 
 // A new bench with a profile of five octets.
 #[no_mangle]
@@ -237,4 +239,23 @@ pub extern "C" fn nci_report(area: &mut [u8], out: &mut [u8], conn: u8) -> u64
         return n as u64;
     }
     report::act(area, out, r, conn)
+}
+
+// The packet of a wire (0 the down wire, 1 the up wire) after which so many others were put, for front ends that show packets. It
+// is none of the twelve calls.
+#[no_mangle]
+pub extern "C" fn nci_packet(area: &[u8], out: &mut [u8], wire: u8, back: u8) -> u64
+    ensures { λ w. ⌜ outcome w (now (area .entry)) (now (out .exit)) ≡ packetCall (now (area .entry)) (now (out .entry)) wire back ⌝ }
+{
+    let l = enter(area, out.len());
+    let entry = l.answer;
+    if entry != 0 {
+        return entry as u64;
+    }
+    let r = l.record;
+    let n = packet::refusal(r, wire, back);
+    if n != 0 {
+        return n as u64;
+    }
+    packet::act(area, out, r, wire, back)
 }

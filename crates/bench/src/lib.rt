@@ -4,5 +4,6 @@
 pub mod entry;
 pub mod exports;
 pub mod fresh;
+pub mod packet;
 pub mod power;
 pub mod report;

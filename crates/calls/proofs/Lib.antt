@@ -11,6 +11,8 @@ pub mod Airing
 pub mod Pushing
 pub mod Starting
 pub mod Reporting
+pub mod Putting
+pub mod Showing
 pub mod Entering
 pub mod Sending
 pub mod Crediting

@@ -3,4 +3,5 @@ pub mod Word
 pub mod Outcome
 pub mod Seen
 pub mod Refines
+pub mod Packet
 pub mod calls
