@@ -70,10 +70,10 @@ value-digit n = go (decLt (n % 16) 10)
         let e : digitOf n ≡ 55 + n % 16 = digit-letter n (omega arith) in
         value-letter (digitOf n) (omega arith) (omega arith) ∙ omega arith
 
-digit-over : (n : ℕ) → 32 < digitOf n
-digit-over n = go (decLt (n % 16) 10)
+pub digit-least : (n : ℕ) → 48 ≤ digitOf n
+digit-least n = go (decLt (n % 16) 10)
   where
-    go : Dec (n % 16 < 10) → 32 < digitOf n
+    go : Dec (n % 16 < 10) → 48 ≤ digitOf n
     go (yes d) = omega (arith, digit-decimal n d)
     go (no d) = let h : 10 ≤ n % 16 = omega arith in omega (arith, digit-letter n h)
 
@@ -89,10 +89,13 @@ unfolding hexOf
 length-hex [] = refl
 length-hex (x ∷ l) = let e : length (hexOf l) ≡ 2 * length l = length-hex l in omega arith
 
+digit-solid : (n : ℕ) → 32 < digitOf n
+digit-solid n = omega (arith, digit-least n)
+
 pub hex-solid : (l : Octets) → Solid (hexOf l)
 unfolding hexOf
 hex-solid [] = solid-nil
-hex-solid (x ∷ l) = solid-cons (digit-over (x / 16)) (solid-cons (digit-over x) (hex-solid l))
+hex-solid (x ∷ l) = solid-cons (digit-solid (x / 16)) (solid-cons (digit-solid x) (hex-solid l))
 
 -- ---- allDigits, isHex
 

@@ -2,15 +2,16 @@
 -- Assumes nothing.
 use Prim.Native.Nat.{ℕ, _+_, _-_, _≤_, _<_}
 use mathlib.Core.Path.{_≡_, refl, sym, ap, _∙_}
-use mathlib.Core.Bool.{true, false}
+use mathlib.Core.Bool.{Bool, true, false}
 use native.Mathlib.Omega.{arith}
-use borrow.Author.Tests.{lt-ltb, le-ltb}
+use borrow.Author.Tests.{lt-ltb, le-ltb, ltb-true, ltb-false}
 use lib.ListN.{length, take, drop, length-drop}
 use lib.Seq.{take-all}
 use lib.Dec.{ltb}
-use Rattle.octets.specs.Octets.{Octets, cut}
+use Rattle.octets.specs.Octets.{Octets, pick, cut}
 use Rattle.ascii.specs.Words.{upTo}
 use Rattle.ascii.specs.Writing.{Wrote}
+use Rattle.ascii.specs.Kinds.{Taken}
 use Rattle.ascii.specs.Input.{lineFeed, partOf, Takes}
 use Rattle.ascii.proofs.Words.{up-to-front, up-to-short}
 use Rattle.ascii.proofs.Writing.{wrote-text}
@@ -55,3 +56,22 @@ module _ (line piece after : Octets) (held from n k : ℕ) (found : n ≡ length
         whole = sym (le-ltb _ _ open-end);
         next = λ i. from + size i;
       }
+
+-- something is taken where there is something, and the index after it lies in the piece
+module _ (line piece after : Octets) (held from : ℕ) (t : Taken) (k : Takes line held piece from t after) (some : from < length piece) where
+  rest-long : length (drop from piece) ≡ length piece - from
+  rest-long = length-drop from piece
+
+  pub takes-on : (from < t .next) × (t .next ≤ length piece)
+  takes-on = go (t .whole) refl
+    where
+      go : (b : Bool) → t .whole ≡ b → (from < t .next) × (t .next ≤ length piece)
+      go true e =
+          let next : t .next ≡ from + length (partOf piece from) + 1 = k .next ∙ ap (λ (x : Bool). pick x (from + length (partOf piece from) + 1) (from + length (partOf piece from))) e in
+          let inside : length (partOf piece from) < length (drop from piece) = ltb-true _ _ (sym (k .whole) ∙ e) in
+          (omega (arith, rest-long), omega (arith, rest-long))
+      go false e =
+          let next : t .next ≡ from + length (partOf piece from) = k .next ∙ ap (λ (x : Bool). pick x (from + length (partOf piece from) + 1) (from + length (partOf piece from))) e in
+          let all : length (drop from piece) ≤ length (partOf piece from) = ltb-false _ _ (sym (k .whole) ∙ e) in
+          let most : length (partOf piece from) ≤ length (drop from piece) = up-to-short lineFeed (drop from piece) in
+          (omega (arith, rest-long), omega (arith, rest-long))

@@ -5,7 +5,7 @@ use mathlib.Core.Path.{_≡_}
 use mathlib.Core.Bool.{Bool, true, false, _&&_}
 use mathlib.Core.List.{[], _∷_}
 use lib.ListN.{length, drop, getD}
-use lib.Dec.{eqb, leb}
+use lib.Dec.{eqb, leb, ltb}
 use Rattle.octets.specs.Octets.{Octets, pick, splice}
 use Rattle.ascii.specs.Letters as letter
 use Rattle.ascii.specs.Words.{startsWith, upTo}
@@ -48,8 +48,8 @@ argsOf l = pick (formed l) (octetsIn (digitsIn l)) []
 
 unfoldable pub kindFits : ℕ → ℕ → Bool
 kindFits kind n =
-    pick (eqb kind 1) (leb 5 n)
-    (pick (eqb kind 2) (leb 4 n) (pick (eqb kind 3) (leb 4 n) (pick (leb 4 kind && leb kind 7) (eqb n 1) (leb 1 n))))
+    pick (eqb kind 0) (leb 1 n)
+    (pick (eqb kind 1) (leb 5 n) (pick (ltb kind 4) (leb 4 n) (pick (ltb kind 8) (eqb n 1) (leb 1 n))))
 
 abbrev pub fits : Name → Octets → Bool
 fits Fresh m = eqb (length m) 5

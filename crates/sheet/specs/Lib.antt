@@ -3,3 +3,5 @@ pub mod Names
 pub mod Form
 pub mod Play
 pub mod Show
+pub mod Sheet
+pub mod Told

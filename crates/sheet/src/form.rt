@@ -54,12 +54,19 @@ fn formed(line: &[u8]) -> bool
 fn kind_fits(kind: u8, n: usize) -> bool
     ensures { λ r. ⌜ r ≡ kindFits kind n ⌝ }
 {
-    match kind {
-        1 => 5 <= n,
-        2 | 3 => 4 <= n,
-        4..=7 => n == 1,
-        _ => 1 <= n,
+    if kind == 0 {
+        return 1 <= n;
     }
+    if kind == 1 {
+        return 5 <= n;
+    }
+    if kind < 4 {
+        return 4 <= n;
+    }
+    if kind < 8 {
+        return n == 1;
+    }
+    1 <= n
 }
 
 // Whether a call has its fixed octets, and none to spare.

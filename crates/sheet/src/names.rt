@@ -27,7 +27,21 @@ pub enum Name {
 pub fn is_bad(name: Name) -> bool
     ensures { λ r. ⌜ r ≡ isBad name ⌝ }
 {
-    if let Name::Bad = name { true } else { false }
+    match name {
+        Name::Fresh => false,
+        Name::Power => false,
+        Name::Command => false,
+        Name::Send => false,
+        Name::Push => false,
+        Name::Down => false,
+        Name::Consume => false,
+        Name::Credit => false,
+        Name::Air => false,
+        Name::Reply => false,
+        Name::Up => false,
+        Name::Report => false,
+        Name::Bad => true,
+    }
 }
 
 // The name that a word is.

@@ -46,30 +46,27 @@ same-length c = search needs
 
 returns : tie.Need-returns
 returns c =
-    takes-line
-    (c .before .before .before .before .before .before .before .before .before .before .args .line .now)
-    (c .before .before .before .before .before .before .before .before .before .before .args .piece .now) _ (c .before .before .before .before .before .before .before .before .before .before .args .held)
-    (c .before .before .before .before .before .before .before .before .before .before .args .from)
-    (c .before .before .before .before .before .before .before2 .result)
-    (c .before .before .before .put .result)
-    (c .before .before .before .before .before .before .before2 .ensures)
-    (wrote-text (c .before .before .before .before .window .ensures)
-    (c .before .before .before .put .ensures))
-    (c .if1 .taken)
+    let a = c .before .before .before .before .before .before .before .before .before .before .args in
+    let n = c .before .before .before .before .before .before .before2 in
+    let w = wrote-text (c .before .before .before .before .window .ensures) (c .before .before .before .put .ensures) in
+    takes-line (a .line .now) (a .piece .now) _ (a .held) (a .from) (n .result) (c .before .before .before .put .result) (n .ensures) w (c .if1 .taken)
 
 add-t9 : tie.Need-add-t9
 add-t9 c =
-    omega
-    (arith, taken-short (c .before .before .before .before .before .before .before .before .before .before .args .line .now) (c .before .before .before .before .before .before .before .before .before .before .args .piece .now) _ (c .before .before .before .before .before .before .before .before .before .before .args .held) (c .before .before .before .before .before .before .before .before .before .before .args .from) (c .before .before .before .before .before .before .before2 .result) (c .before .before .before .put .result) (c .before .before .before .before .before .before .before2 .ensures) (wrote-text (c .before .before .before .before .window .ensures) (c .before .before .before .put .ensures)) (c .before .before .before .before .before .before .before .before .before .before .pre .1))
+    let a = c .before .before .before .before .before .before .before .before .before .before .args in
+    let n = c .before .before .before .before .before .before .before2 in
+    let w = wrote-text (c .before .before .before .before .window .ensures) (c .before .before .before .put .ensures) in
+    omega (arith, taken-short (a .line .now) (a .piece .now) _ (a .held) (a .from) (n .result) (c .before .before .before .put .result) (n .ensures) w (c .before .before .before .before .before .before .before .before .before .before .pre .1))
 
 same-length-2 : tie.Need-same-length-2
 same-length-2 c = search needs
 
 returns-2 : tie.Need-returns-2
 returns-2 c =
-    takes-piece
-    (c .before .before .before .before .before .before .before .before .before .before .args .line .now) (c .before .before .before .before .before .before .before .before .before .before .args .piece .now) _ (c .before .before .before .before .before .before .before .before .before .before .args .held) (c .before .before .before .before .before .before .before .before .before .before .args .from) (c .before .before .before .before .before .before .before2 .result) (c .before .before .before .put .result) (c .before .before .before .before .before .before .before2 .ensures) (wrote-text (c .before .before .before .before .window .ensures) (c .before .before .before .put .ensures))
-    (c .if1 .left)
+    let a = c .before .before .before .before .before .before .before .before .before .before .args in
+    let n = c .before .before .before .before .before .before .before2 in
+    let w = wrote-text (c .before .before .before .before .window .ensures) (c .before .before .before .put .ensures) in
+    takes-piece (a .line .now) (a .piece .now) _ (a .held) (a .from) (n .result) (c .before .before .before .put .result) (n .ensures) w (c .if1 .left)
 
 pub take-spec : {M : Type 1} → statement M
 take-spec =

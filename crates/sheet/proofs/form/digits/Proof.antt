@@ -1,22 +1,23 @@
+-- `sheet::form::digits` meets its contract.
+-- Assumes nothing.
+use mathlib.Core.Path.{_∙_}
+use lib.ListN.{length}
+use Rattle.octets.specs.Octets.{cut}
+use Rattle.sheet.proofs.Forming.{tail-rest}
 use borrow.Author.Needs.{needs}
 use Rattle.sheet.proofs.form.digits.Statement.{statement}
 use Rattle.sheet.proofs.form.digits.Tie as tie
-use Rattle.sheet.proofs.form.digits.Reads as reads
-use Rattle.sheet.proofs.form.digits.Lts as lts
-use Rattle.octets.proofs.window.Reads as window-reads
-use Rattle.sheet.proofs.form.tail.Reads as tail-reads
 
--- src/form.rt:40:12
 tail-requires : tie.Need-tail-requires
 tail-requires c κs = search needs
 
--- src/form.rt:40:5
 window-requires : tie.Need-window-requires
 window-requires c κs = search needs
 
--- src/form.rt:37:1
 returns : tie.Need-returns
-returns c = ?
+returns c =
+    let line = c .before .before .before .args .line .now in
+    c .window .ensures ∙ (λ i. cut 5 (length line) (c .before .tail .ensures i)) ∙ tail-rest 5 line
 
 pub digits-spec : {M : Type 1} → statement M
 digits-spec = tie.close (tie.spec tail-requires window-requires returns)

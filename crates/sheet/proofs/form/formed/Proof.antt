@@ -1,49 +1,48 @@
+-- `sheet::form::formed` meets its contract.
+-- Assumes nothing.
+use mathlib.Core.Path.{_∙_}
+use mathlib.Core.Bool.{_&&_}
+use lib.ListN.{length}
+use lib.Dec.{leb}
+use Rattle.ascii.specs.Words.{startsWith}
+use Rattle.ascii.specs.Digits.{isHex}
+use Rattle.sheet.specs.Form.{evLabel, argLabel, formed}
 use borrow.Author.Needs.{needs}
 use Rattle.sheet.proofs.form.formed.Statement.{statement}
 use Rattle.sheet.proofs.form.formed.Tie as tie
-use Rattle.sheet.proofs.form.formed.Reads as reads
-use Rattle.sheet.proofs.form.formed.Lts as lts
-use Rattle.ascii.proofs.find.starts.Reads as starts-reads
-use Rattle.ascii.proofs.hex.is_hex.Reads as is-hex-reads
-use Rattle.sheet.proofs.form.digits.Reads as digits-reads
-use Rattle.sheet.proofs.form.head.Reads as head-reads
-use Rattle.sheet.proofs.form.tail.Reads as tail-reads
 
--- src/form.rt:47:24
 head-requires : tie.Need-head-requires
 head-requires c κs = search needs
 
--- src/form.rt:47:36
 slice-aggregate-starts : tie.Need-slice-aggregate-starts
 slice-aggregate-starts c = search needs
 
--- src/form.rt:47:9
 starts-requires : tie.Need-starts-requires
 starts-requires c κs = search needs
 
--- src/form.rt:48:27
 tail-requires : tie.Need-tail-requires
 tail-requires c κs = search needs
 
--- src/form.rt:48:39
 slice-aggregate-starts-2 : tie.Need-slice-aggregate-starts-2
 slice-aggregate-starts-2 c = search needs
 
--- src/form.rt:48:9
 starts-requires-2 : tie.Need-starts-requires-2
 starts-requires-2 c κs = search needs
 
--- src/form.rt:49:25
 digits-requires : tie.Need-digits-requires
 digits-requires c κs = search needs
 
--- src/form.rt:49:9
 is-hex-requires : tie.Need-is-hex-requires
 is-hex-requires c κs = search needs
 
--- src/form.rt:44:1
 returns : tie.Need-returns
-returns c = ?
+unfolding formed
+returns c =
+    λ i.
+    leb (length (c .before .before .before .before .before .before .before .before .before .args .line .now)) 2100
+    && (c .before .before .before .before .before .starts .ensures ∙ (λ j. startsWith (c .before .before .before .before .before .before .before .head .ensures j) evLabel)) i
+    && (c .before .before .starts2 .ensures ∙ (λ j. startsWith (c .before .before .before .before .tail .ensures j) argLabel)) i
+    && (c .is-hex .ensures ∙ (λ j. isHex (c .before .digits .ensures j))) i
 
 pub formed-spec : {M : Type 1} → statement M
 formed-spec =

@@ -1,11 +1,13 @@
+-- `sheet::word::handed` meets its contract.
+-- Assumes nothing.
+use mathlib.Core.Path.{refl}
+use Rattle.calls.specs.Word.{handedIn}
 use Rattle.sheet.proofs.word.handed.Statement.{statement}
 use Rattle.sheet.proofs.word.handed.Tie as tie
-use Rattle.sheet.proofs.word.handed.Reads as reads
-use Rattle.sheet.proofs.word.handed.Lts as lts
 
--- src/word.rt:19:1
 returns : tie.Need-returns
-returns c = ?
+unfolding handedIn
+returns c = refl
 
 pub handed-spec : {M : Type 1} → statement M
 handed-spec = tie.close (tie.spec returns)
