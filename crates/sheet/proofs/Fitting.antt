@@ -213,11 +213,12 @@ text-short o h =
 
 wires-short : (o : Outcome) → length (putOn o) ≤ 2 * (slotSize * wireSlots)
 wires-short o =
-    omega
-    (arith,
-    length-append (wireShown 0 (downIn (o .word)) (o .area)) (wireShown 1 (upIn (o .word)) (o .area)),
-    wire-short (o .area) zeroBuffer 0 (downIn (o .word)),
-    wire-short (o .area) zeroBuffer 1 (upIn (o .word)))
+    omega (
+      arith,
+      length-append (wireShown 0 (downIn (o .word)) (o .area)) (wireShown 1 (upIn (o .word)) (o .area)),
+      wire-short (o .area) zeroBuffer 0 (downIn (o .word)),
+      wire-short (o .area) zeroBuffer 1 (upIn (o .word)),
+    )
 
 -- each field, and all of them
 line-short : (x : Name) (o : Outcome) → Modest o → length (lineOf x o) ≤ 18599
@@ -228,12 +229,13 @@ line-short x o h =
     let flag : length (dropField w) ≤ 9 = omega (arith, length-decimal (bit (droppedIn w))) in
     let packets : length (packetField o) ≤ 5 + 4 * (slotSize * wireSlots) = omega (arith, length-hex (putOn o), wires-short o) in
     let message : length (messageField o) ≤ 5 + 2 * messageSize = omega (arith, text-short o h) in
-    omega
-    (arith,
-    length-append (eventField x) (answerField w),
-    length-append (eventField x ++ answerField w) (dropField w),
-    length-append (eventField x ++ answerField w ++ dropField w) (packetField o),
-    length-append (eventField x ++ answerField w ++ dropField w ++ packetField o) (messageField o))
+    omega (
+      arith,
+      length-append (eventField x) (answerField w),
+      length-append (eventField x ++ answerField w) (dropField w),
+      length-append (eventField x ++ answerField w ++ dropField w) (packetField o),
+      length-append (eventField x ++ answerField w ++ dropField w ++ packetField o) (messageField o),
+    )
 
 -- what answers any line
 pub answer-short : (l a out : Octets) → length (answerTo l a out .line) ≤ 18599

@@ -63,6 +63,14 @@ pub unformed-args : (l : Octets) → formed l ≡ false → argsOf l ≡ []
 unfolding argsOf
 unformed-args l e = ap (λ (t : Bool). pick t (octetsIn (digitsIn l)) []) e
 
+-- the buffer has room whatever the line
+pub args-few : (l : Octets) → length (argsOf l) ≤ 1050
+args-few l = go (formed l) refl
+  where
+    go : (b : Bool) → formed l ≡ b → length (argsOf l) ≤ 1050
+    go true e = omega (arith, ap length (formed-args l e), args-short l e)
+    go false e = omega (arith, ap length (unformed-args l e))
+
 pub unformed-asks : (l : Octets) → formed l ≡ false → asks l ≡ Bad
 unfolding asks
 unformed-asks l e = ap (λ (t : Bool). pick t (fitting (nameIn (wordIn l)) (argsOf l)) Bad) e

@@ -26,7 +26,13 @@ pub fn play(area: &mut [u8], out: &mut [u8], name: Name, args: &[u8]) -> u64
     match name {
         Name::Fresh => nci_fresh(area, out, args),
         Name::Power => nci_power(area, out),
-        Name::Command => nci_command(area, out, first, octet_at(args, 1), window(args, 2, args.len())),
+        Name::Command => nci_command(
+            area,
+            out,
+            first,
+            octet_at(args, 1),
+            window(args, 2, args.len()),
+        ),
         Name::Send => nci_send(area, out, first, window(args, 1, args.len())),
         Name::Push => nci_push(area, out, first),
         Name::Down => nci_down(area, out),

@@ -68,9 +68,9 @@ returns-2 c =
     let line = a .line .now in
     let good = sym (c .before .before .before .before .before .before .before .before .before .before .before .before .formed .ensures) ∙ not-false _ (c .before .before .before .before .before .before .before .before .before .before .before .if1 .left) in
     let count =
-        ap (λ (l : Octets). length l / 2) (c .before .before .before .before .before .before .before .before .before .before .digits .ensures)
-        ∙ sym (length-octets (digitsIn line))
-        ∙ ap length (sym (formed-args line good)) in
+    ap (λ (l : Octets). length l / 2) (c .before .before .before .before .before .before .before .before .before .before .digits .ensures)
+    ∙ sym (length-octets (digitsIn line))
+    ∙ ap length (sym (formed-args line good)) in
     let octets = c .before .before .before .before .before .before .before .decode .ensures ∙ ap (splice (a .args .now) 0) (ap octetsIn (c .before .before .before .before .before .before .before .before .before .digits2 .ensures) ∙ sym (formed-args line good)) in
     let named = c .before .before .before .before .before .name-in .ensures ∙ ap nameIn (c .before .before .before .before .before .before .word .ensures) in
     record {
@@ -85,9 +85,9 @@ returns-3 c =
     let line = a .line .now in
     let good = sym (c .before .before .before .before .before .before .before .before .before .before .before .before .formed .ensures) ∙ not-false _ (c .before .before .before .before .before .before .before .before .before .before .before .if1 .left) in
     let count =
-        ap (λ (l : Octets). length l / 2) (c .before .before .before .before .before .before .before .before .before .before .digits .ensures)
-        ∙ sym (length-octets (digitsIn line))
-        ∙ ap length (sym (formed-args line good)) in
+    ap (λ (l : Octets). length l / 2) (c .before .before .before .before .before .before .before .before .before .before .digits .ensures)
+    ∙ sym (length-octets (digitsIn line))
+    ∙ ap length (sym (formed-args line good)) in
     let octets = c .before .before .before .before .before .before .before .decode .ensures ∙ ap (splice (a .args .now) 0) (ap octetsIn (c .before .before .before .before .before .before .before .before .before .digits2 .ensures) ∙ sym (formed-args line good)) in
     let named = c .before .before .before .before .before .name-in .ensures ∙ ap nameIn (c .before .before .before .before .before .before .word .ensures) in
     record {

@@ -1,44 +1,43 @@
+-- `sheet::show::put_packets` meets its contract.
+-- Assumes nothing.
+use Prim.Native.Nat.{ℕ}
+use mathlib.Core.Path.{ap}
+use Rattle.ascii.specs.Digits.{hexOf}
+use Rattle.sheet.specs.Show.{wireShown}
+use Rattle.sheet.proofs.Showing.{wires-both}
+use Rattle.ascii.proofs.Writing.{wrote-text, wrote-then}
 use borrow.Author.Needs.{needs}
 use Rattle.sheet.proofs.show.put_packets.Statement.{statement}
 use Rattle.sheet.proofs.show.put_packets.Tie as tie
-use Rattle.sheet.proofs.show.put_packets.Reads as reads
-use Rattle.sheet.proofs.show.put_packets.Lts as lts
-use Rattle.ascii.proofs.write.put.Reads as put-reads
-use Rattle.sheet.proofs.show.put_wire.Reads as put-wire-reads
-use Rattle.sheet.proofs.word.down.Reads as down-reads
-use Rattle.sheet.proofs.word.up.Reads as up-reads
 
--- src/show.rt:81:9
 down-requires : tie.Need-down-requires
 down-requires c κs = search needs
 
--- src/show.rt:82:9
 up-requires : tie.Need-up-requires
 up-requires c κs = search needs
 
--- src/show.rt:83:31
 slice-aggregate-put : tie.Need-slice-aggregate-put
 slice-aggregate-put c = search needs
 
--- src/show.rt:83:9
 put-requires : tie.Need-put-requires
 put-requires c κs = search needs
 
--- src/show.rt:84:5
 put-wire-requires : tie.Need-put-wire-requires
 put-wire-requires c κs = search needs
 
--- src/show.rt:85:5
 put-wire-requires-2 : tie.Need-put-wire-requires-2
 put-wire-requires-2 c κs = search needs
 
--- src/show.rt:77:1
 same-length : tie.Need-same-length
 same-length c = search needs
 
--- src/show.rt:77:1
 returns : tie.Need-returns
-returns c = ?
+returns c =
+    let area = c .before .before .before .before .before .before .before .before .before .before .before .before .before .before .before .before .before .args .area .now in
+    wrote-text (wires-both _ _)
+    (wrote-then _ _
+    (wrote-then _ _ (c .before .before .before .before .before .before .before .before .before .before .put .ensures) (wrote-text (ap (λ (n : ℕ). hexOf (wireShown 0 n area)) (c .before .before .before .before .before .before .before .before .before .before .before .before .before .before .down .ensures)) (c .before .before .before .before .before .before .put-wire .ensures)))
+    (wrote-text (ap (λ (n : ℕ). hexOf (wireShown 1 n area)) (c .before .before .before .before .before .before .before .before .before .before .before .before .before .up .ensures)) (c .before .before .put-wire2 .ensures)))
 
 pub put-packets-spec : {M : Type 1} → statement M
 put-packets-spec =
