@@ -1,0 +1,6 @@
+pub mod Naming
+pub mod Forming
+pub mod Showing
+pub mod Fitting
+pub mod Telling
+pub mod Answering
