@@ -139,6 +139,22 @@ octets-at (x ∷ (y ∷ l)) (suc i) h =
     octets-at l i (omega arith)
     ∙ (λ j. valueOf (getD (x ∷ (y ∷ l)) (high j) 0) * 16 + valueOf (getD (x ∷ (y ∷ l)) (low j) 0))
 
+digits-octal : (l : Octets) → allDigits l ≡ true → Octal (octetsIn l)
+unfolding octetsIn allDigits
+digits-octal [] e = octal-nil
+digits-octal (h ∷ []) e = octal-nil
+digits-octal (h ∷ (k ∷ l)) e =
+    let one = both (ltb (valueOf h) 16) (ltb (valueOf k) 16 && allDigits l) e in
+    let two = both (ltb (valueOf k) 16) (allDigits l) (one .1) in
+    let high : valueOf h < 16 = ltb-true _ _ (one .0) in
+    let low : valueOf k < 16 = ltb-true _ _ (two .0) in
+    octal-cons {x = valueOf h * 16 + valueOf k} (omega arith) (digits-octal l (two .1))
+
+-- what is read is octets
+pub octets-octal : (l : Octets) → isHex l ≡ true → Octal (octetsIn l)
+unfolding isHex
+octets-octal l e = digits-octal l (both (eqb (length l % 2) 0) (allDigits l) e .1)
+
 -- octets that were written as digits are read again
 pub octets-hex : {l : Octets} → Octal l → octetsIn (hexOf l) ≡ l
 unfolding hexOf octetsIn

@@ -58,7 +58,7 @@ use Rattle.sheet.proofs.Showing.{joined-append}
 
 -- ---- what a call comes to: its effect, or a refusal's number
 
-decided-by : (P : Outcome → Type 0) (rs : List Rule) (o : Outcome) (a out : Octets) → numbered rs ≡ true → (first rs ≡ taken → P o)
+pub decided-by : (P : Outcome → Type 0) (rs : List Rule) (o : Outcome) (a out : Octets) → numbered rs ≡ true → (first rs ≡ taken → P o)
     → ((n : ℕ) → n < 256 → P (outcome n a out)) → P (decided (first rs) o a out)
 decided-by P rs o a out w p q = go (first rs) refl
   where

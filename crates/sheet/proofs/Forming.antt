@@ -1,7 +1,7 @@
 -- The laws of `specs/Form.antt`.
 -- Assumes nothing.
 use Prim.Native.Nat.{ℕ, _+_, _≤_}
-use mathlib.Core.Path.{_≡_, refl, sym, ap, _∙_}
+use mathlib.Core.Path.{_≡_, refl, sym, ap, subst, _∙_}
 use mathlib.Core.Bool.{Bool, true, false, _&&_}
 use mathlib.Core.List.{[]}
 use native.Mathlib.Omega.{arith}
@@ -10,11 +10,12 @@ use lib.ListN.{length, drop, length-drop}
 use lib.Seq.{take-all}
 use lib.Dec.{leb}
 use Rattle.octets.specs.Octets.{Octets, pick, cut, splice}
+use Rattle.octets.specs.Octal.{Octal, octal-nil}
 use Rattle.octets.proofs.Octets.{cut-same}
 use Rattle.ascii.specs.Words.{startsWith, upTo}
 use Rattle.ascii.specs.Digits.{isHex, octetsIn}
 use Rattle.ascii.proofs.Words.{both, up-to-short}
-use Rattle.ascii.proofs.Digits.{length-octets}
+use Rattle.ascii.proofs.Digits.{length-octets, octets-octal}
 use Rattle.sheet.specs.Kinds.{Name}
 use Rattle.sheet.specs.Kinds.name.{Bad}
 use Rattle.sheet.specs.Names.{nameIn}
@@ -70,6 +71,14 @@ args-few l = go (formed l) refl
     go : (b : Bool) → formed l ≡ b → length (argsOf l) ≤ 1050
     go true e = omega (arith, ap length (formed-args l e), args-short l e)
     go false e = omega (arith, ap length (unformed-args l e))
+
+-- they are octets
+pub args-octal : (l : Octets) → Octal (argsOf l)
+args-octal l = go (formed l) refl
+  where
+    go : (b : Bool) → formed l ≡ b → Octal (argsOf l)
+    go true e = subst Octal (sym (formed-args l e)) (octets-octal (digitsIn l) (formed-hex l e))
+    go false e = subst Octal (sym (unformed-args l e)) octal-nil
 
 pub unformed-asks : (l : Octets) → formed l ≡ false → asks l ≡ Bad
 unfolding asks

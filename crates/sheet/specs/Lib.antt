@@ -5,3 +5,5 @@ pub mod Play
 pub mod Show
 pub mod Sheet
 pub mod Told
+pub mod Paper
+pub mod FirstPapers
