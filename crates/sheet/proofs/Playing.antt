@@ -40,7 +40,7 @@ use Rattle.calls.specs.calls.Reply.{replyCall}
 use Rattle.calls.specs.calls.Up.{upRead, receivedJoin, receivedUp, comingUp, readUp, upCall}
 use Rattle.calls.specs.calls.Air.{airCall}
 use Rattle.calls.specs.calls.Report.{reportCall}
-use Rattle.calls.proofs.Showing.{seen-down, seen-up}
+use Rattle.calls.proofs.Displaying.{refined-shown}
 use Rattle.calls.proofs.Starting.{fresh-refines, power-refines, fresh-good, fresh-view, fresh-along, fresh-own}
 use Rattle.calls.proofs.Commanding.{command-refines}
 use Rattle.calls.proofs.Sending.{send-refines}
@@ -70,10 +70,9 @@ seen-line : (x : Name) (c : Call) (p : Puts) (a : Octets) (o : Outcome) → Refi
 unfolding handedBy
 seen-line x c p a o r =
     let room : (i : ℕ) → messageSize ≤ length (zeroBuffer i) = λ i. omega (arith, length-replicate {A = ℕ} messageSize 0) in
+    let put = refined-shown zeroBuffer c p a o r room in
     (λ i.
-    eventField x ++ answerField (o .word) ++ dropField (o .word)
-    ++ (pktLabel ++ hexOf (joined (sym (seen-down c p a o r zeroBuffer room) i) ++ joined (sym (seen-up c p a o r zeroBuffer room) i)))
-    ++ messageField o)
+    eventField x ++ answerField (o .word) ++ dropField (o .word) ++ (pktLabel ++ hexOf (joined (put .0 i) ++ joined (put .1 i))) ++ messageField o)
     ∙ ap (eventLine x) (r .event)
 
 -- ---- the message buffer keeps its length
