@@ -1,18 +1,18 @@
 // The calls as C makes them. Each takes any area, any buffer and any arguments, and answers its effect or one number.
 use crate::entry::enter;
-use crate::fresh;
-use crate::packet;
-use crate::power;
-use crate::report;
+use bench_calls::fresh;
+use bench_calls::packet;
+use bench_calls::power;
+use bench_calls::report;
+use consume_call::consume;
 use controller_calls::airing;
-use controller_calls::consume;
 use controller_calls::credit;
-use controller_calls::down;
 use controller_calls::reply;
+use down_call::down;
 use host_calls::command;
 use host_calls::push;
 use host_calls::send;
-use host_calls::up;
+use up_call::up;
 ghost use mathlib.Core.Path.{_≡_};
 ghost use Rattle.calls.specs.Outcome.{outcome};
 ghost use Rattle.calls.specs.calls.Fresh.{freshCall};

@@ -6,14 +6,15 @@ use mathlib.Core.Bool.{false, _||_}
 use mathlib.Core.List.{List, [], _∷_}
 use native.Mathlib.Omega.{arith}
 use lib.ListN.{length, length-map}
-use lib.Dec.{ltb}
+use lib.Dec.{ltb, eqb}
 use borrow.Author.Tests.{ltb-false}
 use Rattle.octets.specs.Octets.{Octets}
 use Rattle.octets.specs.Octal.{Octal}
 use Rattle.packets.specs.Segments.{segments, segmentPacket}
 use Rattle.packets.specs.Headers.{controlHeader}
 use Rattle.calls.specs.Kinds.{Record}
-use Rattle.state.proofs.Chains.{or-left, or-right}
+use Rattle.state.specs.Commands.{aimIn}
+use Rattle.state.proofs.Chains.{or-left, or-right, on}
 use Rattle.dh.specs.Host.{askedOf, isBusy}
 use Rattle.area.specs.Map.{messageSize, payloadSize, wireSlots, downAt}
 use Rattle.area.proofs.Puts.{length-puts, octal-puts}
@@ -73,6 +74,10 @@ command-facts r gid oid m f t =
 
 -- ---- the record after it is one that row 1 lets pass, of octets
 
+-- the connection that a command names is an octet
+aim-octet : (m : Octets) → aimIn m ≤ 255
+aim-octet m = on (λ (n : ℕ). n ≤ 255) (eqb (length m) 0) (λ e. omega arith) (λ e. omega arith)
+
 module _ (r : Record) (gid oid : ℕ) (m : Octets) (p : Commandable r gid oid m) where
   -- first the host's own numbers, then the packets
   abbrev between : Record
@@ -101,7 +106,7 @@ module _ (r : Record) (gid oid : ℕ) (m : Octets) (p : Commandable r gid oid m)
             record {
               profile = o .profile;
               host =
-                  asked-octal (r .ends .host .size) (askedOf gid oid m) (host-size (r .ends .host) (o .host)) (omega (arith, p .gid)) (omega (arith, p .oid)) (omega arith);
+                  asked-octal (r .ends .host .size) (askedOf gid oid m) (host-size (r .ends .host) (o .host)) (omega (arith, p .gid)) (omega (arith, p .oid)) (aim-octet m);
               hearing = o .hearing;
               controller = o .controller;
               asking = o .asking;

@@ -70,46 +70,47 @@ count-none base a p n e = sym (length-tab _ p n) ∙ ap length e
 
 -- ---- a call
 
-module _ (a : Octets) (p : Puts) (o : Account) (s : Stands a p o) (k : Key) (v : Octal (slice (k .call))) (outs : ℕ → Octets)
-    (room : (i : ℕ) → messageSize ≤ length (outs i)) where
-  -- both wires at once
-  abbrev Shows : Outcome → Type 0
-  Shows x =
-      (lastPackets (x .area) outs 0 (downIn (x .word)) ≡ seenBy (k .call) p x .toDown)
-      × (lastPackets (x .area) outs 1 (upIn (x .word)) ≡ seenBy (k .call) p x .toUp)
+-- on both wires
+abbrev Shows : (ℕ → Octets) → Call → Puts → Outcome → Type 0
+Shows outs c p x =
+    (lastPackets (x .area) outs 0 (downIn (x .word)) ≡ seenBy c p x .toDown) × (lastPackets (x .area) outs 1 (upIn (x .word)) ≡ seenBy c p x .toUp)
 
-  short-shown : Shows (outcome 2 a (k .out))
-  unfolding downIn upIn
-  short-shown = (none-shown a outs 0 downAt (p .down) 0 refl, none-shown a outs 1 upAt (p .up) 0 refl)
-
-  module _ (r : Refines (k .call) p a (pressed k a)) where
-    abbrev after : Octets
-    after = pressed k a .area
-
-    abbrev word : ℕ
-    word = pressed k a .word
-
-    by-start : (b : Bool) → restarts (k .call) (answerIn word) ≡ b
-        → Along (pick b noPuts (record { down = p .down + downIn word; up = p .up + upIn word })) after → Shows (pressed k a)
+module _ (outs : ℕ → Octets) where
+  module _ (c : Call) (p : Puts) (a : Octets) (x : Outcome) (r : Refines c p a x) (room : (i : ℕ) → messageSize ≤ length (outs i)) where
+    by-start : (b : Bool) → restarts c (answerIn (x .word)) ≡ b
+        → Along (pick b noPuts (record { down = p .down + downIn (x .word); up = p .up + upIn (x .word) })) (x .area) → Shows outs c p x
     by-start true e al =
-        let z = begins-empty (k .call) (viewOf a) (and-right (isTaken (answerIn word)) (starts (k .call)) e) in (
-          none-shown after outs 0 downAt (p .down) (downIn word)
-              (count-none downAt after (p .down) (downIn word) (ap (λ (x : Event). x .toDown) (r .event) ∙ z .0)),
-          none-shown after outs 1 upAt (p .up) (upIn word) (count-none upAt after (p .up) (upIn word) (ap (λ (x : Event). x .toUp) (r .event) ∙ z .1)),
+        let z = begins-empty c (viewOf a) (and-right (isTaken (answerIn (x .word))) (starts c) e) in (
+          none-shown (x .area) outs 0 downAt (p .down) (downIn (x .word))
+              (count-none downAt (x .area) (p .down) (downIn (x .word)) (ap (λ (y : Event). y .toDown) (r .event) ∙ z .0)),
+          none-shown (x .area) outs 1 upAt (p .up) (upIn (x .word))
+              (count-none upAt (x .area) (p .up) (upIn (x .word)) (ap (λ (y : Event). y .toUp) (r .event) ∙ z .1)),
         )
     by-start false e al = (
-      down-shown after outs (r .good) room _ al (p .down) (downIn word) refl (r .there .down),
-      up-shown after outs (r .good) room _ al (p .up) (upIn word) refl (r .there .up),
+      down-shown (x .area) outs (r .good) room _ al (p .down) (downIn (x .word)) refl (r .there .down),
+      up-shown (x .area) outs (r .good) room _ al (p .up) (upIn (x .word)) refl (r .there .up),
     )
 
-  shown : Shows (pressed k a)
-  shown = go (ltb (length (k .out)) messageSize) refl
-    where
-      go : (b : Bool) → ltb (length (k .out)) messageSize ≡ b → Shows (pressed k a)
-      go true e = subst Shows (short-buffer a (k .out) (s .good) (ltb-true (length (k .out)) messageSize e) (k .call)) short-shown
-      go false e =
-          let r = all-refine (k .call) p a (k .out) v (s .good) (ltb-false (length (k .out)) messageSize e) (s .along) in
-          by-start r (restarts (k .call) (answerIn (pressed k a .word))) refl (r .along)
+    -- of every call that is the model's step
+    pub refined-shown : Shows outs c p x
+    refined-shown = by-start (restarts c (answerIn (x .word))) refl (r .along)
+
+  -- of one that is refused for its buffer
+  short-shown : (c : Call) (p : Puts) (a out : Octets) → Shows outs c p (outcome 2 a out)
+  unfolding downIn upIn
+  short-shown c p a out = (none-shown a outs 0 downAt (p .down) 0 refl, none-shown a outs 1 upAt (p .up) 0 refl)
+
+shown : (a : Octets) (p : Puts) (o : Account) → Stands a p o → (k : Key) → Octal (slice (k .call)) → (outs : ℕ → Octets) → ((i : ℕ) → messageSize ≤ length (outs i))
+    → Shows outs (k .call) p (pressed k a)
+shown a p o s k v outs room = go (ltb (length (k .out)) messageSize) refl
+  where
+    go : (b : Bool) → ltb (length (k .out)) messageSize ≡ b → Shows outs (k .call) p (pressed k a)
+    go true e =
+        subst (Shows outs (k .call) p) (short-buffer a (k .out) (s .good) (ltb-true (length (k .out)) messageSize e) (k .call))
+        (short-shown outs (k .call) p a (k .out))
+    go false e =
+        let r = all-refine (k .call) p a (k .out) v (s .good) (ltb-false (length (k .out)) messageSize e) (s .along) in
+        refined-shown outs (k .call) p a (pressed k a) r room
 
 pub always-displayed : AlwaysDisplayed
 always-displayed area out m v e keys w =

@@ -1,7 +1,5 @@
-// The host's calls on octets: for each what refuses it, and what it does where nothing does. What they come to is defined
+// command, send and push on octets: for each what refuses it, and what it does where nothing does. What they come to is defined
 // in calls/specs.
 pub mod command;
 pub mod push;
 pub mod send;
-pub mod up;
-mod word;

@@ -1,5 +1,7 @@
 // The fields of a line of input: words and pairs of hexadecimal digits, with one blank between two fields.
 
+use ascii::hex::value;
+
 // What a text of digits holds: so many octets, or something else.
 pub enum Held {
     Octets(usize),
@@ -34,8 +36,8 @@ fn decode(digits: &[u8], buffer: &mut [u8]) -> Held {
     }
     let mut i = 0;
     while i < n {
-        let high = crate::value(digits[2 * i]);
-        let low = crate::value(digits[2 * i + 1]);
+        let high = value(digits[2 * i]);
+        let low = value(digits[2 * i + 1]);
         if 15 < high {
             return Held::Other;
         }

@@ -3,36 +3,7 @@
 pub mod fields;
 pub mod lines;
 
-ghost use mathlib.Core.Path.{_≡_};
-ghost use Rattle.text.specs.Digits.{digitOf, valueOf};
-
-// The capital hexadecimal digit of a number's low four bits.
-fn digit(n: u8) -> u8
-    ensures { λ r. ⌜ r ≡ digitOf n ⌝ }
-{
-    if n % 16 < 10 {
-        48 + n % 16
-    } else {
-        55 + n % 16
-    }
-}
-
-// The value of a capital hexadecimal digit; 16 for any other character.
-pub fn value(c: u8) -> u8
-    ensures { λ r. ⌜ r ≡ valueOf c ⌝ }
-{
-    if c < 48 {
-        16
-    } else if c < 58 {
-        c - 48
-    } else if c < 65 {
-        16
-    } else if c < 71 {
-        c - 55
-    } else {
-        16
-    }
-}
+use ascii::hex::digit;
 
 // Writes text from index at on, and nothing where it does not fit.
 pub fn put(out: &mut [u8], at: usize, text: &[u8]) -> usize {

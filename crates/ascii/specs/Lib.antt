@@ -1,0 +1,6 @@
+pub mod Letters
+pub mod Digits
+pub mod Words
+pub mod Writing
+pub mod Kinds
+pub mod Input

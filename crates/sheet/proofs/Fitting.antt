@@ -1,0 +1,246 @@
+-- A printed line fits the text that is lent for it, whatever the line, the area and the buffer: a wire has at most sixteen packets, and no call
+-- hands out more than 1,024 octets.
+-- Assumes nothing.
+use Prim.Native.Nat.{ℕ, zero, suc, _+_, _*_, _/_, _%_, _≤_, _<_, min}
+use mathlib.Core.Path.{_≡_, refl, sym, ap, subst, _∙_}
+use mathlib.Core.Bool.{Bool, true, false}
+use mathlib.Core.List.{List, [], _∷_, _++_}
+use native.Mathlib.Omega.{arith}
+use native.Mathlib.Decide.{decLt}
+use borrow.Author.Tests.{ltb-true, ltb-false, leb-false, ne-eqb, not-false}
+use lib.ListN.{length, getD, length-append, length-take}
+use lib.Dec.{ltb, eqb}
+use Rattle.octets.specs.Octets.{Octets, pick, cut, splice}
+use Rattle.state.specs.Conn.{openAt}
+use Rattle.state.proofs.Chains.{and-right, on}
+use Rattle.state.proofs.Progress.{done-room}
+use Rattle.area.specs.Map.{slotSize, wireSlots, areaSize, messageSize}
+use Rattle.record.specs.Layout.{bit}
+use Rattle.record.specs.Judge.{judgeOf}
+use Rattle.record.specs.Reading.{decodeOf}
+use Rattle.views.specs.View.{viewOf}
+use Rattle.model.specs.Effects.{Result, taken, refused, fresh, power}
+use Rattle.model.specs.Refusals.{Rule, first}
+use Rattle.model.specs.Bench.{rules}
+use Rattle.model.proofs.Needs.{need}
+use Rattle.calls.specs.Kinds.{Record, Header, Reading}
+use Rattle.calls.specs.Kinds.reading.{Packet, Drop}
+use Rattle.calls.specs.Word.{wordOf, answerIn, droppedIn, handedIn, lengthIn, downIn, upIn}
+use Rattle.calls.specs.Outcome.{Outcome, outcome, decided, entryRules, called}
+use Rattle.calls.specs.Packet.{wireRing, packetBack, packetRules, shownPacket, packetCall, handedBy, lastPackets}
+use Rattle.calls.specs.calls.Fresh.{roomRules, freshed, freshCall}
+use Rattle.calls.specs.calls.Power.{powerCall}
+use Rattle.calls.specs.calls.Command.{commandedCount, commandCall}
+use Rattle.calls.specs.calls.Send.{sendCall}
+use Rattle.calls.specs.calls.Push.{hostSide, pushCall}
+use Rattle.calls.specs.calls.Down.{tookDown, downSlot, downRead, askedRun, dataDown, commandDown, arrived, downCall}
+use Rattle.calls.specs.calls.Consume.{oldestRead, controllerSide, joinedBy, consumedBy, consumeCall}
+use Rattle.calls.specs.calls.Credit.{creditCall}
+use Rattle.calls.specs.calls.Reply.{replyCall}
+use Rattle.calls.specs.calls.Up.{upRead, receivedJoin, receivedLength, receivedUp, comingUp, readUp, upCall}
+use Rattle.calls.specs.calls.Air.{airCall}
+use Rattle.calls.specs.calls.Report.{reportCall}
+use Rattle.calls.proofs.Rules.{small, numbered, refused-small}
+use Rattle.calls.proofs.Called.{sound-area}
+use Rattle.calls.proofs.Words.{word-length}
+use Rattle.calls.proofs.Showing.{wire-fits, length-slot}
+use Rattle.ascii.specs.Digits.{hexOf, decimalOf}
+use Rattle.ascii.proofs.Digits.{length-hex, length-decimal}
+use Rattle.sheet.specs.Kinds.{Name}
+use Rattle.sheet.specs.Kinds.name.{Fresh, Power, Command, Send, Push, Down, Consume, Credit, Air, Reply, Up, Report, Bad}
+use Rattle.sheet.specs.Names.{textOf, isBad}
+use Rattle.sheet.specs.Form.{evLabel, argsOf, asks}
+use Rattle.sheet.specs.Play.{played}
+use Rattle.sheet.specs.Show.{zeroBuffer, joined, wireShown, putOn, messageText, eventField, answerField, dropField, packetField, messageField, lineOf, numberOf}
+use Rattle.sheet.specs.Sheet.{Answer, badLine, answerTo}
+use Rattle.sheet.proofs.Naming.{name-short}
+use Rattle.sheet.proofs.Showing.{joined-append}
+
+-- ---- what a call comes to: its effect, or a refusal's number
+
+pub decided-by : (P : Outcome → Type 0) (rs : List Rule) (o : Outcome) (a out : Octets) → numbered rs ≡ true → (first rs ≡ taken → P o)
+    → ((n : ℕ) → n < 256 → P (outcome n a out)) → P (decided (first rs) o a out)
+decided-by P rs o a out w p q = go (first rs) refl
+  where
+    go : (x : Result) → first rs ≡ x → P (decided x o a out)
+    go taken e = p e
+    go (refused n) e = q n (ltb-true n 256 (and-right (ltb 0 n) (ltb n 256) (refused-small rs n w e)))
+
+pub called-by : (P : Outcome → Type 0) (rs : List Rule) (o : Outcome) (a out : Octets) → numbered rs ≡ true
+    → (first (entryRules a (length out) ++ rs) ≡ taken → P o)
+    → ((n : ℕ) → n < 256 → P (outcome n a out)) → P (called rs o a out)
+unfolding called
+called-by P rs o a out w p q = decided-by P (entryRules a (length out) ++ rs) o a out w p q
+
+-- a refusal's word says nothing of a message
+pub number-handed : (n : ℕ) → n < 256 → handedIn n ≡ false
+unfolding handedIn
+number-handed n h = ne-eqb (n / 512 % 2) 1 (λ e. omega arith)
+
+number-length : (n : ℕ) → n < 256 → lengthIn n ≤ messageSize
+unfolding lengthIn
+number-length n h = omega arith
+
+-- ---- packets
+
+cut-short : (n : ℕ) (l : Octets) → length (cut 0 n l) ≤ n
+unfolding cut
+cut-short n l = simp length-take (omega arith)
+
+-- the message of a word, or none
+handed-short : (o : Outcome) → length (joined (handedBy o)) ≤ lengthIn (o .word)
+unfolding handedBy joined
+handed-short o =
+    on (λ (ms : List Octets). length (joined ms) ≤ lengthIn (o .word)) (handedIn (o .word))
+    (λ _. omega (arith, length-append (cut 0 (lengthIn (o .word)) (o .out)) [], cut-short (lengthIn (o .word)) (o .out)))
+    (λ _. omega arith)
+
+unhanded : (o : Outcome) → handedIn (o .word) ≡ false → handedBy o ≡ []
+unfolding handedBy
+unhanded o e = ap (λ (b : Bool). pick b (cut 0 (lengthIn (o .word)) (o .out) ∷ []) []) e
+
+module _ (a out : Octets) (wire back : ℕ) where
+  packet-short : length (joined (handedBy (packetCall a out wire back))) ≤ slotSize
+  unfolding packetCall joined
+  packet-short =
+      let p = packetBack (decodeOf a) wire back a in
+      let small : length p ≤ slotSize = length-slot _ a _ in
+      called-by (λ (o : Outcome). length (joined (handedBy o)) ≤ slotSize) (packetRules (decodeOf a) wire back) (shownPacket p a out) a out refl
+      (λ _. omega (arith, handed-short (shownPacket p a out), word-length false true (length p) 0 0 (omega arith)))
+      (λ n h. omega (arith, ap (λ (ms : List Octets). length (joined ms)) (unhanded (outcome n a out) (number-handed n h))))
+
+  -- a wire has sixteen packets at most
+  packet-none : wireSlots ≤ back → handedBy (packetCall a out wire back) ≡ []
+  unfolding packetCall
+  packet-none h =
+      let r = decodeOf a in
+      let all = entryRules a (length out) ++ packetRules r wire back in
+      called-by (λ (o : Outcome). handedBy o ≡ []) (packetRules r wire back) (shownPacket (packetBack r wire back a) a out) a out refl
+      (λ t.
+      let long : areaSize ≤ length a = ltb-false _ _ (need 2 all t) in
+      let judged : judgeOf a ≡ true = not-false (judgeOf a) (need 1 all t) in
+      let some : back < wireRing r wire .count = leb-false _ _ (need 8 all t) in
+      let most : wireRing r wire .count ≤ wireSlots = wire-fits r wire (sound-area a long judged .fit) .count in
+      absurd (omega arith))
+      (λ n k. unhanded (outcome n a out) (number-handed n k))
+
+wire-short : (a : Octets) (outs : ℕ → Octets) (wire n : ℕ) → length (joined (lastPackets a outs wire n)) ≤ slotSize * min n wireSlots
+unfolding lastPackets joined
+wire-short a outs wire zero = omega arith
+wire-short a outs wire (suc n) = go (decLt n wireSlots) (wire-short a outs wire n)
+  where
+    one : Octets
+    one = joined (handedBy (packetCall a (outs n) wire n))
+
+    whole : length (joined (lastPackets a outs wire (suc n))) ≡ length one + length (joined (lastPackets a outs wire n))
+    whole =
+        ap length (joined-append (handedBy (packetCall a (outs n) wire n)) (lastPackets a outs wire n))
+        ∙ length-append one (joined (lastPackets a outs wire n))
+
+    go : Dec (n < wireSlots) → length (joined (lastPackets a outs wire n)) ≤ slotSize * min n wireSlots
+        → length (joined (lastPackets a outs wire (suc n))) ≤ slotSize * min (suc n) wireSlots
+    go (yes h) ih = omega (arith, whole, packet-short a (outs n) wire n)
+    go (no h) ih =
+        let none : length one ≡ 0 = ap (λ (ms : List Octets). length (joined ms)) (packet-none a (outs n) wire n (omega arith)) in
+        omega (arith, whole, none)
+
+-- ---- messages: no word says more than 1,024 octets
+
+abbrev Modest : Outcome → Type 0
+Modest o = lengthIn (o .word) ≤ messageSize
+
+worded : (d h : Bool) (len down up : ℕ) → len ≤ messageSize → lengthIn (wordOf d h len down up) ≤ messageSize
+worded d h len down up s = omega (arith, word-length d h len down up (omega arith))
+
+quietly : (d : Bool) (down up : ℕ) → lengthIn (wordOf d false 0 down up) ≤ messageSize
+quietly d down up = worded d false 0 down up (omega arith)
+
+down-modest : (t : Record) (slot : ℕ) (x : Reading) (a out : Octets) → Modest (arrived t slot x a out)
+unfolding arrived dataDown commandDown
+down-modest t slot (Packet h n) a out =
+    on Modest (eqb (h .mt) 0) (λ _. on Modest (openAt (t .ends .conns) (h .id)) (λ _. quietly _ _ _) (λ _. quietly _ _ _))
+    (λ _. on Modest (eqb (h .mt) 1) (λ _. on Modest (askedRun t h n .done) (λ _. quietly _ _ _) (λ _. quietly _ _ _)) (λ _. quietly _ _ _))
+down-modest t slot Drop a out = quietly _ _ _
+
+consume-modest : (r : Record) (c : ℕ) (x : Reading) (a out : Octets) → Modest (consumedBy r c x a out)
+consume-modest r c (Packet h n) a out =
+    worded _ _ _ _ _
+    (on (λ (k : ℕ). k ≤ messageSize) (joinedBy r c (Packet h n) .done) (done-room messageSize (controllerSide r c .run) (h .pbf) n) (λ _. omega arith))
+consume-modest r c Drop a out = quietly _ _ _
+
+up-modest : (r : Record) (x : Reading) (a out : Octets) → Modest (readUp r x a out)
+unfolding comingUp receivedUp
+up-modest r (Packet h n) a out =
+    on Modest (eqb (h .mt) 0)
+    (λ _.
+    on Modest (hostSide r (h .id) .opened)
+    (λ _.
+    worded _ _ _ _ _
+    (on (λ (k : ℕ). k ≤ messageSize) (receivedJoin r h n .done) (done-room messageSize (hostSide r (h .id) .run) (h .pbf) n) (λ _. omega arith)))
+    (λ _. quietly _ _ _))
+    (λ _. on Modest (eqb (h .mt) 1) (λ _. quietly _ _ _) (λ _. quietly _ _ _))
+up-modest r Drop a out = quietly _ _ _
+
+pub play-modest : (x : Name) (m a out : Octets) → Modest (played x m a out)
+unfolding freshCall powerCall commandCall sendCall pushCall downCall consumeCall creditCall replyCall upCall airCall reportCall
+play-modest Fresh m a out =
+    decided-by Modest (roomRules (length a) (length out) ++ rules (fresh m) (viewOf a)) _ a out refl (λ _. quietly _ _ _) (λ n h. number-length n h)
+play-modest Power m a out = called-by Modest (rules power (viewOf a)) _ a out refl (λ _. quietly _ _ _) (λ n h. number-length n h)
+play-modest Command m a out = called-by Modest _ _ a out refl (λ _. quietly _ _ _) (λ n h. number-length n h)
+play-modest Send m a out = called-by Modest _ _ a out refl (λ _. quietly _ _ _) (λ n h. number-length n h)
+play-modest Push m a out = called-by Modest _ _ a out refl (λ _. quietly _ _ _) (λ n h. number-length n h)
+play-modest Down m a out = called-by Modest _ _ a out refl (λ _. down-modest (tookDown (decodeOf a)) (downSlot (decodeOf a)) (downRead (decodeOf a) a) a out) (λ n h. number-length n h)
+play-modest Consume m a out = called-by Modest _ _ a out refl (λ _. consume-modest (decodeOf a) (getD m 0 0) (oldestRead (decodeOf a) (getD m 0 0) a) a out) (λ n h. number-length n h)
+play-modest Credit m a out = called-by Modest _ _ a out refl (λ _. quietly _ _ _) (λ n h. number-length n h)
+play-modest Air m a out = called-by Modest _ _ a out refl (λ _. quietly _ _ _) (λ n h. number-length n h)
+play-modest Reply m a out = called-by Modest _ _ a out refl (λ _. quietly _ _ _) (λ n h. number-length n h)
+play-modest Up m a out = called-by Modest _ _ a out refl (λ _. up-modest (decodeOf a) (upRead (decodeOf a) a) a out) (λ n h. number-length n h)
+play-modest Report m a out = called-by Modest _ _ a out refl (λ _. worded false true 5 0 0 (omega arith)) (λ n h. number-length n h)
+play-modest Bad m a out = number-length 3 (omega arith)
+
+-- ---- the line
+
+message-short : (m : Octets) → length m ≤ messageSize → length (messageText (m ∷ [])) ≤ 2 * messageSize
+message-short [] h = omega arith
+message-short (x ∷ m) h = omega (arith, length-hex (x ∷ m))
+
+text-short : (o : Outcome) → Modest o → length (messageText (handedBy o)) ≤ 2 * messageSize
+unfolding handedBy
+text-short o h =
+    on (λ (ms : List Octets). length (messageText ms) ≤ 2 * messageSize) (handedIn (o .word))
+    (λ _. message-short (cut 0 (lengthIn (o .word)) (o .out)) (omega (arith, cut-short (lengthIn (o .word)) (o .out))))
+    (λ _. omega arith)
+
+wires-short : (o : Outcome) → length (putOn o) ≤ 2 * (slotSize * wireSlots)
+wires-short o =
+    omega (
+      arith,
+      length-append (wireShown 0 (downIn (o .word)) (o .area)) (wireShown 1 (upIn (o .word)) (o .area)),
+      wire-short (o .area) zeroBuffer 0 (downIn (o .word)),
+      wire-short (o .area) zeroBuffer 1 (upIn (o .word)),
+    )
+
+-- each field, and all of them
+line-short : (x : Name) (o : Outcome) → Modest o → length (lineOf x o) ≤ 18599
+line-short x o h =
+    let w = o .word in
+    let event : length (eventField x) ≤ 10 = omega (arith, length-append evLabel (textOf x), name-short x) in
+    let answer : length (answerField w) ≤ 8 = omega (arith, length-decimal (numberOf (answerIn w))) in
+    let flag : length (dropField w) ≤ 9 = omega (arith, length-decimal (bit (droppedIn w))) in
+    let packets : length (packetField o) ≤ 5 + 4 * (slotSize * wireSlots) = omega (arith, length-hex (putOn o), wires-short o) in
+    let message : length (messageField o) ≤ 5 + 2 * messageSize = omega (arith, text-short o h) in
+    omega (
+      arith,
+      length-append (eventField x) (answerField w),
+      length-append (eventField x ++ answerField w) (dropField w),
+      length-append (eventField x ++ answerField w ++ dropField w) (packetField o),
+      length-append (eventField x ++ answerField w ++ dropField w ++ packetField o) (messageField o),
+    )
+
+-- what answers any line
+pub answer-short : (l a out : Octets) → length (answerTo l a out .line) ≤ 18599
+unfolding answerTo
+answer-short l a out =
+    on (λ (x : Answer). length (x .line) ≤ 18599) (isBad (asks l))
+    (λ _. omega (arith, length-decimal (numberOf (answerIn 3))))
+    (λ _. line-short (asks l) _ (play-modest (asks l) (argsOf l) a out))

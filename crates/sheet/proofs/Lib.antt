@@ -1,0 +1,8 @@
+pub mod Naming
+pub mod Forming
+pub mod Showing
+pub mod Fitting
+pub mod Telling
+pub mod Answering
+pub mod Playing
+pub mod Papers

@@ -1,0 +1,45 @@
+-- Document 01's three lines and a first paper: `FirstPapers` of `specs/FirstPapers.antt`. What the model shows is computed; what is printed is that.
+-- Assumes nothing.
+use mathlib.Core.Path.{_≡_, refl, _∙_}
+use Rattle.octets.specs.Octets.{cut}
+use Rattle.packets.specs.Packet.{octet0, octet1, packetOf, oidOf, spareOf, headerOf, readOf}
+use Rattle.packets.specs.Segments.{segmentsWithin, segments}
+use Rattle.state.specs.Conn.{placeOf, connOf, termsOf}
+use Rattle.state.specs.Commands.{commandOf}
+use Rattle.state.specs.Profile.{profileIn}
+use Rattle.nfcc.specs.Controller.{shortest, allowed, resetBy, after, seek, nextId, createBy, judgeOf, controllerAfter}
+use Rattle.messages.specs.Layout.{entriesFrom, entryCount, responseOf, noticeMessage}
+use Rattle.dh.specs.Contents.{noticeOf, zeros, initWritten, createWritten, entriesOk, creditsWritten, written}
+use Rattle.dh.specs.Host.{answerOf, heardAlone, hearOf, creditsIn, namesClosed, hostAfter, dropHeard}
+use Rattle.record.specs.Layout.{bit}
+use Rattle.wires.specs.Meaning.{meaning}
+use Rattle.wires.specs.Tally.{dataCount, creditsUp}
+use Rattle.model.specs.State.{cold}
+use Rattle.model.specs.Refusals.{first}
+use Rattle.model.specs.calls.Credit.{allZero}
+use Rattle.model.specs.calls.Up.{anyOf}
+use Rattle.model.specs.Bench.{step}
+use Rattle.calls.specs.Word.{answerIn}
+use Rattle.ascii.specs.Digits.{digitOf, valueOf, hexOf, allDigits, isHex, octetsIn, decimalOf}
+use Rattle.ascii.specs.Words.{sameAs, startsWith, upTo}
+use Rattle.sheet.specs.Names.{among}
+use Rattle.sheet.specs.Form.{formed, argsOf, asks}
+use Rattle.sheet.specs.Show.{joined}
+use Rattle.sheet.specs.Paper.{modelled, firstProfile}
+use Rattle.sheet.specs.FirstPapers.{threeLines, threeAnswers, firstPaper, firstAnswers, FirstPapers}
+use Rattle.sheet.proofs.Playing.{papers}
+
+three-lines : modelled threeLines (cold (profileIn firstProfile)) ≡ threeAnswers
+unfolding threeLines threeAnswers modelled asks argsOf formed among joined digitOf valueOf hexOf allDigits isHex octetsIn decimalOf sameAs startsWith upTo bit cut octet0 octet1 packetOf oidOf spareOf headerOf readOf segmentsWithin segments placeOf connOf termsOf commandOf shortest allowed resetBy judgeOf controllerAfter responseOf noticeMessage meaning first step
+three-lines = refl
+
+first-paper : modelled firstPaper (cold (profileIn firstProfile)) ≡ firstAnswers
+unfolding firstPaper firstAnswers modelled asks argsOf formed among joined digitOf valueOf hexOf allDigits isHex octetsIn decimalOf sameAs startsWith upTo bit cut octet0 octet1 packetOf oidOf spareOf headerOf readOf segmentsWithin segments placeOf connOf termsOf commandOf shortest allowed resetBy after seek nextId createBy judgeOf controllerAfter entriesFrom entryCount responseOf noticeMessage noticeOf zeros initWritten createWritten entriesOk creditsWritten written answerOf heardAlone hearOf creditsIn namesClosed hostAfter dropHeard meaning dataCount creditsUp first allZero anyOf step
+first-paper = refl
+
+pub first-papers : FirstPapers
+first-papers =
+    record {
+      three = λ a out o long room. papers .fromFresh threeLines a out o long room ∙ three-lines;
+      paper = λ a out o long room. papers .fromFresh firstPaper a out o long room ∙ first-paper;
+    }

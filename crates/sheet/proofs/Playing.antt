@@ -1,0 +1,191 @@
+-- What is printed for a paper is what the model shows: `Papers` of `specs/Paper.antt`.
+-- Assumes nothing.
+use Prim.Native.Nat.{ℕ, _≤_, _<_}
+use mathlib.Core.Path.{_≡_, refl, sym, ap, subst, _∙_}
+use mathlib.Core.Bool.{Bool, true, false, not}
+use mathlib.Core.List.{List, [], _∷_, _++_}
+use native.Mathlib.Omega.{arith}
+use lib.ListN.{length, getD, drop, length-replicate}
+use lib.Dec.{eqb}
+use Rattle.octets.specs.Octets.{Octets, pick, splice}
+use Rattle.octets.specs.Octal.{Octal}
+use Rattle.octets.proofs.Octets.{length-splice}
+use Rattle.octets.proofs.Octal.{octal-drop}
+use Rattle.state.proofs.Chains.{on}
+use Rattle.state.specs.Conn.{openAt}
+use Rattle.state.specs.Profile.{profileIn, profileOctetsOk}
+use Rattle.area.specs.Map.{areaSize, messageSize}
+use Rattle.record.specs.Reading.{decodeOf}
+use Rattle.views.specs.View.{viewOf}
+use Rattle.model.specs.State.{State, cold}
+use Rattle.model.specs.Refusals.{first}
+use Rattle.model.specs.Effects.{Call, taken, refused, fresh, power, command, send, push, down, consume, credit, air, reply, up, report}
+use Rattle.model.specs.Bench.{step, rules}
+use Rattle.model.specs.Observer.{Event, eventOf}
+use Rattle.calls.specs.Kinds.{Record, Header, Reading}
+use Rattle.calls.specs.Kinds.reading.{Packet, Drop}
+use Rattle.calls.specs.Outcome.{Outcome, outcome, called}
+use Rattle.calls.specs.Packet.{handedBy}
+use Rattle.calls.specs.Seen.{Puts, noPuts, putsAfter, seenBy}
+use Rattle.calls.specs.Refines.{Good, Along, Refines}
+use Rattle.calls.specs.calls.Fresh.{roomRules, freshed, freshCall}
+use Rattle.calls.specs.calls.Power.{powerCall}
+use Rattle.calls.specs.calls.Command.{commandCall}
+use Rattle.calls.specs.calls.Send.{sendCall}
+use Rattle.calls.specs.calls.Push.{hostSide, pushCall}
+use Rattle.calls.specs.calls.Down.{tookDown, downSlot, downRead, askedRun, dataDown, commandDown, arrived, downCall}
+use Rattle.calls.specs.calls.Consume.{oldestRead, joinedBy, consumedBy, consumeCall}
+use Rattle.calls.specs.calls.Credit.{creditCall}
+use Rattle.calls.specs.calls.Reply.{replyCall}
+use Rattle.calls.specs.calls.Up.{upRead, receivedJoin, receivedUp, comingUp, readUp, upCall}
+use Rattle.calls.specs.calls.Air.{airCall}
+use Rattle.calls.specs.calls.Report.{reportCall}
+use Rattle.calls.proofs.Displaying.{refined-shown}
+use Rattle.calls.proofs.Starting.{fresh-refines, power-refines, fresh-good, fresh-view, fresh-along, fresh-own}
+use Rattle.calls.proofs.Commanding.{command-refines}
+use Rattle.calls.proofs.Sending.{send-refines}
+use Rattle.calls.proofs.Pushing.{push-refines}
+use Rattle.calls.proofs.Downing.{down-refines}
+use Rattle.calls.proofs.Consuming.{consume-refines}
+use Rattle.calls.proofs.Crediting.{credit-refines}
+use Rattle.calls.proofs.Replying.{reply-refines}
+use Rattle.calls.proofs.Coming.{up-refines}
+use Rattle.calls.proofs.Airing.{air-refines}
+use Rattle.calls.proofs.Reporting.{report-refines}
+use Rattle.ascii.specs.Digits.{hexOf}
+use Rattle.sheet.specs.Kinds.{Name}
+use Rattle.sheet.specs.Kinds.name.{Fresh, Power, Command, Send, Push, Down, Consume, Credit, Air, Reply, Up, Report, Bad}
+use Rattle.sheet.specs.Names.{isBad}
+use Rattle.sheet.specs.Form.{argsOf, asks}
+use Rattle.sheet.specs.Play.{played}
+use Rattle.sheet.specs.Show.{pktLabel, zeroBuffer, joined, eventField, answerField, dropField, messageField, lineOf}
+use Rattle.sheet.specs.Sheet.{Answer, refusedLine, shown, answerTo}
+use Rattle.sheet.specs.Paper.{printed, callsOf, eventLine, lineBy, nextBy, modelled, firstProfile, Papers}
+use Rattle.sheet.proofs.Forming.{args-octal}
+use Rattle.sheet.proofs.Fitting.{called-by, decided-by}
+
+-- ---- a call's line is the line of what is seen of it
+
+seen-line : (x : Name) (c : Call) (p : Puts) (a : Octets) (o : Outcome) → Refines c p a o → lineOf x o ≡ eventLine x (eventOf c (step c (viewOf a)))
+unfolding handedBy
+seen-line x c p a o r =
+    let room : (i : ℕ) → messageSize ≤ length (zeroBuffer i) = λ i. omega (arith, length-replicate {A = ℕ} messageSize 0) in
+    let put = refined-shown zeroBuffer c p a o r room in
+    (λ i.
+    eventField x ++ answerField (o .word) ++ dropField (o .word) ++ (pktLabel ++ hexOf (joined (put .0 i) ++ joined (put .1 i))) ++ messageField o)
+    ∙ ap (eventLine x) (r .event)
+
+-- ---- the message buffer keeps its length
+
+abbrev Kept : Octets → Outcome → Type 0
+Kept out o = length (o .out) ≡ length out
+
+down-kept : (t : Record) (slot : ℕ) (x : Reading) (a out : Octets) → Kept out (arrived t slot x a out)
+unfolding arrived dataDown commandDown
+down-kept t slot (Packet h n) a out =
+    on (Kept out) (eqb (h .mt) 0) (λ _. on (Kept out) (openAt (t .ends .conns) (h .id)) (λ _. refl) (λ _. refl))
+    (λ _. on (Kept out) (eqb (h .mt) 1) (λ _. on (Kept out) (askedRun t h n .done) (λ _. refl) (λ _. refl)) (λ _. refl))
+down-kept t slot Drop a out = refl
+
+-- a message is written over the front
+written : (b : Bool) (m out : Octets) → length (pick b (splice out 0 m) out) ≡ length out
+written b m out = on (λ (l : Octets). length l ≡ length out) b (λ _. length-splice out 0 m) (λ _. refl)
+
+consume-kept : (r : Record) (c : ℕ) (x : Reading) (a out : Octets) → Kept out (consumedBy r c x a out)
+consume-kept r c (Packet h n) a out = written (joinedBy r c (Packet h n) .done) _ out
+consume-kept r c Drop a out = refl
+
+up-kept : (r : Record) (x : Reading) (a out : Octets) → Kept out (readUp r x a out)
+unfolding comingUp receivedUp
+up-kept r (Packet h n) a out =
+    on (Kept out) (eqb (h .mt) 0) (λ _. on (Kept out) (hostSide r (h .id) .opened) (λ _. written (receivedJoin r h n .done) _ out) (λ _. refl))
+    (λ _. on (Kept out) (eqb (h .mt) 1) (λ _. refl) (λ _. refl))
+up-kept r Drop a out = refl
+
+play-kept : (x : Name) (m a out : Octets) → Kept out (played x m a out)
+unfolding freshCall powerCall commandCall sendCall pushCall downCall consumeCall creditCall replyCall upCall airCall reportCall
+play-kept Fresh m a out = decided-by (Kept out) (roomRules (length a) (length out) ++ rules (fresh m) (viewOf a)) _ a out refl (λ _. refl) (λ n h. refl)
+play-kept Power m a out = called-by (Kept out) (rules power (viewOf a)) _ a out refl (λ _. refl) (λ n h. refl)
+play-kept Command m a out = called-by (Kept out) _ _ a out refl (λ _. refl) (λ n h. refl)
+play-kept Send m a out = called-by (Kept out) _ _ a out refl (λ _. refl) (λ n h. refl)
+play-kept Push m a out = called-by (Kept out) _ _ a out refl (λ _. refl) (λ n h. refl)
+play-kept Down m a out =
+    called-by (Kept out) _ _ a out refl (λ _. down-kept (tookDown (decodeOf a)) (downSlot (decodeOf a)) (downRead (decodeOf a) a) a out) (λ n h. refl)
+play-kept Consume m a out =
+    called-by (Kept out) _ _ a out refl (λ _. consume-kept (decodeOf a) (getD m 0 0) (oldestRead (decodeOf a) (getD m 0 0) a) a out) (λ n h. refl)
+play-kept Credit m a out = called-by (Kept out) _ _ a out refl (λ _. refl) (λ n h. refl)
+play-kept Air m a out = called-by (Kept out) _ _ a out refl (λ _. refl) (λ n h. refl)
+play-kept Reply m a out = called-by (Kept out) _ _ a out refl (λ _. refl) (λ n h. refl)
+play-kept Up m a out = called-by (Kept out) _ _ a out refl (λ _. up-kept (decodeOf a) (upRead (decodeOf a) a) a out) (λ n h. refl)
+play-kept Report m a out = called-by (Kept out) _ _ a out refl (λ _. length-splice out 0 _) (λ n h. refl)
+play-kept Bad m a out = refl
+
+-- ---- one line
+
+record Turn (x : Name) (cs : List Call) (s : State) (z : Answer) : Type 0 where
+  pub line : z .line ≡ lineBy x cs s
+  pub good : Good (z .area)
+  pub next : viewOf (z .area) ≡ nextBy cs s
+  pub room : messageSize ≤ length (z .out)
+  pub puts : Puts
+  pub along : Along puts (z .area)
+
+by-call : (x : Name) (c : Call) (p : Puts) (a out : Octets) (o : Outcome) → Refines c p a o → Kept out o → messageSize ≤ length out
+    → Turn x (c ∷ []) (viewOf a) (shown x o)
+by-call x c p a out o r k room =
+    record {
+      line = seen-line x c p a o r;
+      good = r .good;
+      next = r .next;
+      room = omega (arith, k, room);
+      puts = putsAfter c p (o .word);
+      along = r .along;
+    }
+
+turn : (x : Name) (m : Octets) (p : Puts) (a out : Octets) → Octal m → Good a → messageSize ≤ length out → Along p a
+    → Turn x (callsOf x m) (viewOf a) (pick (isBad x) (refusedLine a out) (shown x (played x m a out)))
+turn Fresh m p a out o g r al = by-call Fresh (fresh m) p a out _ (fresh-refines m p a out g r al) (play-kept Fresh m a out) r
+turn Power m p a out o g r al = by-call Power power p a out _ (power-refines a out g p r al) (play-kept Power m a out) r
+turn Command m p a out o g r al =
+    by-call Command (command (getD m 0 0) (getD m 1 0) (drop 2 m)) p a out _ (command-refines (getD m 0 0) (getD m 1 0) (drop 2 m) p a out (octal-drop 2 o) g r al) (play-kept Command m a out) r
+turn Send m p a out o g r al =
+    by-call Send (send (getD m 0 0) (drop 1 m)) p a out _ (send-refines (getD m 0 0) (drop 1 m) p a out (octal-drop 1 o) g r al) (play-kept Send m a out) r
+turn Push m p a out o g r al = by-call Push (push (getD m 0 0)) p a out _ (push-refines (getD m 0 0) p a out g r al) (play-kept Push m a out) r
+turn Down m p a out o g r al = by-call Down down p a out _ (down-refines p a out g r al) (play-kept Down m a out) r
+turn Consume m p a out o g r al =
+    by-call Consume (consume (getD m 0 0)) p a out _ (consume-refines (getD m 0 0) p a out g r al) (play-kept Consume m a out) r
+turn Credit m p a out o g r al = by-call Credit credit p a out _ (credit-refines p a out g r al) (play-kept Credit m a out) r
+turn Air m p a out o g r al = by-call Air (air m) p a out _ (air-refines m p a out o g r al) (play-kept Air m a out) r
+turn Reply m p a out o g r al = by-call Reply reply p a out _ (reply-refines p a out g r al) (play-kept Reply m a out) r
+turn Up m p a out o g r al = by-call Up up p a out _ (up-refines p a out g r al) (play-kept Up m a out) r
+turn Report m p a out o g r al = by-call Report (report (getD m 0 0)) p a out _ (report-refines (getD m 0 0) p a out g r al) (play-kept Report m a out) r
+turn Bad m p a out o g r al = record { line = refl; good = g; next = refl; room = r; puts = p; along = al }
+
+-- ---- all of them
+
+same-lines : (ls : List Octets) (p : Puts) (a out : Octets) → Good a → messageSize ≤ length out → Along p a → printed ls a out ≡ modelled ls (viewOf a)
+unfolding printed modelled answerTo
+same-lines [] p a out g r al = refl
+same-lines (l ∷ ls) p a out g r al =
+    let x = asks l in
+    let m = argsOf l in
+    let z = answerTo l a out in
+    let t = turn x m p a out (args-octal l) g r al in
+    (λ i. t .line i ∷ printed ls (z .area) (z .out))
+    ∙ ap (λ (ws : List Octets). lineBy x (callsOf x m) (viewOf a) ∷ ws)
+    (same-lines ls (t .puts) (z .area) (z .out) (t .good) (t .room) (t .along) ∙ ap (modelled ls) (t .next))
+
+first-ok : profileOctetsOk firstProfile ≡ true
+first-ok = refl
+
+fresh-lines : (ls : List Octets) (a out : Octets) → Octal a → areaSize ≤ length a → messageSize ≤ length out
+    → printed ls (freshCall a out firstProfile .area) out ≡ modelled ls (cold (profileIn firstProfile))
+unfolding first
+fresh-lines ls a out o long room =
+    let done = fresh-own a out firstProfile long room taken (ap (λ (b : Bool). pick (not b) (refused 3) taken) first-ok) in
+    ap (λ (y : Outcome). printed ls (y .area) out) (sym done)
+    ∙ same-lines ls noPuts (freshed firstProfile a out .area) out (fresh-good a firstProfile long o first-ok out) room (fresh-along a firstProfile long o first-ok out)
+    ∙ ap (modelled ls) (fresh-view a firstProfile long o first-ok out)
+
+pub papers : Papers
+papers = record { same = same-lines; fromFresh = fresh-lines }

@@ -1,0 +1,98 @@
+-- The laws of `specs/Show.antt`.
+-- Assumes nothing.
+use Prim.Native.Nat.{ℕ, zero, suc, _%_, _≤_, _<_}
+use mathlib.Core.Path.{_≡_, refl, sym, ap, _∙_}
+use mathlib.Core.Bool.{Bool, true, false}
+use mathlib.Core.List.{List, [], _∷_, _++_, append-assoc, append-nil}
+use native.Mathlib.Omega.{arith}
+use borrow.Author.Tests.{eqb-true, eqb-false}
+use lib.ListN.{length}
+use lib.Dec.{eqb}
+use Rattle.octets.specs.Octets.{Octets, pick, cut}
+use Rattle.record.specs.Layout.{bit}
+use Rattle.model.specs.Effects.{Result, taken, refused}
+use Rattle.calls.specs.Word.{answerIn, handedIn, lengthIn}
+use Rattle.calls.specs.Outcome.{outcome}
+use Rattle.calls.specs.Packet.{packetCall, handedBy, lastPackets}
+use Rattle.ascii.specs.Digits.{hexOf}
+use Rattle.ascii.proofs.Digits.{hex-append}
+use Rattle.sheet.specs.Show.{pktLabel, numberOf, zeroBuffer, joined, wireShown, messageText}
+
+-- the answer's number is the word's low octet
+pub number-answer : (w : ℕ) → numberOf (answerIn w) ≡ w % 256
+unfolding answerIn
+number-answer w = go (eqb (w % 256) 0) refl
+  where
+    go : (b : Bool) → eqb (w % 256) 0 ≡ b → numberOf (pick b taken (refused (w % 256))) ≡ w % 256
+    go true e = sym (eqb-true (w % 256) 0 e)
+    go false e = refl
+
+-- a number of one bit, and the test of it
+pub bit-test : (n : ℕ) → n < 2 → bit (eqb n 1) ≡ n
+unfolding bit
+bit-test zero h = refl
+bit-test (suc zero) h = refl
+bit-test (suc (suc n)) h = absurd (omega arith)
+
+-- ---- joined
+
+pub joined-append : (ps qs : List Octets) → joined (ps ++ qs) ≡ joined ps ++ joined qs
+unfolding joined
+joined-append [] qs = refl
+joined-append (p ∷ ps) qs = ap (λ (l : Octets). p ++ l) (joined-append ps qs) ∙ sym (append-assoc p (joined ps) (joined qs))
+
+-- ---- a wire
+
+-- the first of the last packets, and the others
+pub wire-more : (wire n : ℕ) (a : Octets)
+    → hexOf (joined (handedBy (packetCall a (zeroBuffer n) wire n))) ++ hexOf (wireShown wire n a) ≡ hexOf (wireShown wire (suc n) a)
+unfolding lastPackets
+wire-more wire n a =
+    let first = handedBy (packetCall a (zeroBuffer n) wire n) in
+    sym (hex-append (joined first) (wireShown wire n a)) ∙ ap hexOf (sym (joined-append first (lastPackets a zeroBuffer wire n)))
+
+pub wire-none : (wire : ℕ) (a : Octets) → [] ≡ hexOf (wireShown wire 0 a)
+unfolding hexOf joined lastPackets
+wire-none wire a = refl
+
+-- both wires
+pub wires-both : (a b : Octets) → pktLabel ++ hexOf a ++ hexOf b ≡ pktLabel ++ hexOf (a ++ b)
+wires-both a b = append-assoc pktLabel (hexOf a) (hexOf b) ∙ ap (λ (l : Octets). pktLabel ++ l) (sym (hex-append a b))
+
+-- ---- the message of a word
+
+module _ (w : ℕ) (a out : Octets) where
+  module _ (h : handedIn w ≡ true) where
+    one : handedBy (outcome w a out) ≡ cut 0 (lengthIn w) out ∷ []
+    unfolding handedBy
+    one = ap (λ (b : Bool). pick b (cut 0 (lengthIn w) out ∷ []) []) h
+
+    pub joined-one : cut 0 (lengthIn w) out ≡ joined (handedBy (outcome w a out))
+    unfolding joined
+    joined-one = sym (ap joined one ∙ append-nil (cut 0 (lengthIn w) out))
+
+    pub message-empty : length (cut 0 (lengthIn w) out) ≡ 0 → messageText (handedBy (outcome w a out)) ≡ 45 ∷ []
+    message-empty e = ap messageText one ∙ go (cut 0 (lengthIn w) out) e
+      where
+        go : (m : Octets) → length m ≡ 0 → messageText (m ∷ []) ≡ 45 ∷ []
+        go [] e = refl
+        go (x ∷ m) e = absurd (omega arith)
+
+    pub message-some : (length (cut 0 (lengthIn w) out) ≡ 0 → ⊥) → messageText (handedBy (outcome w a out)) ≡ hexOf (cut 0 (lengthIn w) out)
+    message-some n = ap messageText one ∙ go (cut 0 (lengthIn w) out) n
+      where
+        go : (m : Octets) → (length m ≡ 0 → ⊥) → messageText (m ∷ []) ≡ hexOf m
+        go [] n = absurd (n refl)
+        go (x ∷ m) n = refl
+
+  module _ (h : handedIn w ≡ false) where
+    none : handedBy (outcome w a out) ≡ []
+    unfolding handedBy
+    none = ap (λ (b : Bool). pick b (cut 0 (lengthIn w) out ∷ []) []) h
+
+    pub joined-none : [] ≡ joined (handedBy (outcome w a out))
+    unfolding joined
+    joined-none = sym (ap joined none)
+
+    pub message-none : messageText (handedBy (outcome w a out)) ≡ []
+    message-none = ap messageText none

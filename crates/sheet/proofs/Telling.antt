@@ -1,0 +1,205 @@
+-- A printed line tells its event, answer, drop flag, packets and message: `Heard` of `specs/Told.antt`.
+-- Assumes nothing.
+use Prim.Native.Nat.{ℕ, zero, suc, _+_, _/_, _≤_, _<_}
+use mathlib.Core.Path.{_≡_, refl, sym, ap, subst, _∙_}
+use mathlib.Core.Bool.{Bool, true, false, _&&_}
+use mathlib.Core.List.{List, [], _∷_, _++_, append-assoc}
+use native.Mathlib.Omega.{arith}
+use borrow.Author.Tests.{ltb-true, ne-eqb}
+use lib.ListN.{length, drop, getD, replicate}
+use Rattle.state.proofs.Chains.{on}
+use lib.Dec.{ltb, eqb}
+use Rattle.octets.specs.Octets.{Octets, pick, cut}
+use Rattle.octets.specs.Octal.{Octal, octal-nil, octal-cons}
+use Rattle.octets.proofs.Octal.{octal-append, octal-cut, octal-splice}
+use Rattle.area.specs.Map.{slotSize, messageSize}
+use Rattle.area.specs.Ring.{slotAt, slotIn, trim, slotPacket}
+use Rattle.record.specs.Layout.{bit}
+use Rattle.record.specs.Reading.{decodeOf}
+use Rattle.calls.specs.Word.{answerIn, droppedIn, handedIn, lengthIn}
+use Rattle.calls.specs.Outcome.{Outcome, outcome}
+use Rattle.calls.specs.Packet.{packetBack, packetRules, shownPacket, packetCall, handedBy, lastPackets}
+use Rattle.ascii.specs.Letters as letter
+use Rattle.ascii.specs.Words.{words}
+use Rattle.ascii.specs.Digits.{digitOf, hexOf, decimalOf, octetsIn, numberFrom}
+use Rattle.ascii.proofs.Words.{Solid, solid-nil, solid-cons, solid-append, words-next, words-last, both}
+use Rattle.ascii.proofs.Digits.{digit-least, hex-solid, octets-hex, decimal-solid, number-decimal}
+use Rattle.sheet.specs.Kinds.{Name}
+use Rattle.sheet.specs.Kinds.name.{Fresh, Power, Command, Send, Push, Down, Consume, Credit, Air, Reply, Up, Report, Bad}
+use Rattle.sheet.specs.Names.{textOf}
+use Rattle.sheet.specs.Form.{evLabel}
+use Rattle.sheet.specs.Show.{numberOf, zeroBuffer, joined, wireShown, putOn, messageText, eventField, answerField, dropField, packetField, messageField, lineOf}
+use Rattle.sheet.specs.Told.{Told, messageIn, toldBy, toTell, Real, Heard}
+use Rattle.sheet.proofs.Showing.{joined-append, number-answer}
+use Rattle.sheet.proofs.Fitting.{called-by}
+
+-- ---- no word has a blank
+
+-- of a text whose characters are known
+unfoldable letters : Octets → Bool
+letters [] = true
+letters (x ∷ l) = ltb 32 x && letters l
+
+letters-solid : (l : Octets) → letters l ≡ true → Solid l
+unfolding letters
+letters-solid [] e = solid-nil
+letters-solid (x ∷ l) e = let t = both (ltb 32 x) (letters l) e in solid-cons (ltb-true 32 x (t .0)) (letters-solid l (t .1))
+
+name-solid : (x : Name) → Solid (textOf x)
+unfolding letters
+name-solid Fresh = letters-solid (textOf Fresh) refl
+name-solid Power = letters-solid (textOf Power) refl
+name-solid Command = letters-solid (textOf Command) refl
+name-solid Send = letters-solid (textOf Send) refl
+name-solid Push = letters-solid (textOf Push) refl
+name-solid Down = letters-solid (textOf Down) refl
+name-solid Consume = letters-solid (textOf Consume) refl
+name-solid Credit = letters-solid (textOf Credit) refl
+name-solid Air = letters-solid (textOf Air) refl
+name-solid Reply = letters-solid (textOf Reply) refl
+name-solid Up = letters-solid (textOf Up) refl
+name-solid Report = letters-solid (textOf Report) refl
+name-solid Bad = letters-solid (textOf Bad) refl
+
+event-solid : (x : Name) → Solid (eventField x)
+unfolding letters
+event-solid x = solid-append (letters-solid evLabel refl) (name-solid x)
+
+message-solid : (ms : List Octets) → Solid (messageText ms)
+unfolding letters
+message-solid [] = solid-nil
+message-solid ([] ∷ ms) = letters-solid (letter.dash ∷ []) refl
+message-solid ((x ∷ m) ∷ ms) = hex-solid (x ∷ m)
+
+-- ---- five words with a blank between each two
+
+words-five : {a b c d e : Octets} → Solid a → Solid b → Solid c → Solid d → Solid e
+    → words (a ++ (32 ∷ b) ++ (32 ∷ c) ++ (32 ∷ d) ++ (32 ∷ e)) ≡ a ∷ b ∷ c ∷ d ∷ e ∷ []
+words-five {a} {b} {c} {d} {e} sa sb sc sd se =
+    ap words
+    (append-assoc (a ++ (32 ∷ b) ++ (32 ∷ c)) (32 ∷ d) (32 ∷ e)
+    ∙ append-assoc (a ++ (32 ∷ b)) (32 ∷ c) ((32 ∷ d) ++ (32 ∷ e))
+    ∙ append-assoc a (32 ∷ b) ((32 ∷ c) ++ ((32 ∷ d) ++ (32 ∷ e))))
+    ∙ words-next sa (b ++ ((32 ∷ c) ++ ((32 ∷ d) ++ (32 ∷ e))))
+    ∙ ap (λ (ws : List Octets). a ∷ ws)
+    (words-next sb (c ++ ((32 ∷ d) ++ (32 ∷ e)))
+    ∙ ap (λ (ws : List Octets). b ∷ ws)
+    (words-next sc (d ++ (32 ∷ e))
+    ∙ ap (λ (ws : List Octets). c ∷ ws)
+    (words-next sd e ∙ ap (λ (ws : List Octets). d ∷ ws) (words-last se))))
+
+-- a label without its blank
+abbrev after : Octets → Octets
+after = drop 1
+
+-- ---- numbers
+
+answer-small : (w : ℕ) → numberOf (answerIn w) < 1000
+answer-small w = omega (arith, number-answer w)
+
+bit-small : (b : Bool) → bit b < 1000
+unfolding bit
+bit-small true = omega arith
+bit-small false = omega arith
+
+bit-again : (b : Bool) → eqb (bit b) 1 ≡ b
+unfolding bit
+bit-again true = refl
+bit-again false = refl
+
+-- ---- octets
+
+octal-zeros : (n : ℕ) → Octal (replicate n 0)
+octal-zeros zero = octal-nil
+octal-zeros (suc n) = octal-cons {x = 0} (omega arith) (octal-zeros n)
+
+octal-slot : (base : ℕ) {a : Octets} (i : ℕ) → Octal a → Octal (slotPacket base a i)
+unfolding slotPacket trim cut
+octal-slot base {a} i h = octal-cut 0 (3 + getD (slotIn base a i) 2 0) (octal-cut (slotAt base i) slotSize h)
+
+octal-handed : (o : Outcome) → Octal (o .out) → Octal (joined (handedBy o))
+unfolding handedBy joined
+octal-handed o h =
+    on (λ (ms : List Octets). Octal (joined ms)) (handedIn (o .word)) (λ _. octal-append (octal-cut 0 (lengthIn (o .word)) h) octal-nil) (λ _. octal-nil)
+
+octal-one : (a : Octets) (wire back : ℕ) → Octal a → Octal (joined (handedBy (packetCall a (zeroBuffer back) wire back)))
+unfolding packetCall
+octal-one a wire back h =
+    let r = decodeOf a in
+    let p = packetBack r wire back a in
+    called-by (λ (o : Outcome). Octal (joined (handedBy o))) (packetRules r wire back) (shownPacket p a (zeroBuffer back)) a (zeroBuffer back) refl
+    (λ _. octal-handed (shownPacket p a (zeroBuffer back)) (octal-splice 0 (octal-zeros messageSize) (octal-slot _ _ h)))
+    (λ n k. octal-handed (outcome n a (zeroBuffer back)) (octal-zeros messageSize))
+
+octal-wire : (a : Octets) (wire n : ℕ) → Octal a → Octal (wireShown wire n a)
+unfolding lastPackets joined
+octal-wire a wire zero h = octal-nil
+octal-wire a wire (suc n) h =
+    subst Octal (sym (joined-append (handedBy (packetCall a (zeroBuffer n) wire n)) (lastPackets a zeroBuffer wire n)))
+    (octal-append (octal-one a wire n h) (octal-wire a wire n h))
+
+octal-put : (o : Outcome) → Octal (o .area) → Octal (putOn o)
+octal-put o h = octal-append (octal-wire (o .area) 0 _ h) (octal-wire (o .area) 1 _ h)
+
+-- ---- the message
+
+message-one : (m : Octets) → Octal m → messageIn (messageText (m ∷ [])) ≡ m ∷ []
+unfolding hexOf digitOf
+message-one [] h = refl
+message-one (x ∷ m) h =
+    hex-again x m
+    ∙ ap (λ (l : Octets). l ∷ []) (octets-hex h)
+  where
+    first-digit : (c : ℕ) (l : Octets) → 48 ≤ c → messageIn (c ∷ l) ≡ octetsIn (c ∷ l) ∷ []
+    first-digit c l h = ap (λ (b : Bool). pick b ([] ∷ []) (octetsIn (c ∷ l) ∷ [])) (ne-eqb c 45 (λ e. omega arith))
+
+    hex-again : (x : ℕ) (m : Octets) → messageIn (hexOf (x ∷ m)) ≡ octetsIn (hexOf (x ∷ m)) ∷ []
+    hex-again x m = first-digit (digitOf (x / 16)) (digitOf x ∷ hexOf m) (digit-least (x / 16))
+
+message-again : (o : Outcome) → Octal (o .out) → messageIn (messageText (handedBy o)) ≡ handedBy o
+unfolding handedBy
+message-again o h =
+    on (λ (ms : List Octets). messageIn (messageText ms) ≡ ms) (handedIn (o .word))
+    (λ _. message-one (cut 0 (lengthIn (o .word)) (o .out)) (octal-cut 0 (lengthIn (o .word)) h)) (λ _. refl)
+
+-- ---- the line
+
+line-words : (x : Name) (o : Outcome)
+    → words (lineOf x o)
+    ≡ eventField x
+    ∷ after (answerField (o .word))
+    ∷ after (dropField (o .word))
+    ∷ after (packetField o)
+    ∷ after (messageField o)
+    ∷ []
+unfolding letters
+line-words x o =
+    words-five
+    (event-solid x)
+    (solid-append (letters-solid (letter.a ∷ letter.n ∷ letter.s ∷ letter.equals ∷ []) refl) (decimal-solid (numberOf (answerIn (o .word)))))
+    (solid-append (letters-solid (letter.d ∷ letter.r ∷ letter.o ∷ letter.p ∷ letter.equals ∷ []) refl) (decimal-solid (bit (droppedIn (o .word)))))
+    (solid-append (letters-solid (letter.p ∷ letter.k ∷ letter.t ∷ letter.equals ∷ []) refl) (hex-solid (putOn o)))
+    (solid-append (letters-solid (letter.m ∷ letter.s ∷ letter.g ∷ letter.equals ∷ []) refl) (message-solid (handedBy o)))
+
+told-again : (x : Name) (o : Outcome) → Real o → toldBy (lineOf x o) ≡ toTell x o
+told-again x o real =
+    let w = o .word in
+    let ws = line-words x o in
+    λ i.
+    record {
+      event = drop 3 (getD (ws i) 0 []);
+      answer = (ap (λ (l : List Octets). numberFrom 0 (drop 4 (getD l 1 []))) ws ∙ number-decimal _ (answer-small w)) i;
+      dropped =
+          (ap (λ (l : List Octets). eqb (numberFrom 0 (drop 5 (getD l 2 []))) 1) ws
+          ∙ ap (λ (n : ℕ). eqb n 1) (number-decimal (bit (droppedIn w)) (bit-small (droppedIn w)))
+          ∙ bit-again (droppedIn w)) i;
+      packets = (ap (λ (l : List Octets). octetsIn (drop 4 (getD l 3 []))) ws ∙ octets-hex (octal-put o (real .area))) i;
+      message = (ap (λ (l : List Octets). messageIn (drop 4 (getD l 4 []))) ws ∙ message-again o (real .out)) i;
+    }
+
+pub heard : Heard
+heard =
+    record {
+      again = told-again;
+      apart = λ x y o p r q e. sym (told-again x o r) ∙ ap toldBy e ∙ told-again y p q;
+    }

@@ -1,0 +1,13 @@
+-- `sheet::word::handed` meets its contract.
+-- Assumes nothing.
+use mathlib.Core.Path.{refl}
+use Rattle.calls.specs.Word.{handedIn}
+use Rattle.sheet.proofs.word.handed.Statement.{statement}
+use Rattle.sheet.proofs.word.handed.Tie as tie
+
+returns : tie.Need-returns
+unfolding handedIn
+returns c = refl
+
+pub handed-spec : {M : Type 1} → statement M
+handed-spec = tie.close (tie.spec returns)

@@ -1,0 +1,80 @@
+-- The line that an outcome prints: `ev=NAME ans=N drop=D pkt=HEX msg=HEX`. All of it is read from the word that a call answered, and from the
+-- area and the message buffer after it.
+-- Assumes nothing.
+use Prim.Native.Nat.{ℕ}
+use mathlib.Core.List.{List, [], _∷_, _++_}
+use lib.ListN.{replicate}
+use Rattle.octets.specs.Octets.{Octets}
+use Rattle.area.specs.Map.{messageSize}
+use Rattle.record.specs.Layout.{bit}
+use Rattle.model.specs.Effects.{Result, taken, refused}
+use Rattle.calls.specs.Word.{answerIn, droppedIn, downIn, upIn}
+use Rattle.calls.specs.Outcome.{Outcome}
+use Rattle.calls.specs.Packet.{handedBy, lastPackets}
+use Rattle.ascii.specs.Letters as letter
+use Rattle.ascii.specs.Digits.{hexOf, decimalOf}
+use Rattle.sheet.specs.Kinds.{Name}
+use Rattle.sheet.specs.Names.{textOf}
+use Rattle.sheet.specs.Form.{evLabel}
+
+abbrev pub ansLabel : Octets
+ansLabel = letter.blank ∷ letter.a ∷ letter.n ∷ letter.s ∷ letter.equals ∷ []
+
+abbrev pub dropLabel : Octets
+dropLabel = letter.blank ∷ letter.d ∷ letter.r ∷ letter.o ∷ letter.p ∷ letter.equals ∷ []
+
+abbrev pub pktLabel : Octets
+pktLabel = letter.blank ∷ letter.p ∷ letter.k ∷ letter.t ∷ letter.equals ∷ []
+
+abbrev pub msgLabel : Octets
+msgLabel = letter.blank ∷ letter.m ∷ letter.s ∷ letter.g ∷ letter.equals ∷ []
+
+-- ---- the answer as a number: 0 for a call that is taken
+
+abbrev pub numberOf : Result → ℕ
+numberOf taken = 0
+numberOf (refused n) = n
+
+-- ---- the octets put on wires: the packets put down, in their order, then those put up
+
+-- what the reader of packets hands out, each into a buffer of zeros
+abbrev pub zeroBuffer : ℕ → Octets
+zeroBuffer n = replicate messageSize 0
+
+unfoldable pub joined : List Octets → Octets
+joined [] = []
+joined (p ∷ ps) = p ++ joined ps
+
+-- the last n packets of a wire
+abbrev pub wireShown : ℕ → ℕ → Octets → Octets
+wireShown wire n a = joined (lastPackets a zeroBuffer wire n)
+
+abbrev pub putOn : Outcome → Octets
+putOn o = wireShown 0 (downIn (o .word)) (o .area) ++ wireShown 1 (upIn (o .word)) (o .area)
+
+-- ---- the message: nothing for none, a dash for an empty one
+
+abbrev pub messageText : List Octets → Octets
+messageText [] = []
+messageText ([] ∷ ms) = letter.dash ∷ []
+messageText ((x ∷ m) ∷ ms) = hexOf (x ∷ m)
+
+-- ---- the line, field by field
+
+abbrev pub eventField : Name → Octets
+eventField x = evLabel ++ textOf x
+
+abbrev pub answerField : ℕ → Octets
+answerField w = ansLabel ++ decimalOf (numberOf (answerIn w))
+
+abbrev pub dropField : ℕ → Octets
+dropField w = dropLabel ++ decimalOf (bit (droppedIn w))
+
+abbrev pub packetField : Outcome → Octets
+packetField o = pktLabel ++ hexOf (putOn o)
+
+abbrev pub messageField : Outcome → Octets
+messageField o = msgLabel ++ messageText (handedBy o)
+
+abbrev pub lineOf : Name → Outcome → Octets
+lineOf x o = eventField x ++ answerField (o .word) ++ dropField (o .word) ++ packetField o ++ messageField o

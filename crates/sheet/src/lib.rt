@@ -1,0 +1,35 @@
+// The paper sheet: a line of text in, a line of text out, over an area and a message buffer that the caller lends. The bench
+// is called through the functions that C calls.
+pub mod form;
+pub mod names;
+pub mod play;
+pub mod show;
+pub mod word;
+
+use crate::form::read_line;
+use crate::names::is_bad;
+use crate::play::play;
+use crate::show::put_outcome;
+use ascii::write::put;
+ghost use Rattle.sheet.specs.Sheet.{Answers, answerTo};
+
+// Octets of arguments, more than a line can hold.
+pub const ARGS: usize = 1050;
+
+// Characters of the longest line that is printed: two wires of sixteen packets and a message, in digits, and a line feed.
+pub const LINE: usize = 18600;
+
+// Answers a line: the characters of the answer, over the front of text.
+pub fn answer_line(area: &mut [u8], out: &mut [u8], line: &[u8], text: &mut [u8; LINE]) -> usize
+    ensures { λ n. ⌜ Answers (answerTo (now (line .entry)) (now (area .entry)) (now (out .entry))) (now (text .entry)) n (now (text .exit)) (now (area .exit)) (now (out .exit)) ⌝ }
+{
+    let mut args = [0u8; ARGS];
+    let asked = read_line(line, &mut args);
+    let name = asked.name;
+    let count = asked.count;
+    if is_bad(name) {
+        return put(text, 0, b"ev=bad ans=3");
+    }
+    let w = play(area, out, name, &args[0..count]);
+    put_outcome(text, name, w, area, out)
+}

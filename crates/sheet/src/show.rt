@@ -1,0 +1,111 @@
+// The line that an outcome prints, field by field.
+use crate::names::Name;
+use crate::names::put_name;
+use crate::word;
+use ascii::write::put;
+use ascii::write::put_decimal;
+use ascii::write::put_octets;
+use bench::exports::nci_packet;
+use octets::window;
+ghost use mathlib.Core.List.{[], _++_};
+ghost use Prim.Native.Nat.{_≤_};
+ghost use lib.ListN.{length};
+ghost use Rattle.ascii.specs.Digits.{hexOf, decimalOf};
+ghost use Rattle.ascii.specs.Writing.{Wrote};
+ghost use Rattle.calls.specs.Outcome.{outcome};
+ghost use Rattle.calls.specs.Packet.{packetCall, handedBy};
+ghost use Rattle.sheet.specs.Show.{zeroBuffer, joined, wireShown, eventField, answerField, dropField, packetField, messageField, lineOf};
+
+// The event's name.
+fn put_event(text: &mut [u8], at: usize, name: Name) -> usize
+    requires { ⌜ at ≤ length (now text) ⌝ }
+    ensures { λ r. ⌜ Wrote (now (text .entry)) at (eventField name) r (now (text .exit)) ⌝ }
+{
+    let n = put(text, at, b"ev=");
+    put_name(text, n, name)
+}
+
+// A label and a number.
+fn put_number(text: &mut [u8], at: usize, label: &[u8], number: u8) -> usize
+    requires { ⌜ at ≤ length (now text) ⌝ }
+    ensures { λ r. ⌜ Wrote (now (text .entry)) at (now (label .entry) ++ decimalOf number) r (now (text .exit)) ⌝ }
+{
+    let n = put(text, at, label);
+    put_decimal(text, n, number)
+}
+
+// The event, the answer and the drop flag.
+fn put_front(text: &mut [u8], at: usize, name: Name, w: u64) -> usize
+    requires { ⌜ at ≤ length (now text) ⌝ }
+    ensures { λ r. ⌜ Wrote (now (text .entry)) at (eventField name ++ answerField w ++ dropField w) r (now (text .exit)) ⌝ }
+{
+    let answer = word::answer(w);
+    let dropped = word::dropped(w);
+    let mut n = put_event(text, at, name);
+    n = put_number(text, n, b" ans=", answer);
+    put_number(text, n, b" drop=", dropped)
+}
+
+// A packet of a wire, counted from its end: what the reader of packets hands out, and nothing where there is none.
+fn put_packet(text: &mut [u8], at: usize, area: &[u8], wire: u8, back: u8) -> usize
+    requires { ⌜ at ≤ length (now text) ⌝ }
+    ensures { λ r. ⌜ Wrote (now (text .entry)) at (hexOf (joined (handedBy (packetCall (now (area .entry)) (zeroBuffer back) wire back)))) r (now (text .exit)) ⌝ }
+{
+    let mut buffer = [0u8; 1024];
+    let w = nci_packet(area, &mut buffer, wire, back);
+    if word::handed(w) {
+        return put_octets(text, at, window(&buffer, 0, word::length(w)));
+    }
+    at
+}
+
+// The last n packets of a wire, in their order.
+fn put_wire(text: &mut [u8], at: usize, area: &[u8], wire: u8, n: u8) -> usize
+    requires { ⌜ at ≤ length (now text) ⌝ }
+    ensures { λ r. ⌜ Wrote (now (text .entry)) at (hexOf (wireShown wire n (now (area .entry)))) r (now (text .exit)) ⌝ }
+{
+    let mut next = at;
+    let mut left = n;
+    while 0 < left {
+        left -= 1;
+        next = put_packet(text, next, area, wire, left);
+    }
+    next
+}
+
+// The octets put on wires: down, then up.
+fn put_packets(text: &mut [u8], at: usize, w: u64, area: &[u8]) -> usize
+    requires { ⌜ at ≤ length (now text) ⌝ }
+    ensures { λ r. ⌜ Wrote (now (text .entry)) at (packetField (outcome w (now (area .entry)) [])) r (now (text .exit)) ⌝ }
+{
+    let down = word::down(w);
+    let up = word::up(w);
+    let mut n = put(text, at, b" pkt=");
+    n = put_wire(text, n, area, 0, down);
+    put_wire(text, n, area, 1, up)
+}
+
+// The message handed out: nothing for none, a dash for an empty one.
+fn put_message(text: &mut [u8], at: usize, w: u64, out: &[u8]) -> usize
+    requires { ⌜ at ≤ length (now text) ⌝ }
+    ensures { λ r. ⌜ Wrote (now (text .entry)) at (messageField (outcome w [] (now (out .entry)))) r (now (text .exit)) ⌝ }
+{
+    let n = put(text, at, b" msg=");
+    if !word::handed(w) {
+        return n;
+    }
+    let message = window(out, 0, word::length(w));
+    if message.len() == 0 {
+        return put(text, n, b"-");
+    }
+    put_octets(text, n, message)
+}
+
+// The whole line.
+pub fn put_outcome(text: &mut [u8], name: Name, w: u64, area: &[u8], out: &[u8]) -> usize
+    ensures { λ r. ⌜ Wrote (now (text .entry)) 0 (lineOf name (outcome w (now (area .entry)) (now (out .entry)))) r (now (text .exit)) ⌝ }
+{
+    let mut n = put_front(text, 0, name, w);
+    n = put_packets(text, n, w, area);
+    put_message(text, n, w, out)
+}
