@@ -11,7 +11,7 @@ ROOT = os.path.join(os.path.dirname(os.path.abspath(__file__)), "..")
 DOCUMENTS = ["README.md", "examples/README.md", "second/README.md", "compare/README.md", "docs"]
 # what the claim speaks of, and what is proved beside it
 CLAIM = "crates/calls/specs/Demand.antt"
-BESIDE = ["Packet", "Refines", "Reached", "Played"]
+BESIDE = ["calls/specs/Packet", "calls/specs/Refines", "calls/specs/Reached", "calls/specs/Played", "sheet/specs/Told", "sheet/specs/FirstPapers"]
 SKIPPED = {".git", "target", "build"}
 WRONG = "docs/WRONG-PROGRAMS.md"
 LOGS = "docs/PROOFS.md"
@@ -76,7 +76,7 @@ def reading(texts):
     claim = reached(CLAIM, texts)
     wanted = set(claim)
     for name in BESIDE:
-        wanted |= reached("crates/calls/specs/%s.antt" % name, texts)
+        wanted |= reached("crates/%s.antt" % name, texts)
     stated, whole = {}, 0
     for total, group in listed(texts["README.md"]):
         if total != sum(group.values()):
