@@ -4,7 +4,8 @@
     papers.py [--program PATH] [--papers N] [--lines N] [--seed N]
 
 The second implementation makes the papers (second/src/bin/papers.rs), anew in each run; the same seed makes the same
-papers. A paper that is answered alike is one passed test."""
+papers. A paper that is answered alike is one passed test. The papers of examples/ are played too, and held to the answers
+that stand beside them."""
 import argparse
 import re
 import subprocess
@@ -15,7 +16,7 @@ from collections import Counter
 from itertools import zip_longest
 from pathlib import Path
 
-from programs import Suite, built, output, second
+from programs import ROOT, Suite, built, output, second
 
 BAD = b"ev=bad ans=3"
 # every call is taken and meets each of its refusals; 13 is met by no list of calls from fresh
@@ -58,6 +59,14 @@ def wrong_in(paper, program, play, lines, seconds):
     return wrong, ours.split(b"\n").count(BAD)
 
 
+def check_examples(suite, program, play):
+    for answers in sorted((ROOT / "examples").glob("*.answers.txt")):
+        paper = answers.with_name(answers.name.replace(".answers", "")).read_bytes()
+        stored = answers.read_bytes()
+        wrong = [f"{one.name} answers otherwise" for one in (program, play) if output(one, paper)[0] != stored]
+        suite.check(f"examples/{answers.name}", wrong)
+
+
 def main():
     given, suite = arguments(), Suite("papers")
     program, play = given.program or built("paper"), second("play")
@@ -73,6 +82,7 @@ def main():
             bad += more
     for name, taken in seconds.items():
         print(f"{name.name}: {given.papers * given.lines / taken:,.0f} lines a second")
+    check_examples(suite, program, play)
     due = int(covered[1]) if covered else None
     suite.check("bad lines", [] if bad == due else [f"{bad} answered as bad, {due} made"])
     return suite.end()
