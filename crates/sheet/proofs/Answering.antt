@@ -1,6 +1,6 @@
 -- What a line comes to, from the text that was written.
 -- Assumes nothing.
-use Prim.Native.Nat.{ℕ, _+_, _<_}
+use Prim.Native.Nat.{ℕ}
 use mathlib.Core.Path.{_≡_, refl, sym, ap, subst, _∙_}
 use mathlib.Core.Bool.{Bool, true, false}
 use mathlib.Core.List.{[], _∷_}
@@ -11,7 +11,7 @@ use Rattle.calls.specs.Word.{answerIn}
 use Rattle.calls.specs.Outcome.{Outcome}
 use Rattle.ascii.specs.Digits.{decimalOf}
 use Rattle.ascii.specs.Writing.{Wrote}
-use Rattle.ascii.proofs.Writing.{wrote-text, wrote-length}
+use Rattle.ascii.proofs.Writing.{wrote-length}
 use Rattle.sheet.specs.Kinds.{Name}
 use Rattle.sheet.specs.Names.{isBad}
 use Rattle.sheet.specs.Form.{argsOf, asks}

@@ -2,7 +2,7 @@
 -- hands out more than 1,024 octets.
 -- Assumes nothing.
 use Prim.Native.Nat.{ℕ, zero, suc, _+_, _*_, _/_, _%_, _≤_, _<_, min}
-use mathlib.Core.Path.{_≡_, refl, sym, ap, subst, _∙_}
+use mathlib.Core.Path.{_≡_, refl, ap, _∙_}
 use mathlib.Core.Bool.{Bool, true, false}
 use mathlib.Core.List.{List, [], _∷_, _++_}
 use native.Mathlib.Omega.{arith}
@@ -10,7 +10,7 @@ use native.Mathlib.Decide.{decLt}
 use borrow.Author.Tests.{ltb-true, ltb-false, leb-false, ne-eqb, not-false}
 use lib.ListN.{length, getD, length-append, length-take}
 use lib.Dec.{ltb, eqb}
-use Rattle.octets.specs.Octets.{Octets, pick, cut, splice}
+use Rattle.octets.specs.Octets.{Octets, pick, cut}
 use Rattle.state.specs.Conn.{openAt}
 use Rattle.state.proofs.Chains.{and-right, on}
 use Rattle.state.proofs.Progress.{done-room}
@@ -23,28 +23,27 @@ use Rattle.model.specs.Effects.{Result, taken, refused, fresh, power}
 use Rattle.model.specs.Refusals.{Rule, first}
 use Rattle.model.specs.Bench.{rules}
 use Rattle.model.proofs.Needs.{need}
-use Rattle.calls.specs.Kinds.{Record, Header, Reading}
+use Rattle.calls.specs.Kinds.{Record, Reading}
 use Rattle.calls.specs.Kinds.reading.{Packet, Drop}
 use Rattle.calls.specs.Word.{wordOf, answerIn, droppedIn, handedIn, lengthIn, downIn, upIn}
 use Rattle.calls.specs.Outcome.{Outcome, outcome, decided, entryRules, called}
 use Rattle.calls.specs.Packet.{wireRing, packetBack, packetRules, shownPacket, packetCall, handedBy, lastPackets}
-use Rattle.calls.specs.calls.Fresh.{roomRules, freshed, freshCall}
+use Rattle.calls.specs.calls.Fresh.{roomRules, freshCall}
 use Rattle.calls.specs.calls.Power.{powerCall}
-use Rattle.calls.specs.calls.Command.{commandedCount, commandCall}
+use Rattle.calls.specs.calls.Command.{commandCall}
 use Rattle.calls.specs.calls.Send.{sendCall}
 use Rattle.calls.specs.calls.Push.{hostSide, pushCall}
 use Rattle.calls.specs.calls.Down.{tookDown, downSlot, downRead, askedRun, dataDown, commandDown, arrived, downCall}
 use Rattle.calls.specs.calls.Consume.{oldestRead, controllerSide, joinedBy, consumedBy, consumeCall}
 use Rattle.calls.specs.calls.Credit.{creditCall}
 use Rattle.calls.specs.calls.Reply.{replyCall}
-use Rattle.calls.specs.calls.Up.{upRead, receivedJoin, receivedLength, receivedUp, comingUp, readUp, upCall}
+use Rattle.calls.specs.calls.Up.{upRead, receivedJoin, receivedUp, comingUp, readUp, upCall}
 use Rattle.calls.specs.calls.Air.{airCall}
 use Rattle.calls.specs.calls.Report.{reportCall}
 use Rattle.calls.proofs.Rules.{small, numbered, refused-small}
 use Rattle.calls.proofs.Called.{sound-area}
 use Rattle.calls.proofs.Words.{word-length}
 use Rattle.calls.proofs.Showing.{wire-fits, length-slot}
-use Rattle.ascii.specs.Digits.{hexOf, decimalOf}
 use Rattle.ascii.proofs.Digits.{length-hex, length-decimal}
 use Rattle.sheet.specs.Kinds.{Name}
 use Rattle.sheet.specs.Kinds.name.{Fresh, Power, Command, Send, Push, Down, Consume, Credit, Air, Reply, Up, Report, Bad}
@@ -52,7 +51,7 @@ use Rattle.sheet.specs.Names.{textOf, isBad}
 use Rattle.sheet.specs.Form.{evLabel, argsOf, asks}
 use Rattle.sheet.specs.Play.{played}
 use Rattle.sheet.specs.Show.{zeroBuffer, joined, wireShown, putOn, messageText, eventField, answerField, dropField, packetField, messageField, lineOf, numberOf}
-use Rattle.sheet.specs.Sheet.{Answer, badLine, answerTo}
+use Rattle.sheet.specs.Sheet.{Answer, answerTo}
 use Rattle.sheet.proofs.Naming.{name-short}
 use Rattle.sheet.proofs.Showing.{joined-append}
 

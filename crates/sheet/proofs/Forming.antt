@@ -1,6 +1,6 @@
 -- The laws of `specs/Form.antt`.
 -- Assumes nothing.
-use Prim.Native.Nat.{ℕ, _+_, _≤_}
+use Prim.Native.Nat.{ℕ, _≤_}
 use mathlib.Core.Path.{_≡_, refl, sym, ap, subst, _∙_}
 use mathlib.Core.Bool.{Bool, true, false, _&&_}
 use mathlib.Core.List.{[]}
@@ -12,7 +12,7 @@ use lib.Dec.{leb}
 use Rattle.octets.specs.Octets.{Octets, pick, cut, splice}
 use Rattle.octets.specs.Octal.{Octal, octal-nil}
 use Rattle.octets.proofs.Octets.{cut-same}
-use Rattle.ascii.specs.Words.{startsWith, upTo}
+use Rattle.ascii.specs.Words.{startsWith}
 use Rattle.ascii.specs.Digits.{isHex, octetsIn}
 use Rattle.ascii.proofs.Words.{both, up-to-short}
 use Rattle.ascii.proofs.Digits.{length-octets, octets-octal}

@@ -19,7 +19,6 @@ use Rattle.model.specs.Refusals.{first}
 use Rattle.model.specs.calls.Credit.{allZero}
 use Rattle.model.specs.calls.Up.{anyOf}
 use Rattle.model.specs.Bench.{step}
-use Rattle.calls.specs.Word.{answerIn}
 use Rattle.ascii.specs.Digits.{digitOf, valueOf, hexOf, allDigits, isHex, octetsIn, decimalOf}
 use Rattle.ascii.specs.Words.{sameAs, startsWith, upTo}
 use Rattle.sheet.specs.Names.{among}

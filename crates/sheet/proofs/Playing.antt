@@ -1,8 +1,8 @@
 -- What is printed for a paper is what the model shows: `Papers` of `specs/Paper.antt`.
 -- Assumes nothing.
-use Prim.Native.Nat.{ℕ, _≤_, _<_}
-use mathlib.Core.Path.{_≡_, refl, sym, ap, subst, _∙_}
-use mathlib.Core.Bool.{Bool, true, false, not}
+use Prim.Native.Nat.{ℕ, _≤_}
+use mathlib.Core.Path.{_≡_, refl, sym, ap, _∙_}
+use mathlib.Core.Bool.{Bool, true, not}
 use mathlib.Core.List.{List, [], _∷_, _++_}
 use native.Mathlib.Omega.{arith}
 use lib.ListN.{length, getD, drop, length-replicate}
@@ -21,12 +21,12 @@ use Rattle.model.specs.State.{State, cold}
 use Rattle.model.specs.Refusals.{first}
 use Rattle.model.specs.Effects.{Call, taken, refused, fresh, power, command, send, push, down, consume, credit, air, reply, up, report}
 use Rattle.model.specs.Bench.{step, rules}
-use Rattle.model.specs.Observer.{Event, eventOf}
-use Rattle.calls.specs.Kinds.{Record, Header, Reading}
+use Rattle.model.specs.Observer.{eventOf}
+use Rattle.calls.specs.Kinds.{Record, Reading}
 use Rattle.calls.specs.Kinds.reading.{Packet, Drop}
-use Rattle.calls.specs.Outcome.{Outcome, outcome, called}
+use Rattle.calls.specs.Outcome.{Outcome, called}
 use Rattle.calls.specs.Packet.{handedBy}
-use Rattle.calls.specs.Seen.{Puts, noPuts, putsAfter, seenBy}
+use Rattle.calls.specs.Seen.{Puts, noPuts, putsAfter}
 use Rattle.calls.specs.Refines.{Good, Along, Refines}
 use Rattle.calls.specs.calls.Fresh.{roomRules, freshed, freshCall}
 use Rattle.calls.specs.calls.Power.{powerCall}

@@ -1,16 +1,16 @@
 -- The laws of `specs/Show.antt`.
 -- Assumes nothing.
-use Prim.Native.Nat.{ℕ, zero, suc, _%_, _≤_, _<_}
+use Prim.Native.Nat.{ℕ, zero, suc, _%_, _<_}
 use mathlib.Core.Path.{_≡_, refl, sym, ap, _∙_}
 use mathlib.Core.Bool.{Bool, true, false}
 use mathlib.Core.List.{List, [], _∷_, _++_, append-assoc, append-nil}
 use native.Mathlib.Omega.{arith}
-use borrow.Author.Tests.{eqb-true, eqb-false}
+use borrow.Author.Tests.{eqb-true}
 use lib.ListN.{length}
 use lib.Dec.{eqb}
 use Rattle.octets.specs.Octets.{Octets, pick, cut}
 use Rattle.record.specs.Layout.{bit}
-use Rattle.model.specs.Effects.{Result, taken, refused}
+use Rattle.model.specs.Effects.{taken, refused}
 use Rattle.calls.specs.Word.{answerIn, handedIn, lengthIn}
 use Rattle.calls.specs.Outcome.{outcome}
 use Rattle.calls.specs.Packet.{packetCall, handedBy, lastPackets}

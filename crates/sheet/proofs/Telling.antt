@@ -21,7 +21,7 @@ use Rattle.calls.specs.Outcome.{Outcome, outcome}
 use Rattle.calls.specs.Packet.{packetBack, packetRules, shownPacket, packetCall, handedBy, lastPackets}
 use Rattle.ascii.specs.Letters as letter
 use Rattle.ascii.specs.Words.{words}
-use Rattle.ascii.specs.Digits.{digitOf, hexOf, decimalOf, octetsIn, numberFrom}
+use Rattle.ascii.specs.Digits.{digitOf, hexOf, octetsIn, numberFrom}
 use Rattle.ascii.proofs.Words.{Solid, solid-nil, solid-cons, solid-append, words-next, words-last, both}
 use Rattle.ascii.proofs.Digits.{digit-least, hex-solid, octets-hex, decimal-solid, number-decimal}
 use Rattle.sheet.specs.Kinds.{Name}

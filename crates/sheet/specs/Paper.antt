@@ -1,6 +1,6 @@
 -- A paper: lines one after the other, what is printed for them, and the same on the model of the bench, which knows no areas and no slots.
 -- Assumes nothing.
-use Prim.Native.Nat.{ℕ, _≤_}
+use Prim.Native.Nat.{_≤_}
 use mathlib.Core.Path.{_≡_}
 use mathlib.Core.List.{List, [], _∷_, _++_}
 use lib.ListN.{length, getD, drop}

@@ -8,7 +8,6 @@ use ascii::hex::decode;
 use ascii::hex::is_hex;
 use octets::window;
 ghost use mathlib.Core.Path.{_≡_};
-ghost use mathlib.Core.Bool.{true};
 ghost use Rattle.sheet.specs.Form.{headOf, tailOf, wordIn, digitsIn, kindFits, Reads};
 ghost use Rattle.sheet.specs.Form.{formed as Form·formed, fits as Form·fits};
 

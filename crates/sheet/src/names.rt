@@ -49,42 +49,32 @@ pub fn name_in(word: &[u8]) -> Name
     ensures { λ r. ⌜ r ≡ nameIn (now (word .entry)) ⌝ }
 {
     if same(word, b"fresh") {
-        return Name::Fresh;
+        Name::Fresh
+    } else if same(word, b"power") {
+        Name::Power
+    } else if same(word, b"command") {
+        Name::Command
+    } else if same(word, b"send") {
+        Name::Send
+    } else if same(word, b"push") {
+        Name::Push
+    } else if same(word, b"down") {
+        Name::Down
+    } else if same(word, b"consume") {
+        Name::Consume
+    } else if same(word, b"credit") {
+        Name::Credit
+    } else if same(word, b"air") {
+        Name::Air
+    } else if same(word, b"reply") {
+        Name::Reply
+    } else if same(word, b"up") {
+        Name::Up
+    } else if same(word, b"report") {
+        Name::Report
+    } else {
+        Name::Bad
     }
-    if same(word, b"power") {
-        return Name::Power;
-    }
-    if same(word, b"command") {
-        return Name::Command;
-    }
-    if same(word, b"send") {
-        return Name::Send;
-    }
-    if same(word, b"push") {
-        return Name::Push;
-    }
-    if same(word, b"down") {
-        return Name::Down;
-    }
-    if same(word, b"consume") {
-        return Name::Consume;
-    }
-    if same(word, b"credit") {
-        return Name::Credit;
-    }
-    if same(word, b"air") {
-        return Name::Air;
-    }
-    if same(word, b"reply") {
-        return Name::Reply;
-    }
-    if same(word, b"up") {
-        return Name::Up;
-    }
-    if same(word, b"report") {
-        return Name::Report;
-    }
-    Name::Bad
 }
 
 // Writes a name.

@@ -8,7 +8,7 @@ use native.Mathlib.Numerals.{add-one}
 use borrow.Author.Tests.{eq-eqb, ne-eqb}
 use lib.ListN.{length, drop, getD}
 use mathlib.Core.List.{[], _∷_}
-use Rattle.octets.specs.Octets.{Octets, pick}
+use Rattle.octets.specs.Octets.{pick}
 use Rattle.ascii.specs.Words.{upTo}
 use Rattle.ascii.proofs.Words.{up-to-turn, up-to-end}
 use borrow.Author.Needs.{needs}

@@ -1,6 +1,6 @@
 -- `ascii::find::same` meets its contract. What is left to compare decides.
 -- Assumes nothing.
-use Prim.Native.Nat.{ℕ, suc, _-_, _≤_, _<_}
+use Prim.Native.Nat.{suc, _-_, _≤_, _<_}
 use mathlib.Core.Path.{_≡_, sym, ap, _∙_}
 use mathlib.Core.Bool.{Bool, _&&_}
 use native.Mathlib.Omega.{arith}
@@ -10,7 +10,6 @@ use lib.ListN.{length, drop, getD}
 use Rattle.ascii.specs.Words.{sameAs}
 use Rattle.ascii.proofs.Words.{same-short, same-turn, same-end}
 use borrow.Author.Needs.{needs}
-use Prim.Native.Nat.{ℕ, _-_, _≤_}
 use Rattle.ascii.proofs.find.same.Statement.{statement}
 use Rattle.ascii.proofs.find.same.Tie as tie
 

@@ -1,19 +1,16 @@
 -- `ascii::hex::decode` meets its contract. The invariant: the first i octets are written.
 -- Assumes nothing.
-use Prim.Native.Nat.{ℕ, suc, _+_, _-_, _*_, _/_, _≤_, _<_}
+use Prim.Native.Nat.{ℕ, _+_, _-_, _*_, _/_, _≤_}
 use mathlib.Core.Path.{_≡_, sym, ap, _∙_}
 use native.Mathlib.Omega.{arith}
 use native.Mathlib.Numerals.{add-one}
 use lib.ListN.{length, take, set, getD}
 use lib.Seq.{take-all}
-use Rattle.octets.specs.Octets.{Octets, splice}
+use Rattle.octets.specs.Octets.{splice}
 use Rattle.octets.proofs.Octets.{splice-nil, splice-more, length-splice}
-use Rattle.ascii.specs.Digits.{valueOf, octetsIn}
+use Rattle.ascii.specs.Digits.{octetsIn}
 use Rattle.ascii.proofs.Digits.{hex-at, length-octets, octets-at}
 use borrow.Author.Needs.{needs}
-use Prim.Native.Nat.{ℕ, suc, _+_, _-_, _*_, _≤_, _<_}
-use mathlib.Core.List.{List}
-use Rattle.ascii.proofs.Digits.{hex-even, hex-at, length-octets, octets-at}
 use Rattle.ascii.proofs.hex.decode.Statement.{statement}
 use Rattle.ascii.proofs.hex.decode.Tie as tie
 

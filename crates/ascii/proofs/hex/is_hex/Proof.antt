@@ -1,8 +1,8 @@
 -- `ascii::hex::is_hex` meets its contract. The characters that are left decide.
 -- Assumes nothing.
 use Prim.Native.Nat.{ℕ, suc, _-_, _≤_, _<_}
-use mathlib.Core.Path.{_≡_, refl, sym, ap, _∙_}
-use mathlib.Core.Bool.{Bool, true, false, _&&_}
+use mathlib.Core.Path.{_≡_, sym, ap, _∙_}
+use mathlib.Core.Bool.{Bool, _&&_}
 use native.Mathlib.Omega.{arith}
 use native.Mathlib.Numerals.{add-one}
 use borrow.Author.Tests.{eq-eqb, ne-eqb, lt-ltb, le-ltb}
@@ -11,8 +11,6 @@ use lib.Dec.{ltb, eqb}
 use Rattle.ascii.specs.Digits.{valueOf, allDigits, isHex}
 use Rattle.ascii.proofs.Digits.{digits-turn}
 use borrow.Author.Needs.{needs}
-use Prim.Native.Nat.{ℕ, suc, _-_, _%_, _≤_}
-use lib.ListN.{length, drop, getD}
 use Rattle.ascii.proofs.hex.is_hex.Statement.{statement}
 use Rattle.ascii.proofs.hex.is_hex.Tie as tie
 

@@ -3,16 +3,8 @@
 use native.Mathlib.Omega.{arith}
 use Rattle.ascii.proofs.Taking.{taken-short, takes-line, takes-piece}
 use Rattle.ascii.proofs.Writing.{wrote-text}
-use Prim.Native.Nat.{ℕ, _+_, _-_, _≤_}
-use mathlib.Core.Path.{_≡_, sym, ap, _∙_}
-use mathlib.Core.Bool.{Bool}
-use borrow.Author.Tests.{lt-ltb, le-ltb}
-use lib.ListN.{length, take, drop, length-drop}
-use lib.Seq.{take-all}
-use Rattle.octets.specs.Octets.{Octets, cut}
-use Rattle.ascii.specs.Words.{upTo}
-use Rattle.ascii.specs.Input.{lineFeed}
-use Rattle.ascii.proofs.Words.{up-to-front, up-to-short}
+use Prim.Native.Nat.{_-_}
+use lib.ListN.{length, take}
 use borrow.Author.Needs.{needs}
 use Rattle.ascii.proofs.input.take.Statement.{statement}
 use Rattle.ascii.proofs.input.take.Tie as tie

@@ -2,9 +2,7 @@
 -- Assumes nothing.
 use Rattle.ascii.proofs.Writing.{wrote-front}
 use Prim.Native.Nat.{_-_}
-use native.Mathlib.Omega.{arith}
 use lib.ListN.{length}
-use Rattle.octets.proofs.Octets.{length-splice}
 use borrow.Author.Needs.{needs}
 use Rattle.ascii.proofs.write.put.Statement.{statement}
 use Rattle.ascii.proofs.write.put.Tie as tie

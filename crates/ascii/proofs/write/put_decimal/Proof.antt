@@ -3,9 +3,6 @@
 use mathlib.Core.Path.{sym}
 use Rattle.ascii.proofs.Digits.{decimal-one, decimal-two, decimal-three}
 use Rattle.ascii.proofs.Writing.{wrote-text}
-use mathlib.Core.Path.{sym, subst}
-use Rattle.octets.specs.Octets.{Octets}
-use Rattle.ascii.specs.Writing.{Wrote}
 use borrow.Author.Needs.{needs}
 use Rattle.ascii.proofs.write.put_decimal.Statement.{statement}
 use Rattle.ascii.proofs.write.put_decimal.Tie as tie

@@ -3,10 +3,6 @@
 use mathlib.Core.List.{[], _∷_}
 use Rattle.ascii.specs.Digits.{hexOf}
 use Rattle.ascii.proofs.Writing.{wrote-text}
-use mathlib.Core.Path.{subst}
-use denote.Ref.{now}
-use Rattle.octets.specs.Octets.{Octets}
-use Rattle.ascii.specs.Writing.{Wrote}
 use borrow.Author.Needs.{needs}
 use Rattle.ascii.proofs.write.put_octet.Statement.{statement}
 use Rattle.ascii.proofs.write.put_octet.Tie as tie

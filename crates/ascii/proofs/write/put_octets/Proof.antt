@@ -7,16 +7,11 @@ use native.Mathlib.Numerals.{add-one}
 use lib.ListN.{length, take, getD}
 use lib.Seq.{take-suc, take-all}
 use mathlib.Core.List.{[], _∷_, _++_}
-use Rattle.octets.specs.Octets.{Octets}
 use Rattle.ascii.specs.Digits.{hexOf}
 use Rattle.ascii.specs.Writing.{Wrote}
 use Rattle.ascii.proofs.Digits.{hex-append}
 use Rattle.ascii.proofs.Writing.{wrote-nothing, wrote-text, wrote-length, wrote-then}
 use borrow.Author.Needs.{needs}
-use mathlib.Core.Path.{_≡_, sym, ap, subst, _∙_}
-use lib.Seq.{take-suc, take-all, take-length}
-use Rattle.octets.proofs.Octets.{length-splice}
-use Rattle.ascii.proofs.Writing.{wrote-nothing, wrote-then}
 use Rattle.ascii.proofs.write.put_octets.Statement.{statement}
 use Rattle.ascii.proofs.write.put_octets.Tie as tie
 

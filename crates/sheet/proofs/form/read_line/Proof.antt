@@ -3,7 +3,6 @@
 use mathlib.Core.Path.{_≡_, sym, ap, subst, _∙_}
 use Prim.Native.Nat.{_/_}
 use mathlib.Core.Bool.{true}
-use mathlib.Core.List.{[]}
 use native.Mathlib.Omega.{arith}
 use borrow.Author.Tests.{not-true, not-false}
 use lib.ListN.{length}
@@ -12,12 +11,8 @@ use Rattle.octets.proofs.Octets.{splice-nil}
 use Rattle.ascii.specs.Digits.{isHex, octetsIn}
 use Rattle.ascii.proofs.Digits.{length-octets}
 use Rattle.sheet.specs.Names.{nameIn}
-use Rattle.sheet.specs.Form.{digitsIn, argsOf}
-use Rattle.sheet.proofs.Forming.{formed-hex, formed-args, args-short, unformed-args, unformed-asks, asked-name, asked-bad}
-use mathlib.Core.Path.{_≡_, sym, ap, _∙_}
-use Rattle.ascii.specs.Digits.{octetsIn}
-use Rattle.sheet.specs.Form.{argsOf}
-use Rattle.sheet.proofs.Forming.{formed-hex, formed-args, formed-asks, args-short, unformed-args, unformed-asks}
+use Rattle.sheet.specs.Form.{digitsIn}
+use Rattle.sheet.proofs.Forming.{formed-hex, formed-args, args-short, unformed-args, unformed-asks, asked-name, asked-bad, formed-asks}
 use borrow.Author.Needs.{needs}
 use Rattle.sheet.proofs.form.read_line.Statement.{statement}
 use Rattle.sheet.proofs.form.read_line.Tie as tie

@@ -1,7 +1,7 @@
 -- `sheet::form::tail` meets its contract.
 -- Assumes nothing.
 use mathlib.Core.Path.{_∙_}
-use lib.ListN.{length, drop}
+use lib.ListN.{drop}
 use Rattle.octets.specs.Octets.{cut}
 use Rattle.octets.proofs.Octets.{cut-rest}
 use borrow.Author.Needs.{needs}

@@ -1,7 +1,7 @@
 -- `sheet::show::put_packet` meets its contract: what is handed out, or nothing.
 -- Assumes nothing.
 use mathlib.Core.Path.{sym, ap, _∙_}
-use Rattle.octets.specs.Octets.{Octets, cut}
+use Rattle.octets.specs.Octets.{cut}
 use Rattle.calls.specs.Outcome.{Outcome}
 use Rattle.calls.specs.Packet.{handedBy}
 use Rattle.ascii.specs.Digits.{hexOf}

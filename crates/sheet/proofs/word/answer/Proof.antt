@@ -1,7 +1,6 @@
 -- `sheet::word::answer` meets its contract.
 -- Assumes nothing.
 use mathlib.Core.Path.{sym}
-use Rattle.calls.specs.Word.{answerIn}
 use Rattle.sheet.proofs.Showing.{number-answer}
 use borrow.Author.Needs.{needs}
 use Rattle.sheet.proofs.word.answer.Statement.{statement}
