@@ -10,7 +10,7 @@ use lib.Dec.{eqb}
 use borrow.Author.Tests.{leb-false, le-ltb, lt-leb}
 use Rattle.octets.specs.Octets.{Octets, pick, cut, splice}
 use Rattle.octets.proofs.Octets.{cut-same}
-use Rattle.calls.specs.Kinds.{Ring, Record}
+use Rattle.calls.specs.Kinds.{Record}
 use Rattle.area.specs.Map.{slotSize, wireSlots, wireSize, areaSize, messageSize, downAt, upAt}
 use Rattle.area.specs.Ring.{trim, slotPacket, tab, packetsFrom}
 use Rattle.area.proofs.Rings.{length-packets}
