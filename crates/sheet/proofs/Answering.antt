@@ -13,8 +13,8 @@ use Rattle.ascii.specs.Digits.{decimalOf}
 use Rattle.ascii.specs.Writing.{Wrote}
 use Rattle.ascii.proofs.Writing.{wrote-length}
 use Rattle.sheet.specs.Kinds.{Name}
-use Rattle.sheet.specs.Names.{isBad}
-use Rattle.sheet.specs.Form.{argsOf, asks}
+use Rattle.forms.specs.Names.{isBad}
+use Rattle.forms.specs.Form.{argsOf, asks}
 use Rattle.sheet.specs.Play.{played}
 use Rattle.sheet.specs.Sheet.{Answer, badLine, refusedLine, shown, answerTo, Answers}
 use Rattle.sheet.proofs.Fitting.{answer-short}

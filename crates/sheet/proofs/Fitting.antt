@@ -47,12 +47,12 @@ use Rattle.calls.proofs.Showing.{wire-fits, length-slot}
 use Rattle.ascii.proofs.Digits.{length-hex, length-decimal}
 use Rattle.sheet.specs.Kinds.{Name}
 use Rattle.sheet.specs.Kinds.name.{Fresh, Power, Command, Send, Push, Down, Consume, Credit, Air, Reply, Up, Report, Bad}
-use Rattle.sheet.specs.Names.{textOf, isBad}
-use Rattle.sheet.specs.Form.{evLabel, argsOf, asks}
+use Rattle.forms.specs.Names.{textOf, isBad}
+use Rattle.forms.specs.Form.{evLabel, argsOf, asks}
 use Rattle.sheet.specs.Play.{played}
 use Rattle.sheet.specs.Show.{zeroBuffer, joined, wireShown, putOn, messageText, eventField, answerField, dropField, packetField, messageField, lineOf, numberOf}
 use Rattle.sheet.specs.Sheet.{Answer, answerTo}
-use Rattle.sheet.proofs.Naming.{name-short}
+use Rattle.forms.proofs.Naming.{name-short}
 use Rattle.sheet.proofs.Showing.{joined-append}
 
 -- ---- what a call comes to: its effect, or a refusal's number

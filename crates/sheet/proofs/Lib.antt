@@ -1,5 +1,3 @@
-pub mod Naming
-pub mod Forming
 pub mod Showing
 pub mod Fitting
 pub mod Telling

@@ -21,8 +21,8 @@ use Rattle.model.specs.calls.Up.{anyOf}
 use Rattle.model.specs.Bench.{step}
 use Rattle.ascii.specs.Digits.{digitOf, valueOf, hexOf, allDigits, isHex, octetsIn, decimalOf}
 use Rattle.ascii.specs.Words.{sameAs, startsWith, upTo}
-use Rattle.sheet.specs.Names.{among}
-use Rattle.sheet.specs.Form.{formed, argsOf, asks}
+use Rattle.forms.specs.Names.{among}
+use Rattle.forms.specs.Form.{formed, argsOf, asks}
 use Rattle.sheet.specs.Show.{joined}
 use Rattle.sheet.specs.Paper.{modelled, firstProfile}
 use Rattle.sheet.specs.FirstPapers.{threeLines, threeAnswers, firstPaper, firstAnswers, FirstPapers}

@@ -55,13 +55,13 @@ use Rattle.calls.proofs.Reporting.{report-refines}
 use Rattle.ascii.specs.Digits.{hexOf}
 use Rattle.sheet.specs.Kinds.{Name}
 use Rattle.sheet.specs.Kinds.name.{Fresh, Power, Command, Send, Push, Down, Consume, Credit, Air, Reply, Up, Report, Bad}
-use Rattle.sheet.specs.Names.{isBad}
-use Rattle.sheet.specs.Form.{argsOf, asks}
+use Rattle.forms.specs.Names.{isBad}
+use Rattle.forms.specs.Form.{argsOf, asks}
 use Rattle.sheet.specs.Play.{played}
 use Rattle.sheet.specs.Show.{pktLabel, zeroBuffer, joined, eventField, answerField, dropField, messageField, lineOf}
 use Rattle.sheet.specs.Sheet.{Answer, refusedLine, shown, answerTo}
 use Rattle.sheet.specs.Paper.{printed, callsOf, eventLine, lineBy, nextBy, modelled, firstProfile, Papers}
-use Rattle.sheet.proofs.Forming.{args-octal}
+use Rattle.forms.proofs.Forming.{args-octal}
 use Rattle.sheet.proofs.Fitting.{called-by, decided-by}
 
 -- ---- a call's line is the line of what is seen of it

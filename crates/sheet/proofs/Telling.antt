@@ -26,8 +26,8 @@ use Rattle.ascii.proofs.Words.{Solid, solid-nil, solid-cons, solid-append, word
 use Rattle.ascii.proofs.Digits.{digit-least, hex-solid, octets-hex, decimal-solid, number-decimal}
 use Rattle.sheet.specs.Kinds.{Name}
 use Rattle.sheet.specs.Kinds.name.{Fresh, Power, Command, Send, Push, Down, Consume, Credit, Air, Reply, Up, Report, Bad}
-use Rattle.sheet.specs.Names.{textOf}
-use Rattle.sheet.specs.Form.{evLabel}
+use Rattle.forms.specs.Names.{textOf}
+use Rattle.forms.specs.Form.{evLabel}
 use Rattle.sheet.specs.Show.{numberOf, zeroBuffer, joined, wireShown, putOn, messageText, eventField, answerField, dropField, packetField, messageField, lineOf}
 use Rattle.sheet.specs.Told.{Told, messageIn, toldBy, toTell, Real, Heard}
 use Rattle.sheet.proofs.Showing.{joined-append, number-answer}

@@ -1,6 +1,4 @@
 pub mod Kinds
-pub mod Names
-pub mod Form
 pub mod Play
 pub mod Show
 pub mod Sheet

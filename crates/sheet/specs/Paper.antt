@@ -20,7 +20,7 @@ use Rattle.calls.specs.calls.Fresh.{freshCall}
 use Rattle.ascii.specs.Digits.{hexOf, decimalOf}
 use Rattle.sheet.specs.Kinds.{Name}
 use Rattle.sheet.specs.Kinds.name.{Fresh, Power, Command, Send, Push, Down, Consume, Credit, Air, Reply, Up, Report, Bad}
-use Rattle.sheet.specs.Form.{argsOf, asks}
+use Rattle.forms.specs.Form.{argsOf, asks}
 use Rattle.sheet.specs.Show.{ansLabel, dropLabel, pktLabel, msgLabel, numberOf, joined, messageText, eventField}
 use Rattle.sheet.specs.Sheet.{badLine, answerTo}
 

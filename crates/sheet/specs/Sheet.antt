@@ -8,8 +8,8 @@ use Rattle.octets.specs.Octets.{Octets, pick, splice}
 use Rattle.calls.specs.Outcome.{Outcome}
 use Rattle.sheet.specs.Kinds.{Name}
 use Rattle.sheet.specs.Kinds.name.{Bad}
-use Rattle.sheet.specs.Names.{isBad}
-use Rattle.sheet.specs.Form.{argsOf, asks}
+use Rattle.forms.specs.Names.{isBad}
+use Rattle.forms.specs.Form.{argsOf, asks}
 use Rattle.sheet.specs.Play.{played}
 use Rattle.sheet.specs.Show.{eventField, answerField, lineOf}
 

@@ -14,8 +14,8 @@ use Rattle.calls.specs.Packet.{handedBy, lastPackets}
 use Rattle.ascii.specs.Letters as letter
 use Rattle.ascii.specs.Digits.{hexOf, decimalOf}
 use Rattle.sheet.specs.Kinds.{Name}
-use Rattle.sheet.specs.Names.{textOf}
-use Rattle.sheet.specs.Form.{evLabel}
+use Rattle.forms.specs.Names.{textOf}
+use Rattle.forms.specs.Form.{evLabel}
 
 abbrev pub ansLabel : Octets
 ansLabel = letter.blank ∷ letter.a ∷ letter.n ∷ letter.s ∷ letter.equals ∷ []

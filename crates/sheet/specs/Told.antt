@@ -15,7 +15,7 @@ use Rattle.ascii.specs.Letters as letter
 use Rattle.ascii.specs.Words.{words}
 use Rattle.ascii.specs.Digits.{octetsIn, numberFrom}
 use Rattle.sheet.specs.Kinds.{Name}
-use Rattle.sheet.specs.Names.{textOf}
+use Rattle.forms.specs.Names.{textOf}
 use Rattle.sheet.specs.Show.{numberOf, putOn, lineOf}
 
 -- message: none, or one that may be empty

@@ -1,20 +1,16 @@
 // The paper sheet: a line of text in, a line of text out, over an area and a message buffer that the caller lends. The bench
 // is called through the functions that C calls.
-pub mod form;
-pub mod names;
 pub mod play;
 pub mod show;
 pub mod word;
 
-use crate::form::read_line;
-use crate::names::is_bad;
 use crate::play::play;
 use crate::show::put_outcome;
 use ascii::write::put;
+use forms::ARGS;
+use forms::form::read_line;
+use forms::names::is_bad;
 ghost use Rattle.sheet.specs.Sheet.{Answers, answerTo};
-
-// Octets of arguments, more than a line can hold.
-pub const ARGS: usize = 1050;
 
 // Characters of the longest line that is printed: two wires of sixteen packets and a message, in digits, and a line feed.
 pub const LINE: usize = 18600;

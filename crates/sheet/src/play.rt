@@ -1,5 +1,4 @@
 // A call by its name and the octets of its arguments, made as C makes it.
-use crate::names::Name;
 use bench::exports::nci_air;
 use bench::exports::nci_command;
 use bench::exports::nci_consume;
@@ -12,6 +11,7 @@ use bench::exports::nci_reply;
 use bench::exports::nci_report;
 use bench::exports::nci_send;
 use bench::exports::nci_up;
+use forms::names::Name;
 use octets::octet_at;
 use octets::window;
 ghost use mathlib.Core.Path.{_≡_};

@@ -1,11 +1,11 @@
 // The line that an outcome prints, field by field.
-use crate::names::Name;
-use crate::names::put_name;
 use crate::word;
 use ascii::write::put;
 use ascii::write::put_decimal;
 use ascii::write::put_octets;
 use bench::exports::nci_packet;
+use forms::names::Name;
+use forms::names::put_name;
 use octets::window;
 ghost use mathlib.Core.List.{[], _++_};
 ghost use Prim.Native.Nat.{_≤_};

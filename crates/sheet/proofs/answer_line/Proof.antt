@@ -7,9 +7,9 @@ use native.Mathlib.Omega.{arith}
 use lib.ListN.{length, replicate, length-replicate}
 use Rattle.calls.specs.Outcome.{outcome}
 use Rattle.octets.proofs.Octets.{cut-copied, length-splice}
-use Rattle.sheet.specs.Form.{argsOf}
+use Rattle.forms.specs.Form.{argsOf}
 use Rattle.sheet.specs.Sheet.{refusedLine, shown}
-use Rattle.sheet.proofs.Forming.{args-few}
+use Rattle.forms.proofs.Forming.{args-few}
 use Rattle.sheet.proofs.Answering.{answers, answer-bad, answer-call, bad-text}
 use borrow.Author.Needs.{needs}
 use Rattle.sheet.proofs.answer_line.Statement.{statement}

@@ -1,0 +1,107 @@
+-- The laws of `specs/Form.antt`.
+-- Assumes nothing.
+use Prim.Native.Nat.{ℕ, _≤_}
+use mathlib.Core.Path.{_≡_, refl, sym, ap, subst, _∙_}
+use mathlib.Core.Bool.{Bool, true, false, _&&_}
+use mathlib.Core.List.{[]}
+use native.Mathlib.Omega.{arith}
+use borrow.Author.Tests.{leb-true}
+use lib.ListN.{length, drop, length-drop}
+use lib.Seq.{take-all}
+use lib.Dec.{leb}
+use Rattle.octets.specs.Octets.{Octets, pick, cut, splice}
+use Rattle.octets.specs.Octal.{Octal, octal-nil}
+use Rattle.octets.proofs.Octets.{cut-same}
+use Rattle.ascii.specs.Words.{startsWith}
+use Rattle.ascii.specs.Digits.{isHex, octetsIn}
+use Rattle.ascii.proofs.Words.{both, up-to-short}
+use Rattle.ascii.proofs.Digits.{length-octets, octets-octal}
+use Rattle.forms.specs.Kinds.{Name}
+use Rattle.forms.specs.Kinds.name.{Bad}
+use Rattle.forms.specs.Names.{nameIn}
+use Rattle.forms.specs.Form.{evLabel, argLabel, headOf, tailOf, wordIn, digitsIn, formed, argsOf, fits, fitting, asks}
+
+-- all of a part of a line from an index on
+rest : (at n : ℕ) (l : Octets) → length l ≤ n → cut at n l ≡ drop at l
+unfolding cut
+rest at n l h = take-all n (drop at l) (simp length-drop (omega arith))
+
+pub head-rest : (at : ℕ) (l : Octets) → cut at (length l) (headOf l) ≡ drop at (headOf l)
+head-rest at l = rest at (length l) (headOf l) (up-to-short 32 l)
+
+pub tail-rest : (at : ℕ) (l : Octets) → cut at (length l) (tailOf l) ≡ drop at (tailOf l)
+tail-rest at l = rest at (length l) (tailOf l) (simp length-drop (omega arith))
+
+-- ---- a line that has the form
+
+module _ (l : Octets) (e : formed l ≡ true) where
+  parts : (leb (length l) 2100 && startsWith (headOf l) evLabel && startsWith (tailOf l) argLabel && isHex (digitsIn l)) ≡ true
+  unfolding formed
+  parts = e
+
+  pub formed-hex : isHex (digitsIn l) ≡ true
+  formed-hex = both (leb (length l) 2100 && startsWith (headOf l) evLabel && startsWith (tailOf l) argLabel) (isHex (digitsIn l)) parts .1
+
+  short : length l ≤ 2100
+  short =
+      let three = both (leb (length l) 2100 && startsWith (headOf l) evLabel && startsWith (tailOf l) argLabel) (isHex (digitsIn l)) parts .0 in
+      let two = both (leb (length l) 2100 && startsWith (headOf l) evLabel) (startsWith (tailOf l) argLabel) three .0 in
+      leb-true _ _ (both (leb (length l) 2100) (startsWith (headOf l) evLabel) two .0)
+
+  pub formed-args : argsOf l ≡ octetsIn (digitsIn l)
+  unfolding argsOf
+  formed-args = ap (λ (t : Bool). pick t (octetsIn (digitsIn l)) []) e
+
+  pub formed-asks : asks l ≡ fitting (nameIn (wordIn l)) (argsOf l)
+  unfolding asks
+  formed-asks = ap (λ (t : Bool). pick t (fitting (nameIn (wordIn l)) (argsOf l)) Bad) e
+
+  -- the buffer for arguments has room
+  pub args-short : length (octetsIn (digitsIn l)) ≤ 1050
+  args-short = omega (arith, length-octets (digitsIn l), length-drop 5 (tailOf l), length-drop (length (headOf l)) l, short)
+
+pub unformed-args : (l : Octets) → formed l ≡ false → argsOf l ≡ []
+unfolding argsOf
+unformed-args l e = ap (λ (t : Bool). pick t (octetsIn (digitsIn l)) []) e
+
+-- the buffer has room whatever the line
+pub args-few : (l : Octets) → length (argsOf l) ≤ 1050
+args-few l = go (formed l) refl
+  where
+    go : (b : Bool) → formed l ≡ b → length (argsOf l) ≤ 1050
+    go true e = omega (arith, ap length (formed-args l e), args-short l e)
+    go false e = omega (arith, ap length (unformed-args l e))
+
+-- they are octets
+pub args-octal : (l : Octets) → Octal (argsOf l)
+args-octal l = go (formed l) refl
+  where
+    go : (b : Bool) → formed l ≡ b → Octal (argsOf l)
+    go true e = subst Octal (sym (formed-args l e)) (octets-octal (digitsIn l) (formed-hex l e))
+    go false e = subst Octal (sym (unformed-args l e)) octal-nil
+
+pub unformed-asks : (l : Octets) → formed l ≡ false → asks l ≡ Bad
+unfolding asks
+unformed-asks l e = ap (λ (t : Bool). pick t (fitting (nameIn (wordIn l)) (argsOf l)) Bad) e
+
+-- ---- a line that has the form, read: win is the part of the buffer with its octets, x the name that its word is
+
+module _ (line args after win : Octets) (n : ℕ) (x : Name) (e : formed line ≡ true) (room : length args ≡ 1050) (count : n ≡ length (argsOf line))
+    (octets : after ≡ splice args 0 (argsOf line)) (part : win ≡ cut 0 n after) (named : x ≡ nameIn (wordIn line)) where
+  whole : win ≡ argsOf line
+  whole =
+      part
+      ∙ (λ i. cut 0 (count i) (octets i))
+      ∙ cut-same args 0 (argsOf line) (omega (arith, room, ap length (formed-args line e), args-short line e))
+
+  judged : (b : Bool) → fits x win ≡ b → pick b x Bad ≡ asks line
+  judged b f =
+      (λ i. pick (sym f i) x Bad)
+      ∙ (λ i. fitting (named i) (whole i))
+      ∙ sym (formed-asks line e)
+
+  pub asked-name : fits x win ≡ true → x ≡ asks line
+  asked-name f = judged true f
+
+  pub asked-bad : fits x win ≡ false → Bad ≡ asks line
+  asked-bad f = judged false f

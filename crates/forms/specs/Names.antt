@@ -1,0 +1,51 @@
+-- The names of events, as they are written.
+-- Assumes nothing.
+use mathlib.Core.Bool.{Bool, true, false}
+use mathlib.Core.List.{List, [], _∷_}
+use Rattle.octets.specs.Octets.{Octets, pick}
+use Rattle.ascii.specs.Letters.{a, b, c, d, e, f, h, i, l, m, n, o, p, r, s, t, u, w, y}
+use Rattle.ascii.specs.Words.{sameAs}
+use Rattle.forms.specs.Kinds.{Name}
+use Rattle.forms.specs.Kinds.name.{Fresh, Power, Command, Send, Push, Down, Consume, Credit, Air, Reply, Up, Report, Bad}
+
+abbrev pub textOf : Name → Octets
+textOf Fresh = f ∷ r ∷ e ∷ s ∷ h ∷ []
+textOf Power = p ∷ o ∷ w ∷ e ∷ r ∷ []
+textOf Command = c ∷ o ∷ m ∷ m ∷ a ∷ n ∷ d ∷ []
+textOf Send = s ∷ e ∷ n ∷ d ∷ []
+textOf Push = p ∷ u ∷ s ∷ h ∷ []
+textOf Down = d ∷ o ∷ w ∷ n ∷ []
+textOf Consume = c ∷ o ∷ n ∷ s ∷ u ∷ m ∷ e ∷ []
+textOf Credit = c ∷ r ∷ e ∷ d ∷ i ∷ t ∷ []
+textOf Air = a ∷ i ∷ r ∷ []
+textOf Reply = r ∷ e ∷ p ∷ l ∷ y ∷ []
+textOf Up = u ∷ p ∷ []
+textOf Report = r ∷ e ∷ p ∷ o ∷ r ∷ t ∷ []
+textOf Bad = b ∷ a ∷ d ∷ []
+
+-- those of the calls
+abbrev pub names : List Name
+names = Fresh ∷ Power ∷ Command ∷ Send ∷ Push ∷ Down ∷ Consume ∷ Credit ∷ Air ∷ Reply ∷ Up ∷ Report ∷ []
+
+-- the name that a word is
+unfoldable pub among : List Name → Octets → Name
+among [] l = Bad
+among (x ∷ xs) l = pick (sameAs l (textOf x)) x (among xs l)
+
+abbrev pub nameIn : Octets → Name
+nameIn = among names
+
+abbrev pub isBad : Name → Bool
+isBad Fresh = false
+isBad Power = false
+isBad Command = false
+isBad Send = false
+isBad Push = false
+isBad Down = false
+isBad Consume = false
+isBad Credit = false
+isBad Air = false
+isBad Reply = false
+isBad Up = false
+isBad Report = false
+isBad Bad = true
