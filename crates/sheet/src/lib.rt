@@ -15,7 +15,7 @@ ghost use Rattle.sheet.specs.Sheet.{Answers, answerTo};
 // Characters of the longest line that is printed: two wires of sixteen packets and a message, in digits, and a line feed.
 pub const LINE: usize = 18600;
 
-// Answers a line: the characters of the answer, over the front of text.
+// Answers a line: writes the answer over the front of text, and says how many characters it has.
 pub fn answer_line(area: &mut [u8], out: &mut [u8], line: &[u8], text: &mut [u8; LINE]) -> usize
     ensures { λ n. ⌜ Answers (answerTo (now (line .entry)) (now (area .entry)) (now (out .entry))) (now (text .entry)) n (now (text .exit)) (now (area .exit)) (now (out .exit)) ⌝ }
 {

@@ -18,7 +18,7 @@ ghost use mathlib.Core.Path.{_≡_};
 ghost use Rattle.calls.specs.Outcome.{outcome};
 ghost use Rattle.sheet.specs.Play.{played};
 
-// Makes the call.
+// Makes the call. A line of another form makes none, and its answer is 3.
 pub fn play(area: &mut [u8], out: &mut [u8], name: Name, args: &[u8]) -> u64
     ensures { λ w. ⌜ outcome w (now (area .exit)) (now (out .exit)) ≡ played name (now (args .entry)) (now (area .entry)) (now (out .entry)) ⌝ }
 {
