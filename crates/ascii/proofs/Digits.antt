@@ -6,7 +6,7 @@ use mathlib.Core.Bool.{true, _&&_}
 use mathlib.Core.List.{[], _∷_, _++_}
 use native.Mathlib.Omega.{arith}
 use native.Mathlib.Decide.{decLt}
-use borrow.Author.Tests.{lt-ltb, le-ltb, ltb-true, eqb-true}
+use borrow.Author.Tests.{lt-ltb, le-ltb, ltb-true}
 use lib.ListN.{length, drop, getD}
 use lib.Seq.{drop-cons}
 use lib.Dec.{ltb, eqb}
@@ -111,10 +111,6 @@ digits-at (x ∷ l) e zero h = ltb-true _ _ (both (ltb (valueOf x) 16) (allDigit
 digits-at (x ∷ l) e (suc i) h = digits-at l (both (ltb (valueOf x) 16) (allDigits l) e .1) i (omega arith)
 
 module _ (l : Octets) (e : isHex l ≡ true) where
-  pub hex-even : length l % 2 ≡ 0
-  unfolding isHex
-  hex-even = eqb-true _ _ (both (eqb (length l % 2) 0) (allDigits l) e .0)
-
   pub hex-at : (i : ℕ) → i < length l → valueOf (getD l i 0) < 16
   unfolding isHex
   hex-at = digits-at l (both (eqb (length l % 2) 0) (allDigits l) e .1)

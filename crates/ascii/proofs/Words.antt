@@ -5,7 +5,7 @@ use mathlib.Core.Path.{_≡_, refl, ap}
 use mathlib.Core.Bool.{Bool, true, false, _&&_, false≢true}
 use mathlib.Core.List.{[], _∷_, _++_}
 use native.Mathlib.Omega.{arith}
-use borrow.Author.Tests.{ne-eqb, eq-eqb, eqb-true}
+use borrow.Author.Tests.{ne-eqb, eqb-true}
 use lib.ListN.{length, take, drop, getD, drop-of-length-le}
 use lib.Seq.{drop-cons}
 use lib.Dec.{eqb}
@@ -42,11 +42,6 @@ same-turn a b i h k = λ j. sameAs (drop-cons a i 0 h j) (drop-cons b i 0 k j)
 pub same-end : (a b : Octets) (i : ℕ) → length a ≤ i → length b ≤ i → sameAs (drop i a) (drop i b) ≡ true
 unfolding sameAs
 same-end a b i h k = λ j. sameAs (drop-of-length-le a h j) (drop-of-length-le b k j)
-
-pub same-refl : (a : Octets) → sameAs a a ≡ true
-unfolding sameAs
-same-refl [] = refl
-same-refl (x ∷ a) = rw (eq-eqb x x refl) (same-refl a)
 
 pub same-true : (a b : Octets) → sameAs a b ≡ true → a ≡ b
 unfolding sameAs

@@ -13,9 +13,7 @@ use Rattle.octets.proofs.Octets.{cut-same}
 use Rattle.packets.specs.Packet.{packetOf}
 use Rattle.packets.specs.Headers.{controlHeader}
 use Rattle.calls.specs.Kinds.{Header, Ends, Record, Verdict, Note, Decision, Answered}
-use Rattle.state.specs.Conn.{openAt}
 use Rattle.state.proofs.Chains.{on}
-use Rattle.nfcc.specs.Controller.{judgeOf}
 use Rattle.messages.specs.Layout.{Message, Put, responseOf, responseMessage, noticeMessage}
 use Rattle.messages.specs.Packets.{responsePacket, noticePackets}
 use Rattle.messages.proofs.Lengths.{response-short, notice-short}
@@ -33,7 +31,6 @@ use Rattle.views.specs.Moves.{Sound}
 use Rattle.area.proofs.Puts.{length-puts}
 use Rattle.views.proofs.Answers.{Each, puts-up, puts-octal}
 use Rattle.model.specs.State as bench
-use Rattle.model.specs.State.{isOpen}
 use Rattle.model.specs.Effects.{Effect, down, taken}
 use Rattle.model.specs.calls.Down.{answers, deciding}
 use Rattle.calls.specs.Word.{upUnit, wordOf}
@@ -169,11 +166,6 @@ module _ (a out : Octets) (t : Record) (s : Sound a t) (small : Small t) (o : Oc
       let d = decided-view a t s small (h .id) (h .oid) m om in
       puts-up ps a _ (decided-sound a t s small (h .id) (h .oid) m om) writes (omega (arith, few, two))
       ∙ (λ i. bench.withUp (d i .up ++ ps) (d i))
-
-  -- which connections are open at the controller is the same question to the record and to the model
-  pub same-verdict : judgeOf (view a t .profile) (view a t .controller) (isOpen (view a t)) (h .id) (h .oid) m ≡ v
-  unfolding openAt
-  same-verdict = refl
 
   pub answered-refines : (q : Puts) → Follows (q .down) (t .down) → Follows (q .up) (t .up)
       → RefinesTo down q (answered t h m a out) (record { answer = taken; effect = effect })

@@ -1,6 +1,6 @@
 -- What a word says of a call that is taken is what it was made of.
 -- Assumes nothing.
-use Prim.Native.Nat.{ℕ, _+_, _/_, _%_, _^_, _≤_, _<_}
+use Prim.Native.Nat.{ℕ, _+_, _/_, _%_, _≤_, _<_}
 use native.Mathlib.Omega.{arith}
 use mathlib.Core.Path.{_≡_, refl, ap, _∙_}
 use mathlib.Core.Bool.{Bool, true, false}
@@ -56,11 +56,6 @@ module _ (d h : Bool) (len down up : ℕ) where
       pub word-up : up < 256 → upIn word ≡ up
       unfolding upIn wordOf
       word-up n = omega (arith, bit-least d, bit-least h, l, m, n)
-
-      -- a word is a number of the C interface
-      pub word-fits : up < 256 → word < 2 ^ 64
-      unfolding wordOf
-      word-fits n = omega (arith, bit-least d, bit-least h, l, m, n)
 
       -- what is seen of a call that answers it, and the packets put after it
       module _ (n : up < 256) (c : Call) (q : Puts) where
