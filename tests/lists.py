@@ -18,13 +18,13 @@ LISTS = ROOT / "tests" / "data" / "lists.txt"
 STATEMENTS = ROOT / "crates" / "opinions" / "proofs" / "Lists.antt"
 WIDTH = 120
 
-# of each call: its single octets, whether octets of any number follow them, and the refusals that papers have to meet.
-# 1 and 2 are about areas, which the model does not have; 13 is met by no list from fresh.
+# of each call: its single octets, whether octets of any number follow them, and the refusals that papers have to meet, in
+# their order. 1 and 2 are about areas, which the model does not have; 13 is met by no list from fresh.
 CALLS = {
     "fresh": (0, True, [3]),
     "power": (0, False, []),
     "command": (2, True, [3, 4, 5]),
-    "send": (1, True, [3, 6, 7]),
+    "send": (1, True, [3, 15, 6, 7]),
     "push": (1, False, [3, 4, 6, 8, 9, 10]),
     "down": (0, False, [4, 8, 12]),
     "consume": (1, False, [3, 4, 6, 8]),

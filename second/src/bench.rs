@@ -159,9 +159,12 @@ impl Bench {
         self.conclude(result)
     }
 
+    /// A message taken during a close would vanish with the response, so 15 comes
+    /// before the connection is looked at, whichever may close.
     fn try_send(&mut self, conn: u8, message: &[u8]) -> Result<Outcome, Refusal> {
         check_conn(conn)?;
         refuse_if(message.len() > MOST_DATA_MESSAGE, Refusal::ArgumentOutsideLimit)?;
+        refuse_if(self.host.awaits_close(), Refusal::SendDuringClose)?;
         let open = self.host.connection(conn).ok_or(Refusal::NotOpen)?;
         refuse_if(open.has_message_in_hand(), Refusal::MessageInHand)?;
         self.host.send(conn, message);

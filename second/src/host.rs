@@ -104,7 +104,7 @@ impl Host {
         self.unanswered.is_some()
     }
 
-    /// Refusal 10: the connections may be about to close.
+    /// Refusals 10 and 15: the connections may be about to close.
     pub fn awaits_close(&self) -> bool {
         self.unanswered.is_some_and(|command| {
             command.gid == CORE && [CORE_RESET, CORE_CONN_CLOSE].contains(&command.oid)

@@ -5,10 +5,16 @@
 //! since the last fresh or power and not yet taken by down or up. From that it
 //! counts, in document 01's words, what each report must say. It reads octets on
 //! its own, so that a fault of the packet layer does not excuse itself.
+//!
+//! It also numbers the calls, and knows from sends and pushes what the host has in
+//! hand: what a close or reset response discards was sent before its command.
+
+mod hand;
 
 use std::collections::VecDeque;
 
-use crate::call::{Call, Outcome};
+use crate::call::{Call, Outcome, FIRST_REFUSAL, LAST_REFUSAL};
+use hand::Hand;
 
 /// A call and what came of it.
 #[derive(Clone, Debug)]
@@ -55,6 +61,7 @@ fn see_packet(octets: &[u8]) -> Result<Seen<'_>, String> {
 enum Meaning {
     Opens {
         conn: u8,
+        payload: u8,
         credits: u8,
     },
     /// An OK response to CONN_CLOSE; the command names the connection.
@@ -76,11 +83,13 @@ fn meaning(octets: &[u8]) -> Result<Meaning, String> {
         (0, conn, _) => Meaning::Data { conn },
         (2, 0, 0x00) if seen.payload == [0] => Meaning::ClosesAll,
         (2, 0, 0x04) if seen.payload.len() == 4 && seen.payload[0] == 0 => {
-            Meaning::Opens { conn: seen.payload[3], credits: seen.payload[2] }
+            Meaning::Opens { conn: seen.payload[3], payload: seen.payload[1], credits: seen.payload[2] }
         }
         (2, 0, 0x05) if seen.payload == [0] => Meaning::ClosesNamed,
         (3, 0, 0x06) => Meaning::Credits(see_entries(seen.payload)?),
-        (3, 1, 0x05) if seen.payload.len() >= 11 => Meaning::Opens { conn: 0, credits: seen.payload[5] },
+        (3, 1, 0x05) if seen.payload.len() >= 11 => {
+            Meaning::Opens { conn: 0, payload: seen.payload[4], credits: seen.payload[5] }
+        }
         (3, 1, 0x06) => Meaning::ClosesStatic,
         (2 | 3, _, _) => Meaning::Other,
         _ => return Err(format!("not a packet of a controller {octets:02X?}")),
@@ -119,7 +128,9 @@ struct ControllerSide {
 #[derive(Clone, Debug, Default)]
 struct HostSide {
     open: bool,
+    payload: u8,
     grant: u8,
+    hand: Hand,
     pushed: i64,
     credits_read: i64,
     /// Messages taken by send.
@@ -134,13 +145,25 @@ struct Account {
     host: HostSide,
 }
 
+#[derive(Clone, Copy, Debug)]
+struct Command {
+    /// Its number among the calls.
+    number: u64,
+    /// Low four bits of the first payload octet: what a close names, for its response
+    /// does not.
+    named: Option<u8>,
+}
+
 #[derive(Clone, Debug, Default)]
 pub struct Observer {
+    /// Calls seen, refused ones too, from the list's first on.
+    calls: u64,
+    /// Messages in hand that a close or reset response discarded, in the whole list.
+    discards: u64,
     down_wire: VecDeque<Vec<u8>>,
     up_wire: VecDeque<Vec<u8>>,
-    /// Low four bits of the first payload octet of the command last taken: what a
-    /// close names, for its response does not.
-    command_named: Option<u8>,
+    /// The command last taken.
+    command: Option<Command>,
     accounts: [Account; 5],
 }
 
@@ -151,10 +174,11 @@ impl Observer {
 
     /// Takes an event into the account, or says what is wrong with it.
     pub fn see(&mut self, event: &Event) -> Result<(), String> {
+        self.calls += 1;
         if !event.outcome.taken() {
             return nothing_happened(&event.outcome);
         }
-        let expected = self.expect(&event.call)?;
+        let expected = self.expect(&event.call, &event.outcome)?;
         self.put_packets(&event.outcome)?;
         self.hand_out(&event.call, &event.outcome, &expected)?;
         if event.outcome.drop != expected.drop {
@@ -176,16 +200,17 @@ impl Observer {
     // A taken call.
 
     /// What the call does by itself: taking a packet off a wire, counting.
-    fn expect(&mut self, call: &Call) -> Result<Expected, String> {
+    fn expect(&mut self, call: &Call, outcome: &Outcome) -> Result<Expected, String> {
         match call {
             Call::Fresh(_) | Call::Power => {
-                *self = Observer::default();
+                *self = Observer { calls: self.calls, discards: self.discards, ..Observer::default() };
             }
-            Call::Command { payload, .. } => self.command_named = payload.first().map(|octet| octet & 15),
-            Call::Send { conn, message } => {
-                self.require_account(*conn)?.host.taken.push(message.clone());
+            Call::Command { payload, .. } => {
+                let named = payload.first().map(|octet| octet & 15);
+                self.command = Some(Command { number: self.calls, named });
             }
-            Call::Push(conn) => self.require_account(*conn)?.host.pushed += 1,
+            Call::Send { conn, message } => self.host_sends(*conn, message)?,
+            Call::Push(conn) => self.host_pushes(*conn, outcome)?,
             Call::Down => return self.take_down(),
             Call::Consume(conn) => {
                 self.require_account(*conn)?.controller.consumed += 1;
@@ -225,9 +250,9 @@ impl Observer {
         let octets = self.up_wire.pop_front().ok_or("up taken from an empty wire")?;
         let mut expected = Expected::default();
         match meaning(&octets)? {
-            Meaning::Opens { conn, credits } => self.host_opens(conn, credits)?,
-            Meaning::ClosesNamed => self.host_closes(self.named()?),
-            Meaning::ClosesAll => KNOWN.iter().for_each(|conn| self.host_closes(*conn)),
+            Meaning::Opens { conn, payload, credits } => self.host_opens(conn, payload, credits)?,
+            Meaning::ClosesNamed => self.response_closes(self.named()?)?,
+            Meaning::ClosesAll => KNOWN.iter().try_for_each(|conn| self.response_closes(*conn))?,
             Meaning::ClosesStatic => self.host_closes(0),
             Meaning::Credits(entries) => {
                 for (conn, credits) in entries {
@@ -247,21 +272,26 @@ impl Observer {
     }
 
     fn named(&self) -> Result<u8, String> {
-        self.command_named.ok_or_else(|| "a close that names no connection".to_string())
+        let named = self.command.and_then(|command| command.named);
+        named.ok_or_else(|| "a close that names no connection".to_string())
     }
 
-    fn host_opens(&mut self, conn: u8, grant: u8) -> Result<(), String> {
+    fn host_opens(&mut self, conn: u8, payload: u8, grant: u8) -> Result<(), String> {
         let account = self.require_account(conn)?;
         if account.host.open {
             return Err(format!("connection {conn} opened twice at the host"));
         }
-        account.host = HostSide { open: true, grant, ..HostSide::default() };
+        if payload == 0 {
+            return Err(format!("connection {conn} opened with payload 0"));
+        }
+        account.host = HostSide { open: true, payload, grant, ..HostSide::default() };
         Ok(())
     }
 
     fn host_closes(&mut self, conn: u8) {
         if let Some(account) = self.account(conn) {
             account.host.open = false;
+            account.host.hand = Hand::default();
         }
     }
 
@@ -285,7 +315,7 @@ impl Observer {
     /// Openings, closings and credits as the controller puts them up.
     fn controller_puts(&mut self, octets: &[u8]) -> Result<(), String> {
         match meaning(octets)? {
-            Meaning::Opens { conn, credits } => self.controller_opens(conn, credits)?,
+            Meaning::Opens { conn, credits, .. } => self.controller_opens(conn, credits)?,
             Meaning::ClosesNamed => {
                 let conn = self.named()?;
                 self.require_account(conn)?.controller.open = false;
@@ -399,7 +429,7 @@ impl Observer {
     /// Credits in notices and grants of openings not yet read.
     fn credits_on_up_wire(&self, conn: u8) -> i64 {
         let carried = |octets: &Vec<u8>| match meaning(octets) {
-            Ok(Meaning::Opens { conn: opened, credits }) if opened == conn => i64::from(credits),
+            Ok(Meaning::Opens { conn: opened, credits, .. }) if opened == conn => i64::from(credits),
             Ok(Meaning::Credits(entries)) => {
                 entries.iter().filter(|entry| entry.0 == conn).map(|entry| i64::from(entry.1)).sum()
             }
@@ -446,7 +476,7 @@ impl HostSide {
 /// A refused call counts for nothing, and does nothing.
 fn nothing_happened(outcome: &Outcome) -> Result<(), String> {
     let refusal = Outcome { answer: outcome.answer, ..Outcome::default() };
-    if *outcome == refusal && (3..=14).contains(&outcome.answer) {
+    if *outcome == refusal && (FIRST_REFUSAL..=LAST_REFUSAL).contains(&outcome.answer) {
         Ok(())
     } else {
         Err(format!("refused, yet {outcome:?}"))

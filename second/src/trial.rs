@@ -2,17 +2,18 @@
 //! tally of what has been met.
 
 use crate::bench::Bench;
-use crate::call::{Call, Outcome};
+use crate::call::{Call, Outcome, ANSWERS, FIRST_REFUSAL, LAST_REFUSAL};
 use crate::observer::{Event, Observer};
 use crate::sheet;
 
 /// The refusals that each call knows here, 1 and 2 left out (decision on
-/// refusals), in the order of `Call::NAMES`.
+/// refusals), each list in the order in which they are judged; the calls in the
+/// order of `Call::NAMES`.
 pub const REFUSALS_OF: [&[u8]; 12] = [
     &[3],
     &[],
     &[3, 4, 5],
-    &[3, 6, 7],
+    &[3, 15, 6, 7],
     &[3, 4, 6, 8, 9, 10],
     &[4, 8, 12],
     &[3, 4, 6, 8, 13],
@@ -34,9 +35,11 @@ pub struct Tally {
     /// Taken, for each call.
     pub taken: [u64; 12],
     /// Refused, for each call and number.
-    pub refused: [[u64; 15]; 12],
+    pub refused: [[u64; ANSWERS]; 12],
     pub messages: u64,
     pub drops: u64,
+    /// Messages that a close or reset response discarded from hand at the host.
+    pub discards: u64,
     /// Lists brought to rest.
     pub rests: u64,
 }
@@ -58,9 +61,9 @@ impl Tally {
         self.refused.iter().map(|of_call| of_call[usize::from(number)]).sum()
     }
 
-    /// Refusals 3 to 14 that never occurred.
+    /// Refusals that never occurred.
     pub fn never(&self) -> Vec<u8> {
-        (3..=14).filter(|number| self.refusals(*number) == 0).collect()
+        (FIRST_REFUSAL..=LAST_REFUSAL).filter(|number| self.refusals(*number) == 0).collect()
     }
 
     /// Calls never taken, and pairs of call and refusal never met, as `call` and
@@ -86,11 +89,12 @@ impl Tally {
         for (index, name) in Call::NAMES.iter().enumerate() {
             fields += &format!(" {name}={}", self.taken[index]);
         }
-        for number in 3..=14 {
+        for number in FIRST_REFUSAL..=LAST_REFUSAL {
             fields += &format!(" refusal{number}={}", self.refusals(number));
         }
         let never: Vec<String> = self.never().iter().map(u8::to_string).collect();
-        fields += &format!(" messages={} drops={} rests={}", self.messages, self.drops, self.rests);
+        fields += &format!(" messages={} drops={}", self.messages, self.drops);
+        fields += &format!(" discards={} rests={}", self.discards, self.rests);
         fields + &format!(" never={} gaps={}", list_or_none(&never), list_or_none(&self.gaps()))
     }
 }
@@ -128,7 +132,9 @@ impl Trial {
         self.events.push(Event { call, outcome });
         let event = &self.events[self.events.len() - 1];
         check_refusal(event, &before, &self.bench)?;
+        let discards = self.observer.discards();
         self.observer.see(event)?;
+        tally.discards += self.observer.discards() - discards;
         self.observer.sum_to_grant()?;
         check_reports(&self.observer, &self.bench)?;
         Ok(event)

@@ -273,7 +273,8 @@ fn close_names_its_connection_by_the_low_four_bits() {
     let mut bench = loopbacks(PROFILE, 2);
     assert_eq!(answers(&mut bench, 0, 5, &[0xF3, 2]), packets("40 05 01 00"));
     refuses(&bench, 6, |bench| bench.report(3));
-    takes(&bench, |bench| bench.send(3, &[1]));
+    // Open at the host still.
+    refuses(&bench, 8, |bench| bench.push(3));
     taken(bench.up());
     refuses(&bench, 6, |bench| bench.send(3, &[1]));
     takes(&bench, |bench| bench.send(2, &[1]));

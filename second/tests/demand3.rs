@@ -5,7 +5,7 @@ use common::*;
 use exam_bench::bench::Bench;
 use exam_bench::call::{Call, Outcome};
 use exam_bench::controller::Rf;
-use exam_bench::observer::{Event, Observer};
+use exam_bench::observer::Event;
 use exam_bench::player::{Lengths, Player};
 use exam_bench::trial::{check_reports, Tally, Trial};
 use std::collections::BTreeSet;
@@ -33,6 +33,21 @@ fn random_lists_keep_the_account_and_meet_every_call_and_refusal() {
     let tally = play(11, 150_000, Lengths::Any, |_, _| {});
     assert_eq!(tally.never(), [13]);
     assert_eq!(tally.gaps(), Vec::<String>::new());
+    assert!(tally.discards > 0);
+}
+
+/// Where the send would be taken, 6 and 7, each before the close is answered and after.
+#[test]
+fn random_lists_meet_15_in_every_place() {
+    let mut met = BTreeSet::new();
+    play(13, 50_000, Lengths::Short, |event, bench| {
+        if let (Call::Send { conn, .. }, 15) = (&event.call, event.outcome.answer) {
+            let in_hand = bench.host().connection(*conn).map(|open| open.has_message_in_hand());
+            let answered = bench.up_wire().iter().any(|packet| packet[0] >> 5 == 2);
+            met.insert((in_hand, answered));
+        }
+    });
+    assert_eq!(met.len(), 6);
 }
 
 #[test]
@@ -107,18 +122,7 @@ fn every_call_of_short_lists_fits_a_sheet_line() {
 /// still on the up wire at the end.
 fn course() -> (Vec<Event>, Bench) {
     let mut bench = fresh(PROFILE);
-    let command = |gid, oid, payload: &[u8]| Call::Command { gid, oid, payload: payload.to_vec() };
-    let calls = [
-        command(0, 0, &[0]),
-        Call::Down,
-        Call::Up,
-        Call::Up,
-        command(0, 1, &[0, 0]),
-        Call::Down,
-        Call::Up,
-        command(0, 4, &[1, 0]),
-        Call::Down,
-        Call::Up,
+    let traffic = [
         Call::Send { conn: 2, message: vec![1, 2, 3, 4, 5] },
         Call::Push(2),
         Call::Push(2),
@@ -131,7 +135,7 @@ fn course() -> (Vec<Event>, Bench) {
         Call::Report(2),
         Call::Credit,
     ];
-    let events = calls.into_iter().map(|call| Event { outcome: taken(bench.play(&call)), call }).collect();
+    let events = played(&mut bench, &[&opening(1)[..], &traffic].concat());
     (events, bench)
 }
 
@@ -139,16 +143,7 @@ fn course() -> (Vec<Event>, Bench) {
 fn verdict(change: impl FnOnce(&mut Vec<Event>)) -> Result<(), String> {
     let (mut events, bench) = course();
     change(&mut events);
-    let mut observer = Observer::new();
-    for event in &events {
-        observer.see(event)?;
-        observer.sum_to_grant()?;
-    }
-    check_reports(&observer, &bench)
-}
-
-fn place_of(events: &[Event], name: &str) -> usize {
-    events.iter().rposition(|event| event.call.name() == name).unwrap()
+    check_reports(&observed(&events)?, &bench)
 }
 
 #[test]

@@ -4,6 +4,7 @@
 mod common;
 use common::*;
 use exam_bench::bench::{Bench, WIRE_SLOTS};
+use exam_bench::call::ANSWERS;
 use exam_bench::controller::STORE_PACKETS;
 use exam_bench::player::{Lengths, Player, Random};
 
@@ -65,7 +66,7 @@ fn check_limits(bench: &Bench) {
 fn any_octets_on_the_wires() {
     let mut random = Random::new(5);
     let mut player = Player::new(6, Lengths::Any);
-    let mut refusals = [0u32; 15];
+    let mut refusals = [0u32; ANSWERS];
     for _ in 0..300 {
         let mut bench = fresh(player.begin());
         for _ in 0..200 {

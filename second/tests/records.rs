@@ -12,6 +12,7 @@
 mod common;
 use common::*;
 use exam_bench::bench::{Bench, WIRE_SLOTS};
+use exam_bench::call::ANSWERS;
 use exam_bench::connection::CONN_IDS;
 use exam_bench::controller::STORE_PACKETS;
 use exam_bench::player::{Lengths, Player, Random};
@@ -368,7 +369,7 @@ fn check_report(bench: &Bench, conn: u8) {
 fn any_numbers_in_the_record() {
     let mut random = Random::new(8);
     let mut player = Player::new(9, Lengths::Any);
-    let mut met = [0u32; 15];
+    let mut met = [0u32; ANSWERS];
     for _ in 0..300 {
         let mut bench = fresh(player.begin());
         for _ in 0..200 {

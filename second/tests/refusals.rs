@@ -4,6 +4,7 @@
 mod common;
 use common::*;
 use exam_bench::bench::Bench;
+use exam_bench::call::Call;
 
 const NOT_CONNECTIONS: [u8; 7] = [1, 6, 7, 15, 16, 18, 255];
 
@@ -90,6 +91,103 @@ fn send_needs_the_connection_open_at_the_host_and_nothing_in_hand() {
     takes(&bench, |bench| bench.send(2, &[1]));
     for conn in [0, 3, 4, 5] {
         refuses(&bench, 6, |bench| bench.send(conn, &[1]));
+    }
+}
+
+/// 2 and 3 open, a message in hand on 2.
+fn one_in_hand() -> Bench {
+    let mut bench = loopbacks(PROFILE, 2);
+    taken(bench.send(2, &[1]));
+    bench
+}
+
+/// What a send answers on 2, 3 and 4.
+fn sends(bench: &Bench) -> [u8; 3] {
+    [2, 3, 4].map(|conn| bench.clone().send(conn, &[1]).answer)
+}
+
+#[test]
+fn order_of_send() {
+    let mut bench = one_in_hand();
+    taken(bench.command(0, 5, &[2]));
+    // Without the close it would be 7 on 2, taken on 3, and 6 on the others.
+    for conn in [2, 3, 4, 5, 0] {
+        refuses(&bench, 15, |bench| bench.send(conn, &[1; 1024]));
+        refuses(&bench, 3, |bench| bench.send(conn, &[1; 1025]));
+    }
+    for conn in NOT_CONNECTIONS {
+        refuses(&bench, 3, |bench| bench.send(conn, &[1]));
+    }
+}
+
+/// Each command with what sends on 2, 3 and 4 answer once its response is read: 7, 0 and
+/// 6, as before it, where it closed nothing.
+#[test]
+fn send_waits_for_the_answer_to_every_reset_and_close() {
+    let commands: [(u8, &[u8], [u8; 3]); 11] = [
+        (5, &[2], [6, 0, 6]),
+        (5, &[3], [7, 6, 6]),
+        (5, &[0xF2, 3], [6, 0, 6]),
+        (5, &[2; 40], [6, 0, 6]),
+        (5, &[4], [7, 0, 6]),
+        (5, &[0], [7, 0, 6]),
+        (5, &[15], [7, 0, 6]),
+        (5, &[], [7, 0, 6]),
+        (0, &[0], [6, 6, 6]),
+        (0, &[7], [7, 0, 6]),
+        (0, &[], [7, 0, 6]),
+    ];
+    for (oid, payload, after) in commands {
+        let mut bench = one_in_hand();
+        assert_eq!(sends(&bench), [7, 0, 6]);
+        taken(bench.command(0, oid, payload));
+        while !bench.down_wire().is_empty() {
+            assert_eq!(sends(&bench), [15; 3]);
+            taken(bench.down());
+        }
+        assert_eq!(sends(&bench), [15; 3]);
+        taken(bench.up());
+        assert_eq!(sends(&bench), after, "OID {oid} {payload:?}");
+    }
+}
+
+#[test]
+fn send_waits_for_a_response_behind_other_packets() {
+    let mut bench = loopbacks(PROFILE, 1);
+    taken(bench.send(2, &[1]));
+    taken(bench.push(2));
+    taken(bench.down());
+    taken(bench.consume(2));
+    answers(&mut bench, 0, 5, &[5]);
+    refuses(&bench, 15, |bench| bench.send(2, &[1]));
+    assert_eq!(taken(bench.up()).message, Some(vec![1]));
+    refuses(&bench, 15, |bench| bench.send(2, &[1]));
+    taken(bench.up());
+    takes(&bench, |bench| bench.send(2, &[1]));
+}
+
+#[test]
+fn send_waits_for_no_other_command() {
+    for (gid, oid) in [(0, 1), (0, 2), (0, 4), (1, 0), (1, 3), (1, 5), (1, 6), (15, 63)] {
+        let mut bench = one_in_hand();
+        taken(bench.command(gid, oid, &[1, 0]));
+        assert_eq!(sends(&bench), [7, 0, 6], "GID {gid} OID {oid}");
+        taken(bench.down());
+        assert_eq!(sends(&bench), [7, 0, 6], "GID {gid} OID {oid}");
+    }
+}
+
+#[test]
+fn power_and_fresh_end_a_close_under_way() {
+    for (oid, end) in
+        [(5, Call::Power), (0, Call::Power), (5, Call::Fresh(PROFILE)), (0, Call::Fresh(PROFILE))]
+    {
+        let mut bench = one_in_hand();
+        taken(bench.command(0, oid, &[0]));
+        taken(bench.play(&end));
+        refuses(&bench, 6, |bench| bench.send(2, &[1]));
+        played(&mut bench, &opening(1));
+        takes(&bench, |bench| bench.send(2, &[1]));
     }
 }
 
@@ -379,7 +477,7 @@ fn report_is_of_the_controller_s_opening() {
     answers(&mut bench, 0, 5, &[2]);
     // Still open at the host, no longer at the controller.
     refuses(&bench, 6, |bench| bench.report(2));
-    takes(&bench, |bench| bench.send(2, &[1]));
+    refuses(&bench, 8, |bench| bench.push(2));
 }
 
 // 13, which no list of calls reaches

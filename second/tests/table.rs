@@ -275,8 +275,9 @@ fn reset_closes_all_at_the_controller_and_its_response_at_the_host() {
     for conn in 2..=5 {
         refuses(&bench, 6, |bench| bench.report(conn));
     }
-    refuses(&bench, 7, |bench| bench.send(3, &[1]));
-    takes(&bench, |bench| bench.send(2, &[1]));
+    // Open at the host still, and on 3 the message is in hand.
+    refuses(&bench, 10, |bench| bench.push(3));
+    refuses(&bench, 8, |bench| bench.push(2));
     taken(bench.up());
     for conn in 2..=5 {
         refuses(&bench, 6, |bench| bench.send(conn, &[1]));

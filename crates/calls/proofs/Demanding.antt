@@ -115,7 +115,7 @@ module _ (k : Key) (v : Octal (slice (k .call))) (a : Octets) (p : Puts) (o : Ac
   abbrev After : Outcome → Type 0
   After x = Stands (x .area) (putsAfter (k .call) p (x .word)) (observe (seenBy (k .call) p x) o)
 
-  press : After (pressed k a)
+  pub press : After (pressed k a)
   unfolding answerIn downIn upIn
   press = go (ltb (length (k .out)) messageSize) refl
     where

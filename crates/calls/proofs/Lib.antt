@@ -34,3 +34,4 @@ pub mod Demanding
 pub mod Reaching
 pub mod Displaying
 pub mod Playing
+pub mod Discarding

@@ -41,7 +41,7 @@ as-model area out m v e keys w r =
 
 -- ---- the table and the limits
 
-plays : (es : List Event) → Plays es → OctetPlays es
+pub plays : (es : List Event) → Plays es → OctetPlays es
 plays es h area out m v e before w keys u r same =
     let s = run-stands area out m v e before w in
     let a : Octets = areaAfter before (freshCall area out m .area) in

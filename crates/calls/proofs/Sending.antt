@@ -2,8 +2,6 @@
 -- Assumes nothing.
 use Prim.Native.Nat.{ℕ, _≤_}
 use mathlib.Core.Path.{_≡_, refl, sym, ap, _∙_}
-use Prim.Native.Nat.{ℕ, _≤_}
-use mathlib.Core.Path.{_≡_, refl, sym, ap, _∙_}
 use mathlib.Core.Bool.{false, not, _||_}
 use mathlib.Core.List.{List, [], _∷_}
 use native.Mathlib.Omega.{arith}
@@ -17,6 +15,7 @@ use Rattle.octets.proofs.Octal.{octal-splice}
 use Rattle.calls.specs.Kinds.{Counts, Record}
 use Rattle.state.specs.Conn.{placeOf, countsOf, handWith}
 use Rattle.state.proofs.Chains.{or-left, or-right}
+use Rattle.dh.specs.Host.{isClosing}
 use Rattle.area.specs.Map.{messageSize, places, handAt}
 use Rattle.record.specs.Reading.{decodeOf}
 use Rattle.record.specs.Fit.{Shape, Fit}
@@ -46,6 +45,7 @@ use Rattle.calls.proofs.Taken.{added-none, Took, took-refines}
 abbrev pub sendTests : Record → ℕ → Octets → List Rule
 sendTests r c m =
     rule 3 (leb places (placeOf c) || ltb messageSize (length m))
+    ∷ rule 15 (isClosing (r .ends .host .pending))
     ∷ rule 6 (not (hostSide r c .opened))
     ∷ rule 7 (hostSide r c .hand .full)
     ∷ []
@@ -53,6 +53,7 @@ sendTests r c m =
 pub send-tests : (a : Octets) (r : Record) (c : ℕ) (m : Octets) → sendRules c m (view a r) ≡ sendTests r c m
 send-tests a r c m i =
     rule 3 (noConn c || ltb messageSize (length m))
+    ∷ rule 15 (isClosing (r .ends .host .pending))
     ∷ rule 6 (not (hostSide r c .opened))
     ∷ rule 7 (hand-some (handAt (placeOf c)) (hostSide r c .payload) a (hostSide r c .hand) i)
     ∷ []

@@ -8,3 +8,4 @@ pub mod calls
 pub mod Demand
 pub mod Reached
 pub mod Played
+pub mod Discards

@@ -35,14 +35,19 @@ abbrev pub aimOf : Pending → ℕ
 aimOf pending.Nothing = 0
 aimOf (pending.Command a) = a .aim
 
--- a command is unanswered; RESET or CONN_CLOSE is
+-- a command is unanswered
 abbrev pub isBusy : Pending → Bool
 isBusy pending.Nothing = false
 isBusy (pending.Command a) = true
 
+-- RESET and CONN_CLOSE
+abbrev pub isCloser : ℕ → ℕ → Bool
+isCloser gid oid = eqb gid gidCore && (eqb oid oidReset || eqb oid oidConnClose)
+
+-- one of them is unanswered
 abbrev pub isClosing : Pending → Bool
 isClosing pending.Nothing = false
-isClosing (pending.Command a) = eqb (a .gid) gidCore && (eqb (a .oid) oidReset || eqb (a .oid) oidConnClose)
+isClosing (pending.Command a) = isCloser (a .gid) (a .oid)
 
 -- ---- what they say
 

@@ -1,6 +1,7 @@
 // send: a message is put in hand.
 use area::map;
 use area::movers;
+use dh::host::is_closing;
 use octets::choose;
 use record::write;
 use state::conn;
@@ -21,15 +22,19 @@ pub fn refusal(r: Record, conn: u8, message: &[u8]) -> u8
 {
     let ends = r.ends;
     let conns = ends.conns;
+    let host = ends.host;
+    let pending = host.pending;
     let k = conn::counts_of(conns, conn);
     let h = k.host;
     let place = conn::place_of(conn);
+    let closing = is_closing(pending);
     let seven = choose(h.hand.full, 7, 0);
     let six = choose(!h.opened, 6, seven);
+    let fifteen = choose(closing, 15, six);
     choose(
         (map::PLACES <= place) | (map::MESSAGE < message.len()),
         3,
-        six,
+        fifteen,
     )
 }
 

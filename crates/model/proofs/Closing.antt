@@ -1,14 +1,14 @@
 -- What closes a connection on the up wire: while no RESET or CONN_CLOSE is answered there, no dynamic connection closes.
 -- Assumes nothing.
 use Prim.Native.Nat.{ℕ}
-use mathlib.Core.Path.{_≡_, refl, sym, ap}
+use mathlib.Core.Path.{_≡_, refl, sym, ap, subst}
 use mathlib.Core.Bool.{Bool, true, false, _&&_, _||_}
 use mathlib.Core.List.{List, [], _∷_, _++_, cons≢nil}
 use lib.Dec.{eqb}
 use lib.ListN.{getD}
 use borrow.Author.Tests.{eq-eqb}
 use Rattle.octets.specs.Octets.{Octets, pick}
-use Rattle.packets.specs.Segments.{more, last}
+use Rattle.packets.specs.Segments.{Segment, more, last}
 use Rattle.model.specs.Kinds.{Pending, Command, Notice, Answer, Heard}
 use Rattle.model.specs.Kinds.pending as pending
 use Rattle.model.specs.Kinds.command as command
@@ -17,11 +17,12 @@ use Rattle.model.specs.Kinds.answer.{Done}
 use Rattle.model.specs.Kinds.heard.{Nothing, Answered}
 use Rattle.state.specs.Commands.{commandOf}
 use Rattle.dh.specs.Contents.{noticeOf, written}
-use Rattle.dh.specs.Host.{okAnswer, answerOf, noticed, heardAlone, creditsFor, isClosing}
+use Rattle.dh.specs.Host.{okAnswer, answerOf, noticed, heardAlone, creditsFor, isCloser, isClosing}
 use Rattle.state.proofs.Chains.{on}
 use Rattle.wires.specs.Meaning.{Meaning, datum, control, junk, meaning}
 use Rattle.wires.specs.Tally.{says}
-use Rattle.ends.specs.Changes.{Change, stays, opens, changeHeard}
+use Rattle.ends.specs.Changes.{Change, stays, opens, closes, changeHeard}
+use Rattle.model.specs.Observer.{changeIn}
 use Rattle.model.specs.invariant.Items.{Item, carry, credit, opened, closed, itemsBy, itemsIn, itemsOf}
 use Rattle.model.specs.invariant.Phases.{walk, start, live, Ends}
 use Rattle.model.specs.invariant.Commands.{Name, named, pendingName, repliesIn, replies}
@@ -48,7 +49,7 @@ no-close-append (closed ∷ a) b p q = absurd p
 -- ---- commands that close
 
 abbrev pub closing : Name → Bool
-closing n = eqb (n .gid) 0 && (eqb (n .oid) 0 || eqb (n .oid) 5)
+closing n = isCloser (n .gid) (n .oid)
 
 abbrev pub AllFree : List Name → Type 0
 AllFree [] = Unit {0}
@@ -85,24 +86,15 @@ closing-reset gid oid g o = rw (eq-eqb gid 0 g, eq-eqb oid 0 o)
 pub closing-close : (gid oid : ℕ) → gid ≡ 0 → oid ≡ 5 → closing (named gid oid) ≡ true
 closing-close gid oid g o = rw (eq-eqb gid 0 g, eq-eqb oid 5 o) (or-true (eqb oid 0))
 
--- ---- what a packet says closes no dynamic connection, unless it answers a RESET or a CONN_CLOSE
+-- ---- an answer closes nothing, unless it is to a RESET or a CONN_CLOSE
 
-module _ (d : ℕ) (dynamic : eqb 0 d ≡ false) where
+module _ (d : ℕ) where
   abbrev Keeps : Octets → Heard → Type 0
   Keeps m h = NoClose (itemsBy (changeHeard h m d))
 
   opens-keeps : (b : Bool) (x : Change) → NoClose (itemsBy x) → NoClose (itemsBy (pick b x stays))
   opens-keeps true x n = n
   opens-keeps false x n = tt
-
-  noticed-keeps : (n : Notice) (m : Octets) → Keeps m (noticed n m)
-  noticed-keeps notice.Reset m = tt
-  noticed-keeps notice.Credits m = on (λ (c : Change). NoClose (itemsBy c)) (eqb (creditsFor m d) 0) (λ e. tt) (λ e. tt)
-  noticed-keeps notice.GenericError m = tt
-  noticed-keeps notice.Discover m = tt
-  noticed-keeps notice.Activated m = opens-keeps (eqb 0 d) (opens _) tt
-  noticed-keeps notice.Deactivate m = rw dynamic tt
-  noticed-keeps notice.Unknown m = tt
 
   answer-keeps : (gid oid : ℕ) → closing (named gid oid) ≡ false → (c : Command) → Named gid oid c → (aim : ℕ) (m : Octets)
       → Keeps m (Answered (okAnswer c aim m))
@@ -122,32 +114,57 @@ module _ (d : ℕ) (dynamic : eqb 0 d ≡ false) where
       on (λ (a : Answer). Keeps m (Answered a)) (eqb (getD m 0 0) 0x00) {x = okAnswer (commandOf gid oid) aim m} {y = Done}
       (λ z. answer-keeps gid oid f (commandOf gid oid) (command-named gid oid) aim m) (λ z. tt)
 
-  says-keeps : (aim mt gid oid : ℕ) (m : Octets) → AllFree (pick (eqb mt 2) (named gid oid ∷ []) []) → Keeps m (says aim mt gid oid m)
+  -- so a response that closes a connection answers one of these two
+  pub closed-by : (aim gid oid : ℕ) (x : Segment) → changeIn aim d (control 2 gid oid x) ≡ closes → closing (named gid oid) ≡ true
   unfolding heardAlone
-  says-keeps aim mt gid oid m f =
-      on (Keeps m) (written mt gid oid m)
-      (λ w. on (Keeps m) (eqb mt 2)
-      (λ e. answered-keeps gid oid (go (eqb mt 2) e f) aim m)
-      (λ e. noticed-keeps (noticeOf gid oid) m))
-      (λ w. tt)
+  closed-by aim gid oid (more b) e = absurd (subst (λ (c : Change). NoClose (itemsBy c)) e tt)
+  closed-by aim gid oid (last m) e = go (closing (named gid oid)) refl
     where
-      go : (b : Bool) → b ≡ true → AllFree (pick b (named gid oid ∷ []) []) → closing (named gid oid) ≡ false
-      go true e f = f .0
-      go false e f = clash e refl
+      go : (b : Bool) → closing (named gid oid) ≡ b → b ≡ true
+      go true f = refl
+      go false f =
+          absurd
+          (subst (λ (c : Change). NoClose (itemsBy c)) e
+          (on (Keeps m) (written 2 gid oid m) (λ w. answered-keeps gid oid f aim m) (λ w. tt)))
 
-  no-close-in : (aim : ℕ) (q : Meaning) → AllFree (repliesIn q) → NoClose (itemsIn aim d q)
-  no-close-in aim (datum c x) f = on NoClose (eqb c d) (λ e. tt) (λ e. tt)
-  no-close-in aim (control mt gid oid (more b)) f = tt
-  no-close-in aim (control mt gid oid (last m)) f = on (Keeps m) (eqb mt 1) (λ e. tt) (λ e. says-keeps aim mt gid oid m f)
-  no-close-in aim junk f = tt
+  -- ---- and a notification closes no dynamic connection
 
-  pub no-close : (aim : ℕ) (w : List Octets) → AllFree (replies w) → NoClose (itemsOf aim d w)
-  unfolding itemsOf replies
-  no-close aim [] f = tt
-  no-close aim (p ∷ w) f =
-      no-close-append (itemsIn aim d (meaning p)) (itemsOf aim d w)
-      (no-close-in aim (meaning p) (free-left (repliesIn (meaning p)) (replies w) f))
-      (no-close aim w (free-right (repliesIn (meaning p)) (replies w) f))
+  module _ (dynamic : eqb 0 d ≡ false) where
+    noticed-keeps : (n : Notice) (m : Octets) → Keeps m (noticed n m)
+    noticed-keeps notice.Reset m = tt
+    noticed-keeps notice.Credits m = on (λ (c : Change). NoClose (itemsBy c)) (eqb (creditsFor m d) 0) (λ e. tt) (λ e. tt)
+    noticed-keeps notice.GenericError m = tt
+    noticed-keeps notice.Discover m = tt
+    noticed-keeps notice.Activated m = opens-keeps (eqb 0 d) (opens _) tt
+    noticed-keeps notice.Deactivate m = rw dynamic tt
+    noticed-keeps notice.Unknown m = tt
+
+    says-keeps : (aim mt gid oid : ℕ) (m : Octets) → AllFree (pick (eqb mt 2) (named gid oid ∷ []) []) → Keeps m (says aim mt gid oid m)
+    unfolding heardAlone
+    says-keeps aim mt gid oid m f =
+        on (Keeps m) (written mt gid oid m)
+        (λ w. on (Keeps m) (eqb mt 2)
+        (λ e. answered-keeps gid oid (go (eqb mt 2) e f) aim m)
+        (λ e. noticed-keeps (noticeOf gid oid) m))
+        (λ w. tt)
+      where
+        go : (b : Bool) → b ≡ true → AllFree (pick b (named gid oid ∷ []) []) → closing (named gid oid) ≡ false
+        go true e f = f .0
+        go false e f = clash e refl
+
+    no-close-in : (aim : ℕ) (q : Meaning) → AllFree (repliesIn q) → NoClose (itemsIn aim d q)
+    no-close-in aim (datum c x) f = on NoClose (eqb c d) (λ e. tt) (λ e. tt)
+    no-close-in aim (control mt gid oid (more b)) f = tt
+    no-close-in aim (control mt gid oid (last m)) f = on (Keeps m) (eqb mt 1) (λ e. tt) (λ e. says-keeps aim mt gid oid m f)
+    no-close-in aim junk f = tt
+
+    pub no-close : (aim : ℕ) (w : List Octets) → AllFree (replies w) → NoClose (itemsOf aim d w)
+    unfolding itemsOf replies
+    no-close aim [] f = tt
+    no-close aim (p ∷ w) f =
+        no-close-append (itemsIn aim d (meaning p)) (itemsOf aim d w)
+        (no-close-in aim (meaning p) (free-left (repliesIn (meaning p)) (replies w) f))
+        (no-close aim w (free-right (repliesIn (meaning p)) (replies w) f))
 
 -- ---- the order of items where nothing closes
 

@@ -42,7 +42,7 @@ use Rattle.model.proofs.Phases.{carry-first}
 use Rattle.model.proofs.Acts.{Reads, reads-good, read-good}
 use Rattle.model.proofs.Meanings.{hear-response, hear-notice}
 use Rattle.model.proofs.Granted.{GrantsOctet, says-octet}
-use Rattle.model.proofs.Order.{one-only}
+use Rattle.model.proofs.Order.{Only, one-only}
 use Rattle.model.proofs.Fine.{reads-change, readsL-change, standing-same, order-open, at-keeps}
 
 -- what is seen of a packet that the host takes
@@ -168,10 +168,10 @@ module _ (s : State) (aim : ℕ) (l : ℕ → Ledger) (p : Octets) (w : List Oct
     unfolding replies
     reply-first = rw means
 
-    answer : Answer
+    pub answer : Answer
     answer = answerOf (commandOf gid oid) aim m
 
-    says-answer : says aim 2 gid oid m ≡ Answered answer
+    pub says-answer : says aim 2 gid oid m ≡ Answered answer
     unfolding heardAlone answer
     says-answer = rw understood
 
@@ -183,7 +183,7 @@ module _ (s : State) (aim : ℕ) (l : ℕ → Ledger) (p : Octets) (w : List Oct
         hear-response k gid oid m (ap (λ (n : Name). n .gid) same) (ap (λ (n : Name). n .oid) same)
         ∙ ap (λ (n : ℕ). says n 2 gid oid m) a ∙ says-answer
 
-    settles : (h : Host) (a : Answer) → hostAfter h (Answered a) .pending ≡ pending.Nothing
+    pub settles : (h : Host) (a : Answer) → hostAfter h (Answered a) .pending ≡ pending.Nothing
     unfolding hostAfter
     settles h Done = refl
     settles h ClosesAll = refl
@@ -191,14 +191,20 @@ module _ (s : State) (aim : ℕ) (l : ℕ → Ledger) (p : Octets) (w : List Oct
     settles h (Opens c t) = refl
     settles h (Closes c) = refl
 
+    -- it is the only command under way
+    pub alone : Only (heads (s .down)) (replies w) (named gid oid) (s .host .pending)
+    alone = one-only (heads (s .down)) (replies w) (named gid oid) (s .host .pending) (rw reply-first at (f .order .single))
+
+    pub response-heard : hearOf (s .host .pending) 2 gid oid m ≡ Answered answer
+    response-heard = hears (s .host .pending) (f .aimed) (alone .names)
+
     response-keeps : Kept (understanding (hearOf (s .host .pending) 2 gid oid m) m (taken-off 2 gid oid) .next) (counted w s aim l (control 2 gid oid (last m)) [])
     response-keeps =
-        let q = one-only (heads (s .down)) (replies w) (named gid oid) (s .host .pending) (rw reply-first at (f .order .single)) in
-        rw (hears (s .host .pending) (f .aimed) (q .names))
+        rw response-heard
         (understood-keeps 2 gid oid m (Answered answer) (λ d. ap (λ (h : Heard). changeHeard h m d) says-answer)
         (λ d. subst (λ (h : Heard). GrantsOctet (changeHeard h m d)) says-answer (says-octet aim 2 gid oid m d)) means
         (rw (settles (s .host) answer)
-        record { clear = f .order .clear; single = rw (q .before, q .behind); tidy = λ b. clash b refl; empty = λ b. clash b refl })
+        record { clear = f .order .clear; single = rw (alone .before, alone .behind); tidy = λ b. clash b refl; empty = λ b. clash b refl })
         (rw (settles (s .host) answer) tt))
 
   -- a notification: whatever is unanswered stays so
@@ -213,7 +219,7 @@ module _ (s : State) (aim : ℕ) (l : ℕ → Ledger) (p : Octets) (w : List Oct
     keeps-host h notice.Deactivate = refl
     keeps-host h notice.Unknown = refl
 
-    said-host : hostAfter (s .host) (says aim 3 gid oid m) ≡ s .host
+    pub said-host : hostAfter (s .host) (says aim 3 gid oid m) ≡ s .host
     unfolding heardAlone hostAfter
     said-host = on (λ (h : Heard). hostAfter (s .host) h ≡ s .host) (written 3 gid oid m) (λ e. keeps-host (s .host) (noticeOf gid oid)) (λ e. refl)
 

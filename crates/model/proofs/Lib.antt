@@ -27,5 +27,7 @@ pub mod Sizes
 pub mod Shaped
 pub mod WellFormed
 pub mod DataOpen
+pub mod Discards
 pub mod Whole
 pub mod Limits
+pub mod Discarded

@@ -50,7 +50,7 @@ call-keeps up s aim l = up-keeps s aim l
 call-keeps (report c) s aim l = report-keeps s aim l c
 
 -- an account whose wires are the bench's is that of the bench
-same-account : (s : State) (o : Account) → Kept s o → o ≡ accountOf s (o .aim) (o .ledger)
+pub same-account : (s : State) (o : Account) → Kept s o → o ≡ accountOf s (o .aim) (o .ledger)
 same-account s o k = λ i. record { down = k .same-down i; up = k .same-up i; aim = o .aim; ledger = o .ledger }
 
 pub step-keeps : (c : Call) (s : State) (o : Account) → Kept s o → Kept (step c s .effect .next) (observe (eventOf c (step c s)) o)

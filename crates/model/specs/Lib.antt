@@ -10,6 +10,8 @@ pub mod Bench
 pub mod Observer
 pub mod Claim
 pub mod Reachable
+pub mod Discards
 pub mod invariant
 pub mod Table
 pub mod Limits
+pub mod Discarded

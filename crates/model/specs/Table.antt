@@ -48,7 +48,15 @@ pub record Gives (P : List Event → Type 0) (before : List Event) (gid oid : �
 
 -- ---- what comes before the rows
 
--- fresh with a profile of control payload 0x20, RESET, INIT: the controller is in IDLE
+-- INIT, which states a control payload of 0x20
+abbrev pub initialised : List Event
+initialised =
+    goesDown (command 0x0 0x01 (0x00 ∷ 0x00 ∷ [])) (0x20 ∷ 0x01 ∷ 0x02 ∷ 0x00 ∷ 0x00 ∷ [])
+    ∷ goesUp down (0x40 ∷ 0x01 ∷ 0x10 ∷ 0x00 ∷ 0x00 ∷ 0x00 ∷ 0x00 ∷ 0x00 ∷ 0x04 ∷ 0x00 ∷ 0x00 ∷ 0x20 ∷ 0x00 ∷ 0x00 ∷ 0x00 ∷ 0x00 ∷ 0x01 ∷ 0x01 ∷ 0x00 ∷ [])
+    ∷ quietly up
+    ∷ []
+
+-- fresh with a profile of that control payload, RESET, INIT: the controller is in IDLE
 abbrev pub readyWith : Octets → List Event
 readyWith profile =
     quietly (fresh profile)
@@ -56,10 +64,7 @@ readyWith profile =
     ∷ shows down [] ((0x40 ∷ 0x00 ∷ 0x01 ∷ 0x00 ∷ []) ∷ (0x60 ∷ 0x00 ∷ 0x05 ∷ 0x02 ∷ 0x01 ∷ 0x20 ∷ 0x00 ∷ 0x00 ∷ []) ∷ []) []
     ∷ quietly up
     ∷ quietly up
-    ∷ goesDown (command 0x0 0x01 (0x00 ∷ 0x00 ∷ [])) (0x20 ∷ 0x01 ∷ 0x02 ∷ 0x00 ∷ 0x00 ∷ [])
-    ∷ goesUp down (0x40 ∷ 0x01 ∷ 0x10 ∷ 0x00 ∷ 0x00 ∷ 0x00 ∷ 0x00 ∷ 0x00 ∷ 0x04 ∷ 0x00 ∷ 0x00 ∷ 0x20 ∷ 0x00 ∷ 0x00 ∷ 0x00 ∷ 0x00 ∷ 0x01 ∷ 0x01 ∷ 0x00 ∷ [])
-    ∷ quietly up
-    ∷ []
+    ∷ initialised
 
 -- the table's profile: payload 4 and 2 credits on 2-5
 abbrev pub profile : Octets
@@ -69,13 +74,15 @@ abbrev pub ready : List Event
 ready = readyWith profile
 
 -- CONN_CREATE: connection 2 is open at both ends
-abbrev pub onTwo : List Event
-onTwo =
-    ready
-    ++ goesDown (command 0x0 0x04 (0x01 ∷ 0x00 ∷ [])) (0x20 ∷ 0x04 ∷ 0x02 ∷ 0x01 ∷ 0x00 ∷ [])
+abbrev pub created : List Event
+created =
+    goesDown (command 0x0 0x04 (0x01 ∷ 0x00 ∷ [])) (0x20 ∷ 0x04 ∷ 0x02 ∷ 0x01 ∷ 0x00 ∷ [])
     ∷ goesUp down (0x40 ∷ 0x04 ∷ 0x04 ∷ 0x00 ∷ 0x04 ∷ 0x02 ∷ 0x02 ∷ [])
     ∷ quietly up
     ∷ []
+
+abbrev pub onTwo : List Event
+onTwo = ready ++ created
 
 -- octets 01-09 on 2: two packets spend both credits; the controller consumes them, and as 2 is a loopback they go up again
 abbrev pub twoConsumed : List Event

@@ -3,3 +3,4 @@ pub mod Phases
 pub mod Link
 pub mod Commands
 pub mod Bench
+pub mod Hands

@@ -183,7 +183,7 @@ close :
     ∷ puts (hex 5 0x2001020000) ∷ puts (hex 19 0x40011000000000000400002000000000010100) ∷ done
     ∷ puts (hex 5 0x2004020100) ∷ puts (hex 7 0x40040400040202) ∷ done ∷ puts (hex 5 0x2004020100)
     ∷ puts (hex 7 0x40040400040203) ∷ done ∷ done ∷ puts (hex 7 0x12000401020304) ∷ done ∷ puts (hex 4 0x20050102)
-    ∷ refusal 10 ∷ refusal 8 ∷ refusal 5 ∷ puts (hex 4 0x40050100) ∷ refusal 6 ∷ refusal 7 ∷ done ∷ refusal 6
+    ∷ refusal 10 ∷ refusal 8 ∷ refusal 5 ∷ puts (hex 4 0x40050100) ∷ refusal 6 ∷ refusal 15 ∷ done ∷ refusal 6
     ∷ refusal 6 ∷ refusal 6 ∷ refusal 6 ∷ puts (hex 5 0x2004020100) ∷ puts (hex 7 0x40040400040204) ∷ done
     ∷ puts (hex 5 0x2004020100) ∷ puts (hex 7 0x40040400040205) ∷ done ∷ puts (hex 5 0x2004020100)
     ∷ puts (hex 7 0x40040400040202) ∷ done ∷ done ∷ puts (hex 4 0x020001AA) ∷ done
@@ -191,6 +191,46 @@ close :
     ∷ puts (hex 4 0x20050100) ∷ puts (hex 4 0x40050101) ∷ done ∷ []
 unfolding lines
 close = refl
+
+-- While a close or a reset is under way every send is turned away, on any connection; what the response discards was in
+-- hand before the command.
+send-during-close :
+    lines
+    (fresh (hex 5 0x2004020401) ∷ command 0 0 (hex 1 0x01) ∷ down ∷ up ∷ up ∷ command 0 1 (hex 2 0x0000) ∷ down ∷ up
+    ∷ command 0 4 (hex 2 0x0100) ∷ down ∷ up ∷ command 0 4 (hex 2 0x0100) ∷ down ∷ up
+    ∷ send 2 (hex 9 0x010203040506070809) ∷ push 2 ∷ command 0 5 (hex 1 0x02) ∷ send 2 (hex 1 0xAA)
+    ∷ send 3 (hex 1 0xAA) ∷ send 4 (hex 1 0xAA) ∷ send 1 (hex 1 0xAA) ∷ down ∷ down ∷ send 3 (hex 1 0xAA) ∷ up
+    ∷ send 2 (hex 1 0xAA) ∷ send 3 (hex 5 0x0102030405) ∷ command 0 0 (hex 1 0x00) ∷ send 3 (hex 1 0xAA)
+    ∷ send 2 (hex 1 0xAA) ∷ down ∷ send 3 (hex 1 0xAA) ∷ up ∷ send 3 (hex 1 0xAA) ∷ up ∷ [])
+    start
+    ≡ done ∷ puts (hex 4 0x20000101) ∷ puts (hex 12 0x400001006000050201200000) ∷ done ∷ done
+    ∷ puts (hex 5 0x2001020000) ∷ puts (hex 19 0x40011000000000000400002000000000010100) ∷ done
+    ∷ puts (hex 5 0x2004020100) ∷ puts (hex 7 0x40040400040202) ∷ done ∷ puts (hex 5 0x2004020100)
+    ∷ puts (hex 7 0x40040400040203) ∷ done ∷ done ∷ puts (hex 7 0x12000401020304) ∷ puts (hex 4 0x20050102) ∷ refusal 15
+    ∷ refusal 15 ∷ refusal 15 ∷ refusal 3 ∷ done ∷ puts (hex 4 0x40050100) ∷ refusal 15 ∷ done ∷ refusal 6 ∷ done
+    ∷ puts (hex 4 0x20000100) ∷ refusal 15 ∷ refusal 15 ∷ puts (hex 12 0x400001006000050200200000) ∷ refusal 15 ∷ done
+    ∷ refusal 6 ∷ done ∷ []
+unfolding lines
+send-during-close = refl
+
+-- A close and a reset that are refused turn sends away too, until their answers are read, and discard nothing; another
+-- command turns none away.
+send-during-refused-close :
+    lines
+    (fresh (hex 5 0x2004020401) ∷ command 0 0 (hex 1 0x01) ∷ down ∷ up ∷ up ∷ command 0 1 (hex 2 0x0000) ∷ down ∷ up
+    ∷ command 0 4 (hex 2 0x0100) ∷ down ∷ up ∷ send 2 (hex 5 0x0102030405) ∷ push 2 ∷ command 0 5 (hex 1 0x05)
+    ∷ send 2 (hex 1 0xAA) ∷ send 5 (hex 1 0xAA) ∷ down ∷ down ∷ send 2 (hex 1 0xAA) ∷ up ∷ send 2 (hex 1 0xAA) ∷ push 2
+    ∷ down ∷ send 2 (hex 1 0xAA) ∷ command 0 0 (hex 1 0x07) ∷ send 2 (hex 1 0xBB) ∷ down ∷ send 5 (hex 1 0xBB) ∷ up
+    ∷ send 2 (hex 1 0xBB) ∷ command 0 1 (hex 2 0x0000) ∷ send 2 (hex 1 0xBB) ∷ send 5 (hex 1 0xBB) ∷ [])
+    start
+    ≡ done ∷ puts (hex 4 0x20000101) ∷ puts (hex 12 0x400001006000050201200000) ∷ done ∷ done
+    ∷ puts (hex 5 0x2001020000) ∷ puts (hex 19 0x40011000000000000400002000000000010100) ∷ done
+    ∷ puts (hex 5 0x2004020100) ∷ puts (hex 7 0x40040400040202) ∷ done ∷ done ∷ puts (hex 7 0x12000401020304)
+    ∷ puts (hex 4 0x20050105) ∷ refusal 15 ∷ refusal 15 ∷ done ∷ puts (hex 4 0x40050101) ∷ refusal 15 ∷ done ∷ refusal 7
+    ∷ puts (hex 4 0x02000105) ∷ done ∷ done ∷ puts (hex 4 0x20000107) ∷ refusal 15 ∷ puts (hex 4 0x40000105)
+    ∷ refusal 15 ∷ done ∷ refusal 7 ∷ puts (hex 5 0x2001020000) ∷ refusal 7 ∷ refusal 6 ∷ []
+unfolding lines
+send-during-refused-close = refl
 
 -- A reset in the middle of traffic, and the power key.
 reset-and-power :

@@ -3,7 +3,7 @@
 use super::{Lengths, Player};
 use crate::bench::Bench;
 use crate::call::Call;
-use crate::connection::CONN_IDS;
+use crate::connection::{CONN_IDS, STATIC_RF};
 use crate::controller::Pair;
 use crate::layout::*;
 
@@ -29,7 +29,7 @@ impl Player {
     }
 
     /// A Conn ID, now and then one that isn't there.
-    fn conn(&mut self) -> u8 {
+    pub(super) fn conn(&mut self) -> u8 {
         let any = self.random.octet();
         if self.random.chance(4) {
             self.random.pick(&[1, 6, 15, 16, 18, 255, any])
@@ -107,6 +107,20 @@ impl Player {
     pub(super) fn reset(&mut self) -> Call {
         let reset_type = self.random.pick(&[0, 1]);
         self.command(CORE, CORE_RESET, &[reset_type])
+    }
+
+    /// A close, mostly of this connection, or a reset, which alone closes connection 0;
+    /// some of them are refused.
+    pub(super) fn close_or_reset(&mut self, bench: &Bench, conn: u8) -> Call {
+        let (open, any) = (self.open_conn(bench), self.conn());
+        match self.random.below(20) {
+            0 => self.command(CORE, CORE_CONN_CLOSE, &[]),
+            1 => self.command(CORE, CORE_CONN_CLOSE, &[any]),
+            2..=3 => self.command(CORE, CORE_CONN_CLOSE, &[open]),
+            4 => self.command(CORE, CORE_RESET, &[7]),
+            5..=15 if conn != STATIC_RF => self.command(CORE, CORE_CONN_CLOSE, &[conn]),
+            _ => self.reset(),
+        }
     }
 
     pub(super) fn discover(&mut self) -> Call {

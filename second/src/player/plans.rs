@@ -42,7 +42,7 @@ impl Player {
         if !any_open(bench) && self.random.chance(85) {
             return if self.random.chance(55) { self.plan_create() } else { self.plan_way_to_active(bench) };
         }
-        match self.random.below(100) {
+        match self.random.below(113) {
             0..=11 => self.plan_create(),
             12..=35 => self.plan_traffic(bench),
             36..=42 => self.plan_flood_down(bench),
@@ -58,7 +58,8 @@ impl Player {
                 let conn = self.random.pick(&[0, 2, 1, 6, 15, 255]);
                 self.then(Call::Report(conn));
             }
-            _ => self.plan.push_back(Step::Rest),
+            97..=99 => self.plan.push_back(Step::Rest),
+            _ => self.plan_send_during_close(bench),
         }
     }
 
@@ -228,6 +229,37 @@ impl Player {
         self.then(Call::Push(conn));
         self.then_times(Call::Down, 2);
         self.then_times(Call::Up, 2);
+    }
+
+    /// A close or a reset with messages in hand, one of them pushed in part perhaps;
+    /// sends before its down, before its up, and after.
+    fn plan_send_during_close(&mut self, bench: &Bench) {
+        let conn = self.open_conn(bench);
+        let pushes = self.random.below(3);
+        let segments = pushes + 1 + self.random.below(3);
+        let message = self.message_of_segments(bench, conn, segments);
+        self.plan.push_back(Step::Settle);
+        self.then(Call::Send { conn, message });
+        self.then_times(Call::Push(conn), pushes);
+        self.then_sends(bench, conn);
+        let command = self.close_or_reset(bench, conn);
+        self.then(command);
+        self.then_perhaps(Call::Push(conn));
+        self.then_sends(bench, conn);
+        self.then_times(Call::Down, pushes + 1);
+        self.then_sends(bench, conn);
+        self.then(Call::Up);
+        self.then_sends(bench, conn);
+    }
+
+    /// One or two sends: on this connection, on an open one, on any.
+    fn then_sends(&mut self, bench: &Bench, conn: u8) {
+        for _ in 0..1 + self.random.below(2) {
+            let (open, any) = (self.open_conn(bench), self.conn());
+            let conn = self.random.pick(&[conn, conn, open, open, any]);
+            let message = self.message();
+            self.then(Call::Send { conn, message });
+        }
     }
 
     fn plan_odd_command(&mut self, bench: &Bench) {

@@ -1,9 +1,10 @@
-//! Benches in the states that tests begin from.
+//! Benches in the states that tests begin from, and histories for the observer.
 #![allow(dead_code)]
 
 use exam_bench::bench::{Bench, WIRE_SLOTS};
-use exam_bench::call::Outcome;
+use exam_bench::call::{Call, Outcome};
 use exam_bench::controller::Rf;
+use exam_bench::observer::{Event, Observer};
 
 /// The profile that a sheet starts with: control 32, dynamic 4 and 2 credits,
 /// static 4 and 1 credit.
@@ -162,4 +163,40 @@ pub fn takes(bench: &Bench, call: impl FnOnce(&mut Bench) -> Outcome) -> Outcome
 
 pub fn report(bench: &Bench, conn: u8) -> Vec<u8> {
     taken(bench.report(conn)).message.unwrap()
+}
+
+// Histories.
+
+pub fn asked(gid: u8, oid: u8, payload: &[u8]) -> Call {
+    Call::Command { gid, oid, payload: payload.to_vec() }
+}
+
+/// The calls that open so many loopbacks, from 2 on.
+pub fn opening(count: usize) -> Vec<Call> {
+    let mut calls = vec![asked(0, 0, &[0]), Call::Down, Call::Up, Call::Up];
+    calls.extend([asked(0, 1, &[0, 0]), Call::Down, Call::Up]);
+    for _ in 0..count {
+        calls.extend([asked(0, 4, &[1, 0]), Call::Down, Call::Up]);
+    }
+    calls
+}
+
+/// Makes calls that are all taken, and tells what came of each.
+pub fn played(bench: &mut Bench, calls: &[Call]) -> Vec<Event> {
+    calls.iter().map(|call| Event { call: call.clone(), outcome: taken(bench.play(call)) }).collect()
+}
+
+/// An observer who has seen these events, or what it found wrong.
+pub fn observed(events: &[Event]) -> Result<Observer, String> {
+    let mut observer = Observer::new();
+    for event in events {
+        observer.see(event)?;
+        observer.sum_to_grant()?;
+    }
+    Ok(observer)
+}
+
+/// Where the last call of this name is.
+pub fn place_of(events: &[Event], name: &str) -> usize {
+    events.iter().rposition(|event| event.call.name() == name).unwrap()
 }

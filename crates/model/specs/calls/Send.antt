@@ -6,6 +6,7 @@ use mathlib.Core.List.{List, [], _∷_}
 use lib.Dec.{ltb}
 use lib.ListN.{length}
 use Rattle.octets.specs.Octets.{Octets}
+use Rattle.dh.specs.Host.{isClosing}
 use Rattle.model.specs.Connection.{withHost, sent}
 use Rattle.model.specs.State.{State, at, withConns}
 use Rattle.model.specs.Effects.{Effect, quiet}
@@ -19,6 +20,7 @@ sending c m s = quiet (withConns (at c (λ k. withHost (sent m (k .host)) k) (s 
 abbrev pub sendRules : ℕ → Octets → State → List Rule
 sendRules c m s =
     rule 3 (noConn c || ltb 1024 (length m))
+    ∷ rule 15 (isClosing (s .host .pending))
     ∷ rule 6 (not (isHeld s c))
     ∷ rule 7 (not (isNil (s .conns c .host .hand)))
     ∷ []
