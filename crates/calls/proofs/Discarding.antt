@@ -17,7 +17,7 @@ use Rattle.model.specs.Effects.{push, taken}
 use Rattle.model.specs.Bench.{step}
 use Rattle.model.specs.Observer.{Event, Account, opening, observe, observed}
 use Rattle.model.specs.Table.{Plays}
-use Rattle.model.specs.Discards.{Diary, firstPage, note, diary, InOrder}
+use Rattle.model.specs.Discards.{Diary, firstPage, note, diary, DiscardClaim}
 use Rattle.model.specs.Discarded.{Discarding, Discarded}
 use Rattle.model.specs.invariant.Hands.{Marked}
 use Rattle.model.proofs.Discards.{MarkedIn, cold-marked, turned-marked, step-marked, marked-claim}
@@ -30,7 +30,7 @@ use Rattle.calls.specs.calls.Fresh.{freshCall}
 use Rattle.calls.specs.calls.Push.{pushCall}
 use Rattle.calls.specs.Demand.{Key, pressed, slice, AllOctal, areaAfter, seenIn}
 use Rattle.calls.specs.Played.{OctetPlays}
-use Rattle.calls.specs.Discards.{OctetInOrder, AlwaysInOrder}
+use Rattle.calls.specs.Discards.{OctetDiscardClaim, AlwaysDiscards}
 use Rattle.calls.proofs.Starting.{fresh-view}
 use Rattle.calls.proofs.Pushing.{push-refines}
 use Rattle.calls.proofs.Demanding.{all-refine, short-buffer, Stands, press, started, starts-standing}
@@ -58,9 +58,9 @@ module _ (k : Key) (v : Octal (slice (k .call))) (a : Octets) (p : Puts) (o : Ac
 -- ---- the claim
 
 module _ (a : Octets) (p : Puts) (o : Account) (s : Stands a p o) (n : Diary) (m : MarkedIn (viewOf a) n) where
-  octet-in-order : OctetInOrder a o n
-  octet-in-order =
-      let c : InOrder (viewOf a) o n = marked-claim (viewOf a) o n (s .keeps) m in
+  octet-discard-claim : OctetDiscardClaim a o n
+  octet-discard-claim =
+      let c : DiscardClaim (viewOf a) o n = marked-claim (viewOf a) o n (s .keeps) m in
       record {
         discards = c .discards;
         told =
@@ -71,19 +71,19 @@ module _ (a : Octets) (p : Puts) (o : Account) (s : Stands a p o) (n : Diary) (m
             (λ z. t .0 (sym same ∙ z), λ z. same ∙ t .1 z);
       }
 
-keys-in-order : (ks : List Key) → AllOctal ks → (a : Octets) (p : Puts) (o : Account) → Stands a p o → (n : Diary) → MarkedIn (viewOf a) n
-    → OctetInOrder (areaAfter ks a) (observed (seenIn ks p a) o) (diary (seenIn ks p a) o n)
+keys-marked : (ks : List Key) → AllOctal ks → (a : Octets) (p : Puts) (o : Account) → Stands a p o → (n : Diary) → MarkedIn (viewOf a) n
+    → OctetDiscardClaim (areaAfter ks a) (observed (seenIn ks p a) o) (diary (seenIn ks p a) o n)
 unfolding areaAfter seenIn observed diary
-keys-in-order [] v a p o s n m = octet-in-order a p o s n m
-keys-in-order (k ∷ ks) v a p o s n m =
-    keys-in-order ks (v .1) (pressed k a .area) (putsAfter (k .call) p (pressed k a .word)) (observe (seenBy (k .call) p (pressed k a)) o) (press k (v .0) a p o s)
+keys-marked [] v a p o s n m = octet-discard-claim a p o s n m
+keys-marked (k ∷ ks) v a p o s n m =
+    keys-marked ks (v .1) (pressed k a .area) (putsAfter (k .call) p (pressed k a .word)) (observe (seenBy (k .call) p (pressed k a)) o) (press k (v .0) a p o s)
     (note (seenBy (k .call) p (pressed k a)) o n) (press-marked k (v .0) a p o s n m)
 
-pub always-in-order : AlwaysInOrder
-always-in-order area out profile v e keys w =
+pub always-discards : AlwaysDiscards
+always-discards area out profile v e keys w =
     let s = starts-standing area out profile v e in
     let t = started area out profile e in
-    keys-in-order keys w (freshCall area out profile .area) noPuts opening s firstPage
+    keys-marked keys w (freshCall area out profile .area) noPuts opening s firstPage
     (subst (λ (x : State). MarkedIn x firstPage) (sym (fresh-view area profile (t .long) v (t .ok) out) ∙ ap (λ (x : Outcome). viewOf (x .area)) (t .taking))
     (cold-marked (profileIn profile) firstPage))
 
@@ -109,4 +109,6 @@ octet-discarded =
       reset = discarding _ _ _ (discarded .reset);
       close-read = plays _ (discarded .close-read);
       reset-read = plays _ (discarded .reset-read);
+      late = plays _ (discarded .late);
+      refused-close = plays _ (discarded .refused-close);
     }

@@ -21,7 +21,7 @@ use Rattle.calls.specs.calls.Push.{pushCall}
 use Rattle.calls.specs.Demand.{Key, AllOctal, areaAfter, seenIn}
 
 -- of the area a that a run has left, the account o and the diary n of what was seen of it
-pub record OctetInOrder (a : Octets) (o : Account) (n : Diary) : Type 0 where
+pub record OctetDiscardClaim (a : Octets) (o : Account) (n : Diary) : Type 0 where
   -- what the response that `up` reads next discards was taken before its command
   pub discards : TakenBefore o n
   -- and the diary is true of the bench: where a connection is open at the host and the down wire has room, push answers 8 exactly where the
@@ -30,9 +30,9 @@ pub record OctetInOrder (a : Octets) (o : Account) (n : Diary) : Type 0 where
       → (answerIn (pushCall a out c .word) ≡ refused 8) ↔ (n .hand c .left ≡ 0)
 
 -- for every run, from any area on which fresh answered 0, with any buffers
-abbrev pub AlwaysInOrder : Type 0
-AlwaysInOrder =
+abbrev pub AlwaysDiscards : Type 0
+AlwaysDiscards =
     (area out profile : Octets) → Octal area → answerIn (freshCall area out profile .word) ≡ taken → (keys : List Key) → AllOctal keys
-    → OctetInOrder (areaAfter keys (freshCall area out profile .area))
+    → OctetDiscardClaim (areaAfter keys (freshCall area out profile .area))
     (observed (seenIn keys noPuts (freshCall area out profile .area)) opening)
     (diaryOf (seenIn keys noPuts (freshCall area out profile .area)))

@@ -27,4 +27,6 @@ discarded =
       reset = record { played = λ s. refl; behind = _; next-read = refl; response = refl; shuts = refl; left = refl; sentAt = refl; commandAt = refl };
       close-read = λ s. refl;
       reset-read = λ s. refl;
+      late = λ s. refl;
+      refused-close = λ s. refl;
     }

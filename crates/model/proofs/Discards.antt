@@ -37,7 +37,7 @@ use Rattle.model.specs.calls.Reply.{replying}
 use Rattle.model.specs.calls.Up.{coming, reading, heard}
 use Rattle.model.specs.Bench.{rules, act, judged, step}
 use Rattle.model.specs.Observer.{Ledger, Account, opening, observe, observed, changeIn, eventOf, events, after}
-use Rattle.model.specs.Discards.{Hand, Diary, nothing, firstPage, withHands, handSent, handPushed, handBy, handHeard, noted, notedAs, turned, note, diary, Discards, TakenBefore, HandsTold, InOrder, AllInOrder}
+use Rattle.model.specs.Discards.{Hand, Diary, nothing, firstPage, withHands, handSent, handPushed, handBy, handHeard, noted, notedAs, turned, note, diary, Discards, TakenBefore, HandsTold, DiscardClaim, AllDiscards}
 use Rattle.model.specs.invariant.Commands.{Name, named, pendingName, heads, replies}
 use Rattle.model.specs.invariant.Bench.{Fine, Kept, SoundIn, accountOf}
 use Rattle.model.specs.invariant.Hands.{Told, Latest, Marked}
@@ -339,19 +339,19 @@ module _ (s : State) (o : Account) (n : Diary) (k : Kept s o) (m : MarkedIn s n)
             (λ z. absurd (not-among 8 later (omega arith) refl (sym (push-answer ∙ rw e) ∙ z)),
             λ z. absurd (omega (arith, z, m .told c .left, ap length e)))
 
-  pub marked-claim : InOrder s o n
+  pub marked-claim : DiscardClaim s o n
   marked-claim = record { discards = taken-before; told = hand-told }
 
 -- ---- the list
 
 calls-marked : (cs : List Call) (s : State) (o : Account) (n : Diary) → Kept s o → MarkedIn s n
-    → InOrder (after cs s) (observed (events cs s) o) (diary (events cs s) o n)
+    → DiscardClaim (after cs s) (observed (events cs s) o) (diary (events cs s) o n)
 unfolding after events observed diary
 calls-marked [] s o n k m = marked-claim s o n k m
 calls-marked (c ∷ cs) s o n k m =
     calls-marked cs (step c s .effect .next) (observe (eventOf c (step c s)) o) (note (eventOf c (step c s)) o n) (step-keeps c s o k) (step-marked c s o n k m)
 
-pub all-in-order : AllInOrder
-all-in-order profile ok calls =
+pub all-discards : AllDiscards
+all-discards profile ok calls =
     let p : Profile = profileIn profile in
     calls-marked calls (cold p) opening firstPage (kept (cold-fine p (profile-limits profile ok))) (cold-marked p firstPage)

@@ -1,5 +1,5 @@
--- Lists of calls in which a response discards a message from hand (change 8), so that the claim of Discards speaks of something. They are
--- played as the rows of the table are, and P says what it is to play them.
+-- Change 8, played: lists of calls in which a response discards a message from hand, so that the claim of Discards speaks of something, and
+-- sends that are turned away. They are played as the rows of the table are, and P says what it is to play them.
 -- Assumes nothing.
 use Prim.Native.Nat.{ℕ}
 use mathlib.Core.Path.{_≡_}
@@ -22,7 +22,7 @@ inHand =
     ∷ goesDown (push 2) (0x12 ∷ 0x00 ∷ 0x04 ∷ 0x01 ∷ 0x02 ∷ 0x03 ∷ 0x04 ∷ [])
     ∷ []
 
--- a send is turned away until the answer is read
+-- a send that is turned away
 abbrev pub turnedAway : Event
 turnedAway = refusal (send 2 (0xAA ∷ [])) 15
 
@@ -64,6 +64,28 @@ pub record Discarding (P : List Event → Type 0) (es : List Event) (p : Octets)
 pub record Discarded (P : List Event → Type 0) : Type 0 where
   pub close : Discarding P closeAnswered (0x40 ∷ 0x05 ∷ 0x01 ∷ 0x00 ∷ []) 0x05
   pub reset : Discarding P resetAnswered (0x40 ∷ 0x00 ∷ 0x01 ∷ 0x00 ∷ []) 0x00
-  -- once it is read the connection is closed; opened again, it has nothing in hand
+  -- once it is read, the connection is closed; opened again, it has nothing in hand
   pub close-read : P (closeAnswered ++ quietly up ∷ refusal (push 2) 6 ∷ refusal (send 2 (0xAA ∷ [])) 6 ∷ [])
   pub reset-read : P (resetAnswered ++ quietly up ∷ quietly up ∷ initialised ++ created ++ refusal (push 2) 8 ∷ quietly (send 2 (0xAA ∷ [])) ∷ [])
+  -- a send is turned away with nothing in hand too, whatever connection it names; a Conn ID that is not there is told before
+  pub late : P
+      (onTwo
+      ++ goesDown (command 0x0 0x05 (0x02 ∷ [])) (0x20 ∷ 0x05 ∷ 0x01 ∷ 0x02 ∷ [])
+      ∷ turnedAway
+      ∷ refusal (send 3 (0xAA ∷ [])) 15
+      ∷ refusal (send 1 (0xAA ∷ [])) 3
+      ∷ goesUp down (0x40 ∷ 0x05 ∷ 0x01 ∷ 0x00 ∷ [])
+      ∷ turnedAway
+      ∷ quietly up
+      ∷ refusal (send 2 (0xAA ∷ [])) 6
+      ∷ [])
+  -- and behind a CONN_CLOSE that is refused, until that is read: then it is taken
+  pub refused-close : P
+      (onTwo
+      ++ goesDown (command 0x0 0x05 (0x03 ∷ [])) (0x20 ∷ 0x05 ∷ 0x01 ∷ 0x03 ∷ [])
+      ∷ turnedAway
+      ∷ goesUp down (0x40 ∷ 0x05 ∷ 0x01 ∷ 0x01 ∷ [])
+      ∷ turnedAway
+      ∷ quietly up
+      ∷ quietly (send 2 (0xAA ∷ []))
+      ∷ [])

@@ -126,13 +126,13 @@ HandsTold s o n =
     → (step (push c) s .answer ≡ refused 8) ↔ (n .hand c .left ≡ 0)
 
 -- with s the bench after the calls
-pub record InOrder (s : State) (o : Account) (n : Diary) : Type 0 where
+pub record DiscardClaim (s : State) (o : Account) (n : Diary) : Type 0 where
   pub discards : TakenBefore o n
   pub told : HandsTold s o n
 
 -- for every profile that fresh takes and every list of calls
-abbrev pub AllInOrder : Type 0
-AllInOrder =
+abbrev pub AllDiscards : Type 0
+AllDiscards =
     (profile : Octets) → profileOctetsOk profile ≡ true → (calls : List Call)
-    → InOrder (after calls (cold (profileIn profile))) (observed (events calls (cold (profileIn profile))) opening)
+    → DiscardClaim (after calls (cold (profileIn profile))) (observed (events calls (cold (profileIn profile))) opening)
     (diaryOf (events calls (cold (profileIn profile))))
