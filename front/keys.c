@@ -421,8 +421,8 @@ static void bad_key(const char *why, const char *more) {
 
 static void answer_card(const struct key *key, struct text rest) {
     int number = read_number(next_word(&rest));
-    if (number < 0 || number > (int)NCI_WIRES_NOT_EMPTY || next_word(&rest).length > 0)
-        bad_key("the card has numbers 0 to 14; ", key->help);
+    if (number < 0 || number > (int)NCI_SEND_CLOSING || next_word(&rest).length > 0)
+        bad_key("the card has numbers 0 to 15; ", key->help);
     else
         printf("ev=card ans=0 says=\"%d: %s\"\n", number, nci_card((unsigned)number));
 }

@@ -82,6 +82,7 @@ extern "C" {
 #define NCI_STORE_FULL 12u
 #define NCI_PAST_GRANT 13u
 #define NCI_WIRES_NOT_EMPTY 14u
+#define NCI_SEND_CLOSING 15u
 
 /* ---- the two wires, for nci_packet */
 
@@ -141,6 +142,7 @@ static inline const char *nci_card(unsigned answer) {
     case NCI_STORE_FULL: return "the controller's store for this connection is full";
     case NCI_PAST_GRANT: return "credits held or owed would pass the grant";
     case NCI_WIRES_NOT_EMPTY: return "an activation while a packet is on either wire";
+    case NCI_SEND_CLOSING: return "send while a RESET or a CONN_CLOSE is unanswered";
     default: return "no answer of the bench";
     }
 }
@@ -171,8 +173,9 @@ uint64_t nci_command(uint8_t *area, size_t area_len, uint8_t *out, size_t out_le
 
 /* A message of at most 1,024 octets is put in the host's hand for a connection. Puts no
  * packet yet: nci_push does.
- * Refusals in order: 3, if the Conn ID is not 0 or 2 to 5, or the message is too long; 6,
- * if the connection is not open at the host; 7, if a message is still in hand there. */
+ * Refusals in order: 3, if the Conn ID is not 0 or 2 to 5, or the message is too long; 15,
+ * if a RESET or a CONN_CLOSE is unanswered, whatever connection it names; 6, if the
+ * connection is not open at the host; 7, if a message is still in hand there. */
 uint64_t nci_send(uint8_t *area, size_t area_len, uint8_t *out, size_t out_len, uint8_t conn,
                   const uint8_t *message, size_t message_len);
 

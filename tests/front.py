@@ -29,12 +29,15 @@ LIBRARY = ROOT / "build" / "lib" / "libnci_bench.a"
 SECONDS = 10
 SEED = 13
 MOST_CHARACTERS = 4096
+# the card's last number
+LAST = 15
 
 HEX = "(?:[0-9A-F]{2})*"
 SAYS = r'says="[ !#-~]+"'
 CALLS = "fresh|power|command|send|push|down|consume|credit|air|reply|up|report"
+ANSWERS = "|".join(str(number) for number in range(LAST + 1))
 LINE = re.compile(
-    f"ev=(?:{CALLS}) ans=(?:[0-9]|1[0-4]) drop=[01] pkt={HEX} msg=(?:-|{HEX}) {SAYS}"
+    f"ev=(?:{CALLS}) ans=(?:{ANSWERS}) drop=[01] pkt={HEX} msg=(?:-|{HEX}) {SAYS}"
     f"|ev=bad ans=3 {SAYS}|ev=(?:card|help|quit) ans=0 {SAYS}"
 )
 FIELDS = re.compile(f"ev=([a-z]+) ans=([0-9]+) drop=([01]) pkt=({HEX}) msg=(-|{HEX}) says=\"(.*)\"")
@@ -253,13 +256,13 @@ def read_card():
 
 
 def check_card(checks, card):
-    checks.equal("the card's numbers", list(card), list(range(1, 15)))
+    checks.equal("the card's numbers", list(card), list(range(1, LAST + 1)))
     with Worked(checks, terminal=False) as worked:
         for number, line in card.items():
             checks.equal(f"card {number}", worked.press(f"card {number}"), f'ev=card ans=0 says="{number}: {line}"')
         checks.equal("card 0", worked.press("card 0"), 'ev=card ans=0 says="0: taken"')
-        for key in ["card", "card 15", "card 9 9", "card -1", "card 0x9", "card 009", "card F", "card 99999999999999999999"]:
-            checks.check(key, worked.press(key).startswith('ev=bad ans=3 says="the card has numbers 0 to 14; card 9: '))
+        for key in ["card", f"card {LAST + 1}", "card 9 9", "card -1", "card 0x9", "card 009", "card F", "card 99999999999999999999"]:
+            checks.check(key, worked.press(key).startswith(f'ev=bad ans=3 says="the card has numbers 0 to {LAST}; card 9: '))
 
 
 def check_help(checks):

@@ -86,12 +86,15 @@ static int speak(void) {
 
 /* Slices of no octets, too few octets, and what is refused for other reasons. */
 static int refuse(void) {
+    static const uint8_t two[] = {2};
     HOLDS(nci_power(NULL, 0, out, sizeof out) == NCI_TOO_SHORT);
     HOLDS(nci_power(area, NCI_AREA_SIZE - 1, out, sizeof out) == NCI_TOO_SHORT);
     HOLDS(nci_power(area, NCI_AREA_SIZE, NULL, 0) == NCI_TOO_SHORT);
     HOLDS(nci_packet(BENCH, 2, 0) == NCI_OUTSIDE_LIMIT && nci_packet(BENCH, 0, 0) == NCI_NOTHING_TO_MOVE);
     HOLDS(nci_send(BENCH, 3, NULL, 0) == NCI_NOT_OPEN && nci_send(BENCH, 1, NULL, 0) == NCI_OUTSIDE_LIMIT);
     HOLDS(put(nci_send(BENCH, 2, NULL, 0), 0, 0) && nci_send(BENCH, 2, NULL, 0) == NCI_IN_HAND);
+    HOLDS(put(nci_command(BENCH, 0, 5, two, sizeof two), 1, 0));
+    HOLDS(nci_send(BENCH, 3, NULL, 0) == NCI_SEND_CLOSING && nci_push(BENCH, 2) == NCI_CLOSING);
     HOLDS(put(nci_power(BENCH), 0, 0) && nci_push(BENCH, 2) == NCI_NOT_OPEN);
     HOLDS(nci_fresh(BENCH, NULL, 0) == NCI_OUTSIDE_LIMIT && nci_air(BENCH, NULL, 0) == NCI_OUTSIDE_LIMIT);
     area[NCI_AREA_SIZE - 512] = 0;
