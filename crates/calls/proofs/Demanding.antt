@@ -20,7 +20,7 @@ use Rattle.model.specs.Effects.{Call, fresh, power, command, send, push, down, 
 use Rattle.model.specs.Refusals.{Rule, first}
 use Rattle.model.specs.Bench.{rules, judged, step}
 use Rattle.model.specs.calls.Report.{reportOf, reportRules}
-use Rattle.model.specs.Observer.{Event, Account, opening, observe, observed}
+use Rattle.model.specs.Observer.{Event, Account, opening, observe, observed, eventOf}
 use Rattle.model.specs.Claim.{numbersOf, Claim}
 use Rattle.model.specs.invariant.Bench.{Kept}
 use Rattle.model.proofs.Fine.{kept, cold-fine}
@@ -103,6 +103,37 @@ module _ (a out : Octets) where
       let n = lt-ltb (length out) messageSize short in
       all-refused (rw (l, g .judged, n)) (λ rs. rw (l, n))
 
+-- ---- what the model's step keeps, a call on octets keeps
+
+-- after a call: the record is good, and P holds of what was seen and of the state that the area stands for
+pub record Presses (P : Event → State → Type 0) (c : Call) (p : Puts) (x : Outcome) : Type 0 where
+  pub good : Good (x .area)
+  pub along : Along (putsAfter c p (x .word)) (x .area)
+  pub holds : P (seenBy c p x) (viewOf (x .area))
+
+module _ (P : Event → State → Type 0) (k : Key) (v : Octal (slice (k .call))) (a : Octets) (p : Puts) (g : Good a) (al : Along p a) where
+  -- where P holds after refusal 2, which a buffer too short gives, and after the model's step
+  pub pressed-by : P (seenBy (k .call) p (outcome 2 a (k .out))) (viewOf a)
+      → P (eventOf (k .call) (step (k .call) (viewOf a))) (step (k .call) (viewOf a) .effect .next) → Presses P (k .call) p (pressed k a)
+  unfolding answerIn downIn upIn
+  pressed-by refusing stepping = go (ltb (length (k .out)) messageSize) refl
+    where
+      by : Refines (k .call) p a (pressed k a) → Presses P (k .call) p (pressed k a)
+      by r =
+          record {
+            good = r .good;
+            along = r .along;
+            holds =
+                subst (P (seenBy (k .call) p (pressed k a))) (sym (r .next))
+                (subst (λ (e : Event). P e (step (k .call) (viewOf a) .effect .next)) (sym (r .event)) stepping);
+          }
+
+      go : (b : Bool) → ltb (length (k .out)) messageSize ≡ b → Presses P (k .call) p (pressed k a)
+      go true e =
+          subst (Presses P (k .call) p) (short-buffer a (k .out) g (ltb-true (length (k .out)) messageSize e) (k .call))
+          (record { good = g; along = record { down = omega (arith, al .down); up = omega (arith, al .up) }; holds = refusing })
+      go false e = by (all-refine (k .call) p a (k .out) v g (ltb-false (length (k .out)) messageSize e) al)
+
 -- ---- the invariant
 
 -- of an area, the packets put so far and the account: its record is good, and the state that it stands for is one that the model's invariant holds of
@@ -111,29 +142,12 @@ pub record Stands (a : Octets) (p : Puts) (o : Account) : Type 0 where
   pub along : Along p a
   pub keeps : Kept (viewOf a) o
 
-module _ (k : Key) (v : Octal (slice (k .call))) (a : Octets) (p : Puts) (o : Account) (s : Stands a p o) where
-  abbrev After : Outcome → Type 0
-  After x = Stands (x .area) (putsAfter (k .call) p (x .word)) (observe (seenBy (k .call) p x) o)
-
-  pub press : After (pressed k a)
-  unfolding answerIn downIn upIn
-  press = go (ltb (length (k .out)) messageSize) refl
-    where
-      by : Refines (k .call) p a (pressed k a) → After (pressed k a)
-      by r =
-          record {
-            good = r .good;
-            along = r .along;
-            keeps =
-                subst (λ (x : State). Kept x (observe (seenBy (k .call) p (pressed k a)) o)) (sym (r .next))
-                (subst (λ (e : Event). Kept (step (k .call) (viewOf a) .effect .next) (observe e o)) (sym (r .event)) (step-keeps (k .call) (viewOf a) o (s .keeps)));
-          }
-
-      go : (b : Bool) → ltb (length (k .out)) messageSize ≡ b → After (pressed k a)
-      go true e =
-          subst After (short-buffer a (k .out) (s .good) (ltb-true (length (k .out)) messageSize e) (k .call))
-          (record { good = s .good; along = record { down = omega (arith, s .along .down); up = omega (arith, s .along .up) }; keeps = s .keeps })
-      go false e = by (all-refine (k .call) p a (k .out) v (s .good) (ltb-false (length (k .out)) messageSize e) (s .along))
+pub press : (k : Key) → Octal (slice (k .call)) → (a : Octets) (p : Puts) (o : Account) → Stands a p o
+    → Stands (pressed k a .area) (putsAfter (k .call) p (pressed k a .word)) (observe (seenBy (k .call) p (pressed k a)) o)
+unfolding answerIn
+press k v a p o s =
+    let r = pressed-by (λ e x. Kept x (observe e o)) k v a p (s .good) (s .along) (s .keeps) (step-keeps (k .call) (viewOf a) o (s .keeps)) in
+    record { good = r .good; along = r .along; keeps = r .holds }
 
 stands-after : (ks : List Key) → AllOctal ks → (a : Octets) (p : Puts) (o : Account) → Stands a p o → Stands (areaAfter ks a) (putsIn ks p a) (observed (seenIn ks p a) o)
 unfolding areaAfter putsIn seenIn observed

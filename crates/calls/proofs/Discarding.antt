@@ -1,16 +1,11 @@
 -- What a response discards was taken before its command, on octets: each call keeps the model's invariant of what the area stands for.
 -- Assumes nothing.
-use Prim.Native.Nat.{ℕ, _≤_}
-use mathlib.Core.Path.{_≡_, refl, sym, ap, _∙_, subst}
-use mathlib.Core.Bool.{Bool, true, false}
+use Prim.Native.Nat.{ℕ}
+use mathlib.Core.Path.{_≡_, sym, ap, _∙_, subst}
 use mathlib.Core.List.{List, [], _∷_}
-use lib.ListN.{length}
-use lib.Dec.{ltb}
-use borrow.Author.Tests.{ltb-true, ltb-false}
 use Rattle.octets.specs.Octets.{Octets}
 use Rattle.octets.specs.Octal.{Octal}
 use Rattle.state.specs.Profile.{profileIn}
-use Rattle.area.specs.Map.{messageSize}
 use Rattle.views.specs.View.{viewOf}
 use Rattle.model.specs.State.{State}
 use Rattle.model.specs.Effects.{push, taken}
@@ -19,13 +14,11 @@ use Rattle.model.specs.Observer.{Event, Account, opening, observe, observed}
 use Rattle.model.specs.Table.{Plays}
 use Rattle.model.specs.Discards.{Diary, firstPage, note, diary, DiscardClaim}
 use Rattle.model.specs.Discarded.{Discarding, Discarded}
-use Rattle.model.specs.invariant.Hands.{Marked}
 use Rattle.model.proofs.Discards.{MarkedIn, cold-marked, turned-marked, step-marked, marked-claim}
 use Rattle.model.proofs.Discarded.{discarded}
-use Rattle.calls.specs.Word.{answerIn, downIn, upIn}
+use Rattle.calls.specs.Word.{answerIn}
 use Rattle.calls.specs.Outcome.{Outcome}
 use Rattle.calls.specs.Seen.{Puts, noPuts, putsAfter, seenBy}
-use Rattle.calls.specs.Refines.{Refines}
 use Rattle.calls.specs.calls.Fresh.{freshCall}
 use Rattle.calls.specs.calls.Push.{pushCall}
 use Rattle.calls.specs.Demand.{Key, pressed, slice, AllOctal, areaAfter, seenIn}
@@ -33,27 +26,16 @@ use Rattle.calls.specs.Played.{OctetPlays}
 use Rattle.calls.specs.Discards.{OctetDiscardClaim, AlwaysDiscards}
 use Rattle.calls.proofs.Starting.{fresh-view}
 use Rattle.calls.proofs.Pushing.{push-refines}
-use Rattle.calls.proofs.Demanding.{all-refine, short-buffer, Stands, press, started, starts-standing}
+use Rattle.calls.proofs.Demanding.{pressed-by, Stands, press, started, starts-standing}
 use Rattle.calls.proofs.Playing.{plays}
 
 -- ---- a call
 
-module _ (k : Key) (v : Octal (slice (k .call))) (a : Octets) (p : Puts) (o : Account) (s : Stands a p o) (n : Diary) (m : MarkedIn (viewOf a) n) where
-  abbrev Noted : Outcome → Type 0
-  Noted x = MarkedIn (viewOf (x .area)) (note (seenBy (k .call) p x) o n)
-
-  press-marked : Noted (pressed k a)
-  unfolding answerIn
-  press-marked = go (ltb (length (k .out)) messageSize) refl
-    where
-      by : Refines (k .call) p a (pressed k a) → Noted (pressed k a)
-      by r =
-          subst (λ (x : State). MarkedIn x (note (seenBy (k .call) p (pressed k a)) o n)) (sym (r .next))
-          (subst (λ (e : Event). MarkedIn (step (k .call) (viewOf a) .effect .next) (note e o n)) (sym (r .event)) (step-marked (k .call) (viewOf a) o n (s .keeps) m))
-
-      go : (b : Bool) → ltb (length (k .out)) messageSize ≡ b → Noted (pressed k a)
-      go true e = subst Noted (short-buffer a (k .out) (s .good) (ltb-true (length (k .out)) messageSize e) (k .call)) (turned-marked (viewOf a) n m)
-      go false e = by (all-refine (k .call) p a (k .out) v (s .good) (ltb-false (length (k .out)) messageSize e) (s .along))
+press-marked : (k : Key) → Octal (slice (k .call)) → (a : Octets) (p : Puts) (o : Account) → Stands a p o → (n : Diary) → MarkedIn (viewOf a) n
+    → MarkedIn (viewOf (pressed k a .area)) (note (seenBy (k .call) p (pressed k a)) o n)
+unfolding answerIn
+press-marked k v a p o s n m =
+    pressed-by (λ e x. MarkedIn x (note e o n)) k v a p (s .good) (s .along) (turned-marked (viewOf a) n m) (step-marked (k .call) (viewOf a) o n (s .keeps) m) .holds
 
 -- ---- the claim
 

@@ -16,9 +16,9 @@ use Rattle.model.specs.Kinds.pending as pending
 use Rattle.model.specs.Kinds.heard.{Answered}
 use Rattle.model.specs.Kinds.aired.{Refused, Goes, Activates, Ends, Speaks}
 use Rattle.state.specs.Conn.{flows, termsOf}
-use Rattle.state.specs.Profile.{profileIn, profileOctetsOk}
+use Rattle.state.specs.Profile.{profileIn}
 use Rattle.dh.specs.Contents.{written}
-use Rattle.dh.specs.Host.{isClosing, hearOf, hostAfter}
+use Rattle.dh.specs.Host.{isClosing, hostAfter}
 use Rattle.state.proofs.Chains.{on}
 use Rattle.wires.specs.Meaning.{Meaning, datum, control, junk, meaning}
 use Rattle.wires.specs.Tally.{says}
@@ -37,10 +37,10 @@ use Rattle.model.specs.calls.Reply.{replying}
 use Rattle.model.specs.calls.Up.{coming, reading, heard}
 use Rattle.model.specs.Bench.{rules, act, judged, step}
 use Rattle.model.specs.Observer.{Ledger, Account, opening, observe, observed, changeIn, eventOf, events, after}
-use Rattle.model.specs.Discards.{Hand, Diary, nothing, firstPage, withHands, handSent, handPushed, handBy, handHeard, noted, notedAs, turned, note, diary, Discards, TakenBefore, HandsTold, DiscardClaim, AllDiscards}
+use Rattle.model.specs.Discards.{Hand, Diary, nothing, firstPage, withHands, handSent, handPushed, handBy, handHeard, noted, turned, note, diary, Discards, TakenBefore, DiscardClaim, AllDiscards}
 use Rattle.model.specs.invariant.Commands.{Name, named, pendingName, heads, replies}
 use Rattle.model.specs.invariant.Bench.{Fine, Kept, SoundIn, accountOf}
-use Rattle.model.specs.invariant.Hands.{Told, Latest, Marked}
+use Rattle.model.specs.invariant.Hands.{Told, Named, Marked}
 use Rattle.model.proofs.Cases.{clash, each}
 use Rattle.model.proofs.Needs.{need}
 use Rattle.model.proofs.Order.{Only, one-only}
@@ -77,75 +77,65 @@ abbrev pub MarkedIn : State → Diary → Type 0
 MarkedIn s n = Marked (s .host .pending) (s .conns) n
 
 module _ {p p′ : Pending} {g g′ : ℕ → Connection} {n : Diary} (m : Marked p g n) where
-  still : (h : ℕ → Hand) → ((d : ℕ) → Told (g′ d .host) (h d)) → ((d : ℕ) → Older (h d) (n .hand d)) → Latest p′ n
+  still : (h : ℕ → Hand) → ((d : ℕ) → Told (g′ d .host) (h d)) → ((d : ℕ) → Older (h d) (n .hand d)) → Named p′ (n .gid) (n .oid)
       → (isClosing p′ ≡ true → isClosing p ≡ true) → Marked p′ g′ (turned (withHands h n))
   still h told older latest closing =
       record {
         told = told;
-        latest = latest-turned p′ latest;
+        latest = latest;
         past = λ d z. let o = older d z in omega (arith, o .1, m .past d (o .0));
         before = λ e d z. let o = older d z in omega (arith, o .1, m .before (closing e) d (o .0));
       }
-    where
-      latest-turned : (q : Pending) → Latest q n → Latest q (turned (withHands h n))
-      latest-turned pending.Nothing l = tt
-      latest-turned (pending.Command a) l = l
 
   -- a call that leaves the host alone
-  aside : p′ ≡ p → ((d : ℕ) → g′ d .host ≡ g d .host) → Marked p′ g′ (turned n)
-  aside same hosts =
+  aside : (p′ ≡ p) × ((d : ℕ) → g′ d .host ≡ g d .host) → Marked p′ g′ (turned n)
+  aside (same, hosts) =
       still (n .hand) (λ d. subst (λ (h : HostEnd). Told h (n .hand d)) (sym (hosts d)) (m .told d)) (λ d z. (z, refl))
-      (subst (λ (q : Pending). Latest q n) (sym same) (m .latest)) (λ e. ap isClosing (sym same) ∙ e)
+      (subst (λ (q : Pending). Named q (n .gid) (n .oid)) (sym same) (m .latest)) (λ e. ap isClosing (sym same) ∙ e)
 
 -- ---- the controller's calls leave the host alone
 
-pub record Aside (s : State) (e : Effect) : Type 0 where
-  pub pending : e .next .host .pending ≡ s .host .pending
-  pub hosts : (d : ℕ) → e .next .conns d .host ≡ s .conns d .host
+abbrev Aside : State → Effect → Type 0
+Aside s e = (e .next .host .pending ≡ s .host .pending) × ((d : ℕ) → e .next .conns d .host ≡ s .conns d .host)
 
 -- one connection changes at the controller
 host-kept : (c : ℕ) (f : Connection → Connection) (g : ℕ → Connection) → ((k : Connection) → f k .host ≡ k .host) → (d : ℕ) → at c f g d .host ≡ g d .host
 host-kept c f g e = at-keeps c f g (λ k. k .host) e
 
 answering-aside : (gid oid : ℕ) (ms : List Octets) (b : Bool) (s : State) → Aside s (answering gid oid ms b s)
-answering-aside gid oid [] b s = record { pending = refl; hosts = λ d. refl }
-answering-aside gid oid (m ∷ ms) b s = record { pending = refl; hosts = λ d. refl }
+answering-aside gid oid [] b s = (refl, λ d. refl)
+answering-aside gid oid (m ∷ ms) b s = (refl, λ d. refl)
 
 arriving-aside : (q : Meaning) (p : Octets) (s : State) → Aside s (arriving q p s)
 arriving-aside (datum c x) p s =
     on (Aside s) (isOpen s c)
-    (λ e. record { pending = refl; hosts = host-kept c (λ k. withController (stored p (k .controller)) k) (s .conns) (λ k. refl) })
-    (λ e. record { pending = refl; hosts = λ d. refl })
+    (λ e. (refl, host-kept c (λ k. withController (stored p (k .controller)) k) (s .conns) (λ k. refl)))
+    (λ e. (refl, λ d. refl))
 arriving-aside (control mt gid oid x) p s =
     on (Aside s) (eqb mt 1)
-    (λ e.
-    let a = answering-aside gid oid (wholeBy (s .asking) 1 gid oid x) (flagBy (s .asking) 1 gid oid x) (withAsking (runAfter (s .asking) 1 gid oid x) s) in
-    record { pending = a .pending; hosts = a .hosts })
-    (λ e. record { pending = refl; hosts = λ d. refl })
-arriving-aside junk p s = record { pending = refl; hosts = λ d. refl }
+    (λ e. answering-aside gid oid (wholeBy (s .asking) 1 gid oid x) (flagBy (s .asking) 1 gid oid x) (withAsking (runAfter (s .asking) 1 gid oid x) s))
+    (λ e. (refl, λ d. refl))
+arriving-aside junk p s = (refl, λ d. refl)
 
 down-aside : (w : List Octets) (s : State) → Aside s (taking w s)
-down-aside [] s = record { pending = refl; hosts = λ d. refl }
-down-aside (p ∷ w) s = let a = arriving-aside (meaning p) p (withDown w s) in record { pending = a .pending; hosts = a .hosts }
+down-aside [] s = (refl, λ d. refl)
+down-aside (p ∷ w) s = arriving-aside (meaning p) p (withDown w s)
 
 consume-aside : (c : ℕ) (st : List Octets) (s : State) → Aside s (consuming c st s)
-consume-aside c [] s = record { pending = refl; hosts = λ d. refl }
+consume-aside c [] s = (refl, λ d. refl)
 consume-aside c (p ∷ st) s =
-    record {
-      pending = refl;
-      hosts = host-kept c (λ k. withController (consumed st (joinedRun (k .controller .run) (segmentIn (meaning p))) (k .controller)) k) (s .conns) (λ k. refl);
-    }
+    (refl, host-kept c (λ k. withController (consumed st (joinedRun (k .controller .run) (segmentIn (meaning p))) (k .controller)) k) (s .conns) (λ k. refl))
 
-aired-hosts : (s : State) (a : Aired) (m : Octets) (d : ℕ) → airedConns (termsOf (s .profile) 0) a m (s .conns) d .host ≡ s .conns d .host
-aired-hosts s Refused m d = refl
-aired-hosts s (Goes rf l) m d = refl
-aired-hosts s (Activates rf l) m d = refl
-aired-hosts s (Ends rf) m d = refl
-aired-hosts s Speaks m d = host-kept 0 (λ k. withController (spoken (segments 255 (drop 1 m)) (k .controller)) k) (s .conns) (λ k. refl) d
+air-hosts : (s : State) (a : Aired) (m : Octets) (d : ℕ) → airedConns (termsOf (s .profile) 0) a m (s .conns) d .host ≡ s .conns d .host
+air-hosts s Refused m d = refl
+air-hosts s (Goes rf l) m d = refl
+air-hosts s (Activates rf l) m d = refl
+air-hosts s (Ends rf) m d = refl
+air-hosts s Speaks m d = host-kept 0 (λ k. withController (spoken (segments 255 (drop 1 m)) (k .controller)) k) (s .conns) (λ k. refl) d
 
 reply-aside : (ss : List Segment) (s : State) → Aside s (replying ss s)
-reply-aside [] s = record { pending = refl; hosts = λ d. refl }
-reply-aside (x ∷ ss) s = record { pending = refl; hosts = host-kept 0 (λ k. withController (spoken ss (k .controller)) k) (s .conns) (λ k. refl) }
+reply-aside [] s = (refl, λ d. refl)
+reply-aside (x ∷ ss) s = (refl, host-kept 0 (λ k. withController (spoken ss (k .controller)) k) (s .conns) (λ k. refl))
 
 -- ---- the host's calls
 
@@ -167,16 +157,12 @@ module _ (s : State) (n : Diary) (m : MarkedIn s n) where
             each c (λ d b. Told (pick b (withHost (sent o (s .conns d .host)) (s .conns d)) (s .conns d) .host) (pick b (handSent (n .calls) o (n .hand d)) (n .hand d)))
             (record { payload = m .told c .payload; left = ap (λ (i : ℕ). length (segments i o)) (m .told c .payload (not-false _ (need 6 (rules (send c o) s) t))) })
             (λ d. m .told d);
-        latest = same (s .host .pending) (m .latest);
+        latest = m .latest;
         past =
             each c (λ d b. 0 < pick b (handSent (n .calls) o (n .hand d)) (n .hand d) .left → pick b (handSent (n .calls) o (n .hand d)) (n .hand d) .sentAt < n .calls + 1)
             (λ z. omega arith) (λ d z. omega (arith, m .past d z));
         before = λ e. clash e (need 15 (rules (send c o) s) t);
       }
-    where
-      same : (q : Pending) → Latest q n → Latest q (turned (noted (send c o) a n))
-      same pending.Nothing l = tt
-      same (pending.Command k) l = l
 
   push-marked : (c : ℕ) (a : Account) → first (rules (push c) s) ≡ taken → MarkedIn (act (push c) s .next) (turned (noted (push c) a n))
   push-marked c a t = go (s .conns c .host .hand) refl
@@ -200,7 +186,7 @@ module _ (s : State) (aim : ℕ) (l : ℕ → Ledger) (p : Octets) (w : List Oct
   read q = turned (withHands (λ d. handBy (changeIn aim d q) (n .hand d)) n)
 
   -- what the host understood: h, of the contents o, where the packet says so to the diary too
-  understood-marked : (q : Meaning) (h : Heard) (o : Octets) → ((d : ℕ) → changeIn aim d q ≡ changeHeard h o d) → Latest (hostAfter (s .host) h .pending) n
+  understood-marked : (q : Meaning) (h : Heard) (o : Octets) → ((d : ℕ) → changeIn aim d q ≡ changeHeard h o d) → Named (hostAfter (s .host) h .pending) (n .gid) (n .oid)
       → (isClosing (hostAfter (s .host) h .pending) ≡ true → isClosing (s .host .pending) ≡ true)
       → Marked (hostAfter (s .host) h .pending) (λ d. withHost (atHost (changeHeard h o d) (s .conns d .host)) (s .conns d)) (read q)
   understood-marked q h o same latest closing =
@@ -271,17 +257,17 @@ call-marked power s aim l n t f m = cold-marked (s .profile) (turned n)
 call-marked (command gid oid o) s aim l n t f m = command-marked s n m gid oid o (accountOf s aim l)
 call-marked (send c o) s aim l n t f m = send-marked s n m c o (accountOf s aim l) t
 call-marked (push c) s aim l n t f m = push-marked s n m c (accountOf s aim l) t
-call-marked down s aim l n t f m = let a = down-aside (s .down) s in aside m (a .pending) (a .hosts)
-call-marked (consume c) s aim l n t f m = let a = consume-aside c (s .conns c .controller .store) s in aside m (a .pending) (a .hosts)
-call-marked credit s aim l n t f m = aside m refl (λ d. refl)
-call-marked (air o) s aim l n t f m = aside m refl (aired-hosts s (airing s o) o)
-call-marked reply s aim l n t f m = let a = reply-aside (s .conns 0 .controller .speech) s in aside m (a .pending) (a .hosts)
+call-marked down s aim l n t f m = aside m (down-aside (s .down) s)
+call-marked (consume c) s aim l n t f m = aside m (consume-aside c (s .conns c .controller .store) s)
+call-marked credit s aim l n t f m = aside m (refl, λ d. refl)
+call-marked (air o) s aim l n t f m = aside m (refl, air-hosts s (airing s o) o)
+call-marked reply s aim l n t f m = aside m (reply-aside (s .conns 0 .controller .speech) s)
 call-marked up s aim l n t f m = up-marked s aim l n t f m
-call-marked (report c) s aim l n t f m = aside m refl (λ d. refl)
+call-marked (report c) s aim l n t f m = aside m (refl, λ d. refl)
 
 -- a refused call only has its place
 pub turned-marked : (s : State) (n : Diary) → MarkedIn s n → MarkedIn s (turned n)
-turned-marked s n m = aside m refl (λ d. refl)
+turned-marked s n m = aside m (refl, λ d. refl)
 
 pub step-marked : (c : Call) (s : State) (o : Account) (n : Diary) → Kept s o → MarkedIn s n → MarkedIn (step c s .effect .next) (note (eventOf c (step c s)) o n)
 unfolding step
@@ -311,7 +297,7 @@ module _ (s : State) (o : Account) (n : Diary) (k : Kept s o) (m : MarkedIn s n)
       closer : closing (named gid oid) ≡ true
       closer = closed-by d (o .aim) gid oid x (rw means at shuts)
 
-      same : (q : Pending) → pendingName q ≡ named gid oid ∷ [] → Latest q n → (n .gid ≡ gid) × (n .oid ≡ oid)
+      same : (q : Pending) → pendingName q ≡ named gid oid ∷ [] → Named q (n .gid) (n .oid) → (n .gid ≡ gid) × (n .oid ≡ oid)
       same pending.Nothing e l = absurd (cons≢nil (sym e))
       same (pending.Command a) e l =
           let z = head-eq-of-cons-eq e in
@@ -335,9 +321,10 @@ module _ (s : State) (o : Account) (n : Diary) (k : Kept s o) (m : MarkedIn s n)
       where
         go : (h : List Segment) → s .conns c .host .hand ≡ h → (step (push c) s .answer ≡ refused 8) ↔ (n .hand c .left ≡ 0)
         go [] e = (λ z. m .told c .left ∙ ap length e, λ z. push-answer ∙ rw e)
-        go (x ∷ h) e =
-            (λ z. absurd (not-among 8 later (omega arith) refl (sym (push-answer ∙ rw e) ∙ z)),
-            λ z. absurd (omega (arith, z, m .told c .left, ap length e)))
+        go (x ∷ h) e = (
+          λ z. absurd (not-among 8 later (omega arith) refl (sym (push-answer ∙ rw e) ∙ z)),
+          λ z. absurd (omega (arith, z, m .told c .left, ap length e)),
+        )
 
   pub marked-claim : DiscardClaim s o n
   marked-claim = record { discards = taken-before; told = hand-told }

@@ -17,15 +17,16 @@ pub record Told (h : HostEnd) (k : Hand) : Type 0 where
   -- the segments in hand
   pub left : k .left ≡ length (h .hand)
 
--- the unanswered command is the last that was taken
-abbrev pub Latest : Pending → Diary → Type 0
-Latest pending.Nothing n = Unit {0}
-Latest (pending.Command a) n = (a .gid ≡ n .gid) × (a .oid ≡ n .oid)
+-- the unanswered command has this GID and OID
+abbrev pub Named : Pending → ℕ → ℕ → Type 0
+Named pending.Nothing gid oid = Unit {0}
+Named (pending.Command a) gid oid = (a .gid ≡ gid) × (a .oid ≡ oid)
 
 -- the host with the unanswered command p and the connections g, and the diary n
 pub record Marked (p : Pending) (g : ℕ → Connection) (n : Diary) : Type 0 where
   pub told : (d : ℕ) → Told (g d .host) (n .hand d)
-  pub latest : Latest p n
+  -- the unanswered command is the last that was taken
+  pub latest : Named p (n .gid) (n .oid)
   -- what is in hand was taken by a call before this
   pub past : (d : ℕ) → 0 < n .hand d .left → n .hand d .sentAt < n .calls
   -- and before a RESET or a CONN_CLOSE that is unanswered
