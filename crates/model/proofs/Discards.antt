@@ -43,7 +43,7 @@ use Rattle.model.specs.invariant.Bench.{Fine, Kept, SoundIn, accountOf}
 use Rattle.model.specs.invariant.Hands.{Told, Named, Marked}
 use Rattle.model.proofs.Cases.{clash, each}
 use Rattle.model.proofs.Needs.{need}
-use Rattle.model.proofs.Order.{Only, one-only}
+use Rattle.model.proofs.Order.{Only}
 use Rattle.model.proofs.Closing.{closing, closed-by, closing-pending}
 use Rattle.model.proofs.Messages.{profile-limits}
 use Rattle.model.proofs.Fine.{kept, cold-fine, at-keeps}
@@ -283,7 +283,6 @@ step-marked c s o n k m = go (first (rules c s)) refl
 
 module _ (s : State) (o : Account) (n : Diary) (k : Kept s o) (m : MarkedIn s n) where
   taken-before : TakenBefore o n
-  unfolding replies
   taken-before p w gid oid x d first-up means shuts =
       record {
         answers = same (s .host .pending) (only .names) (m .latest);
@@ -292,7 +291,9 @@ module _ (s : State) (o : Account) (n : Diary) (k : Kept s o) (m : MarkedIn s n)
       }
     where
       only : Only (heads (s .down)) (replies w) (named gid oid) (s .host .pending)
-      only = one-only (heads (s .down)) (replies w) (named gid oid) (s .host .pending) (rw (sym (k .same-up) ∙ first-up, means) at (k .fine .order .single))
+      only =
+          hearing.answered-only s (o .aim) (o .ledger) p w
+          (subst (λ (u : List Octets). Fine (withUp u s) (o .aim) (o .ledger)) (sym (k .same-up) ∙ first-up) (k .fine)) gid oid x means
 
       closer : closing (named gid oid) ≡ true
       closer = closed-by d (o .aim) gid oid x (rw means at shuts)

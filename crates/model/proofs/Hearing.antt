@@ -162,11 +162,15 @@ module _ (s : State) (aim : ℕ) (l : ℕ → Ledger) (p : Octets) (w : List Oct
             };
       }
 
-  -- a response: its command is the one that is unanswered, and it is now answered
+  -- the command that a response answers is the only one under way, and the one that is unanswered
+  pub answered-only : (gid oid : ℕ) (x : Segment) → meaning p ≡ control 2 gid oid x → Only (heads (s .down)) (replies w) (named gid oid) (s .host .pending)
+  unfolding replies
+  answered-only gid oid x means = one-only (heads (s .down)) (replies w) (named gid oid) (s .host .pending) (rw means at (f .order .single))
+
+  -- a response: its command is now answered
   module _ (gid oid : ℕ) (m : Octets) (means : meaning p ≡ control 2 gid oid (last m)) (understood : written 2 gid oid m ≡ true) where
-    reply-first : replies (p ∷ w) ≡ named gid oid ∷ replies w
-    unfolding replies
-    reply-first = rw means
+    answered : Only (heads (s .down)) (replies w) (named gid oid) (s .host .pending)
+    answered = answered-only gid oid (last m) means
 
     pub answer : Answer
     answer = answerOf (commandOf gid oid) aim m
@@ -191,12 +195,8 @@ module _ (s : State) (aim : ℕ) (l : ℕ → Ledger) (p : Octets) (w : List Oct
     settles h (Opens c t) = refl
     settles h (Closes c) = refl
 
-    -- it is the only command under way
-    pub alone : Only (heads (s .down)) (replies w) (named gid oid) (s .host .pending)
-    alone = one-only (heads (s .down)) (replies w) (named gid oid) (s .host .pending) (rw reply-first at (f .order .single))
-
     pub response-heard : hearOf (s .host .pending) 2 gid oid m ≡ Answered answer
-    response-heard = hears (s .host .pending) (f .aimed) (alone .names)
+    response-heard = hears (s .host .pending) (f .aimed) (answered .names)
 
     response-keeps : Kept (understanding (hearOf (s .host .pending) 2 gid oid m) m (taken-off 2 gid oid) .next) (counted w s aim l (control 2 gid oid (last m)) [])
     response-keeps =
@@ -204,7 +204,7 @@ module _ (s : State) (aim : ℕ) (l : ℕ → Ledger) (p : Octets) (w : List Oct
         (understood-keeps 2 gid oid m (Answered answer) (λ d. ap (λ (h : Heard). changeHeard h m d) says-answer)
         (λ d. subst (λ (h : Heard). GrantsOctet (changeHeard h m d)) says-answer (says-octet aim 2 gid oid m d)) means
         (rw (settles (s .host) answer)
-        record { clear = f .order .clear; single = rw (alone .before, alone .behind); tidy = λ b. clash b refl; empty = λ b. clash b refl })
+        record { clear = f .order .clear; single = rw (answered .before, answered .behind); tidy = λ b. clash b refl; empty = λ b. clash b refl })
         (rw (settles (s .host) answer) tt))
 
   -- a notification: whatever is unanswered stays so

@@ -118,17 +118,16 @@ TakenBefore o n =
     (p : Octets) (w : List Octets) (gid oid : ℕ) (x : Segment) (d : ℕ)
     → o .up ≡ p ∷ w → meaning p ≡ control mtResponse gid oid x → changeIn (o .aim) d (meaning p) ≡ closes → Discards n gid oid d
 
--- the diary is true of the bench s: where a connection is open at the host and the down wire has room, push finds nothing to move exactly
--- where the diary has nothing in hand
-abbrev pub HandsTold : State → Account → Diary → Type 0
-HandsTold s o n =
-    (c : ℕ) → noConn c ≡ false → full 1 (o .down) ≡ false → o .ledger c .host .opened ≡ true
-    → (step (push c) s .answer ≡ refused 8) ↔ (n .hand c .left ≡ 0)
+-- the diary is true of a bench on which push answers so: where a connection is open at the host and the down wire has room, it finds
+-- nothing to move exactly where the diary has nothing in hand
+abbrev pub HandsTold : (ℕ → Result) → Account → Diary → Type 0
+HandsTold pushing o n =
+    (c : ℕ) → noConn c ≡ false → full 1 (o .down) ≡ false → o .ledger c .host .opened ≡ true → (pushing c ≡ refused 8) ↔ (n .hand c .left ≡ 0)
 
 -- with s the bench after the calls
 pub record DiscardClaim (s : State) (o : Account) (n : Diary) : Type 0 where
   pub discards : TakenBefore o n
-  pub told : HandsTold s o n
+  pub told : HandsTold (λ c. step (push c) s .answer) o n
 
 -- for every profile that fresh takes and every list of calls
 abbrev pub AllDiscards : Type 0
