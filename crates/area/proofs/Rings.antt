@@ -9,13 +9,13 @@ use mathlib.Core.Path.{_≡_, refl, ap, _∙_}
 use mathlib.Core.Logic.{_⊎_, inl, inr, ⊎-elim}
 use mathlib.Core.Bool.{Bool, true, false}
 use mathlib.Core.List.{List, [], _∷_, _++_}
-use lib.ListN.{length, take}
+use lib.ListN.{length, take, getD}
 use lib.Dec.{ltb}
 use borrow.Author.Tests.{ltb-true, ltb-false}
 use Rattle.octets.specs.Octets.{Octets, cut, over, splice}
 use Rattle.octets.proofs.Octets.{length-cut, cut-before, cut-after}
 use Rattle.packets.specs.declared.Header.{Header}
-use Rattle.packets.specs.Packet.{octet0, octet1, packetOf}
+use Rattle.packets.specs.Packet.{octet0, octet1, packetOf, carrying}
 use Rattle.packets.proofs.Packet.{length-packet}
 use Rattle.state.specs.declared.kinds.Ring.{Ring}
 use Rattle.area.specs.Map.{payloadSize, slotSize, wireSlots, storeSlots}
@@ -73,7 +73,7 @@ unfolding trim over packetOf
 trim-over [] h m k = absurd (not-suc-le-zero {n = 2 + length m} (omega arith))
 trim-over (x ∷ []) h m k = absurd (not-suc-le-zero {n = 1 + length m} (omega arith))
 trim-over (x ∷ y ∷ []) h m k = absurd (not-suc-le-zero {n = length m} (omega arith))
-trim-over (x ∷ y ∷ z ∷ l) h m k = rw (add-comm 3 (length m), add-three (length m)) (ap (λ (t : Octets). octet0 (h .mt) (h .pbf) (h .id) ∷ octet1 (h .mt) (h .oid) ∷ length m ∷ t) (take-over l m (omega arith)))
+trim-over (x ∷ y ∷ z ∷ l) h m k = rw (add-comm 3 (length m), add-three (length m)) (ap (λ (t : Octets). octet0 (h .mt) (h .pbf) (h .id) ∷ octet1 (h .mt) (h .oid) (h .credits) ∷ length m ∷ t) (take-over l m (omega arith)))
 
 take-of-over : (l : Octets) (n : ℕ) (vs : Octets) → length vs ≤ n → take n (over l vs) ≡ over (take n l) vs
 unfolding over
@@ -114,6 +114,13 @@ unfolding slotPacket
 slot-copied base a i s k l =
     let e : length (cut (slotAt base i) slotSize a) ≡ slotSize = length-cut (slotAt base i) slotSize a l in
     ap trim (cut-at a (slotAt base i) slotSize s (omega arith) ∙ over-all (cut (slotAt base i) slotSize a) s (omega arith))
+
+-- other credits are put into a packet, or into the slot that starts with it
+pub trim-carrying : (n : ℕ) (s : Octets) → trim (carrying n s) ≡ carrying n (trim s)
+unfolding trim carrying
+trim-carrying n [] = refl
+trim-carrying n (x ∷ []) = refl
+trim-carrying n (x ∷ y ∷ s) = rw (add-comm 3 (getD s 0 0), add-three (getD s 0 0))
 
 -- ---- rings
 

@@ -16,7 +16,7 @@ ghost use mathlib.Core.Path.{_≡_};
 ghost use Prim.Native.Nat.{_+_, _≤_, _<_};
 ghost use lib.ListN.{length};
 ghost use Rattle.octets.specs.Octets.{cut, splice};
-ghost use Rattle.packets.specs.Packet.{readOf, payloadOf, packetOf};
+ghost use Rattle.packets.specs.Packet.{readOf, payloadOf, packetOf, carrying};
 ghost use Rattle.packets.specs.Segments.{segmentAt, segmentPacket, segments, packetsOf};
 ghost use Rattle.area.specs.Map.{payloadSize, slotSize, wireSlots, wireSize, messageSize, areaSize};
 ghost use Rattle.area.specs.Ring.{freeAt};
@@ -65,12 +65,23 @@ pub fn put_segment(
     put_piece(area, slot, h, size, &message[0..len], at);
 }
 
-// Copies a packet from one slot to another, unchanged: from a wire to a store, or from a store to a wire.
+// Copies a packet from one slot to another, unchanged: from a wire to a store.
 pub fn copy_slot(area: &mut [u8], from: usize, to: usize)
     requires { ⌜ (from + slotSize ≤ length (now area)) × (to + slotSize ≤ length (now area)) ⌝ }
     ensures { λ _. ⌜ now (area .exit) ≡ splice (now (area .entry)) to (cut from slotSize (now (area .entry))) ⌝ }
 {
     octets::copy_part(area, from, to, SLOT);
+}
+
+// Copies a data packet from one slot to another, with n credits in place of those that it carried: from a store to a wire.
+pub fn return_slot(area: &mut [u8], from: usize, to: usize, n: u8)
+    requires { ⌜ (from + slotSize ≤ length (now area)) × (to + slotSize ≤ length (now area)) ⌝ }
+    ensures { λ _. ⌜ now (area .exit) ≡ splice (now (area .entry)) to (carrying n (cut from slotSize (now (area .entry)))) ⌝ }
+{
+    let mut slot = [0u8; SLOT];
+    octets::put(&mut slot, 0, &area[from..from + SLOT]);
+    packets::set_credits(&mut slot, n);
+    octets::put(area, to, &slot);
 }
 
 // Copies the payload of the packet in a slot to its place in a run. It is that part of the packet itself, and goes through a

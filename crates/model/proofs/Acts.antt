@@ -13,11 +13,12 @@ use Rattle.packets.specs.Reassembly.{grown, finished}
 use Rattle.state.specs.Conn.{flows}
 use Rattle.state.specs.Runs.{dataLimit}
 use Rattle.state.proofs.Chains.{and-left}
-use Rattle.model.specs.Connection.{Connection, withHost, withController, closed as coldConnection, sent, pushed, stored, consumed, owedOn, noticed, spoken}
+use Rattle.state.proofs.Credits.{carriable-owed, owing-owed}
+use Rattle.model.specs.Connection.{ControllerEnd, Connection, withHost, withController, closed as coldConnection, sent, pushed, stored, consumed, owedOn, carriedOn, paid, noticed, spoken}
 use Rattle.wires.specs.Meaning.{meaning}
-use Rattle.ends.specs.Changes.{givenTo}
+use Rattle.ends.specs.Changes.{gives, givenTo}
 use Rattle.model.specs.calls.Consume.{segmentIn}
-use Rattle.model.specs.Observer.{Ledger, blank, pushedL, arrivedL, consumedL, sentL, spokenL}
+use Rattle.model.specs.Observer.{Ledger, blank, putBy, pushedL, arrivedL, consumedL, sentL, spokenL}
 use Rattle.model.specs.invariant.Items.{Item, credit, opened, loaded, itemsBy, putK, putsK, readK, readsK, putL, putsL, readL, readsL}
 use Rattle.model.specs.invariant.Link.{Good}
 use Rattle.model.proofs.Cases.{clash}
@@ -64,15 +65,27 @@ module _ {loop : Bool} {k : Connection} {d : List Segment} {u : List Item} {l : 
       subst (λ (b : Bool). Good loop k d u (pick b (arrivedL l) l)) (sym (g .numbers .opened ∙ c))
       record { numbers = drop-numbers k d u l x c (g .numbers); pipes = still c (g .pipes .hand) (g .pipes .reassembly) (g .pipes .speech c) }
 
+-- the controller's end with a segment consumed
+abbrev pub afterwards : List Octets → Segment → ControllerEnd → ControllerEnd
+afterwards rest x c = consumed rest (grown dataLimit (c .run) x) c
+
+-- no more is carried than is owed
+pub carried-few : (c : ControllerEnd) → carriedOn c ≤ c .owed
+carried-few c = omega (arith, carriable-owed (owedOn c), owing-owed (c .opened) (c .grant) (c .owed))
+
 module _ {k : Connection} {d : List Segment} {u : List Item} {l : Ledger} where
-  -- ---- the controller consumes a stored packet; on a loopback it is put up again
+  -- ---- the controller consumes a stored packet; on a loopback it is put up again, with what is then owed
 
   pub consume-loop : (p : Octets) (rest : List Octets) (x : Segment) → segmentIn (meaning p) ≡ x ∷ [] → k .controller .opened ≡ true
       → k .controller .store ≡ p ∷ rest → (flows (k .controller .grant) ≡ true → k .controller .owed < 255) → Good true k d u l
-      → Good true (withController (consumed rest (grown dataLimit (k .controller .run) x) (k .controller)) k) d (u ++ (loaded x ∷ []))
-      (consumedL (finished dataLimit (k .controller .run) x) l)
+      → Good true (withController (paid (afterwards rest x (k .controller))) k) d (u ++ (loaded (carriedOn (afterwards rest x (k .controller))) x ∷ []))
+      (putBy (gives (carriedOn (afterwards rest x (k .controller)))) (consumedL (finished dataLimit (k .controller .run) x) l))
   consume-loop p rest x m c e small g =
-      record { numbers = carried _ c (consume-numbers k d u l p rest x c e small (g .numbers)); pipes = consume-pipes k d u l p rest x m e (u ++ (loaded x ∷ [])) (echoed k d u l p rest x m e) (g .pipes) }
+      let n = carriedOn (afterwards rest x (k .controller)) in
+      record {
+        numbers = carried (record { credits = n; segment = x }) c (carried-few (afterwards rest x (k .controller))) (consume-numbers k d u l p rest x c e small (g .numbers));
+        pipes = consume-pipes k d u l p rest x m e (u ++ (loaded n x ∷ [])) (echoed k d u l p rest n x m e) (g .pipes);
+      }
 
   pub consume-plain : (p : Octets) (rest : List Octets) (x : Segment) → segmentIn (meaning p) ≡ x ∷ [] → k .controller .opened ≡ true
       → k .controller .store ≡ p ∷ rest → (flows (k .controller .grant) ≡ true → k .controller .owed < 255) → Good false k d u l
@@ -84,8 +97,10 @@ module _ {k : Connection} {d : List Segment} {u : List Item} {l : Ledger} where
   -- ---- the endpoint speaks, where there is no loopback
 
   pub reply-good : (x : Segment) (rest : List Segment) → k .controller .opened ≡ true → k .controller .speech ≡ x ∷ rest → Good false k d u l
-      → Good false (withController (spoken rest (k .controller)) k) d (u ++ (loaded x ∷ [])) l
-  reply-good x rest c e g = record { numbers = carried _ c (g .numbers); pipes = reply-pipes k d u l x rest c e (g .pipes) }
+      → Good false (withController (paid (spoken rest (k .controller))) k) d (u ++ (loaded (carriedOn (k .controller)) x ∷ [])) (putBy (gives (carriedOn (k .controller))) l)
+  reply-good x rest c e g =
+      let n = carriedOn (k .controller) in
+      record { numbers = carried (record { credits = n; segment = x }) c (carried-few (k .controller)) (g .numbers); pipes = reply-pipes k d u l n x rest c e (g .pipes) }
 
   pub air-good : (m : Octets) → length m ≤ dataLimit → k .controller .opened ≡ true → k .controller .speech ≡ [] → Good false k d u l
       → Good false (withController (spoken (segments 255 m) (k .controller)) k) d u (spokenL m l)
@@ -122,10 +137,10 @@ module _ {loop : Bool} {k : Connection} {d : List Segment} {u : List Item} {l : 
       → Good loop (withController (noticed (k .controller)) k) d (u ++ itemsBy (givenTo (owedOn (k .controller)))) (putsL (itemsBy (givenTo (owedOn (k .controller)))) l)
   notice-good g = go (k .controller .opened && flows (k .controller .grant)) refl
     where
-      paid : (n : ℕ) → k .controller .owed ≡ n → k .controller .opened ≡ true
+      settled : (n : ℕ) → k .controller .owed ≡ n → k .controller .opened ≡ true
           → Good loop (owingOnly 0 k) d (u ++ itemsBy (givenTo n)) (putsL (itemsBy (givenTo n)) l)
-      paid zero e o = rw append-nil (subst (λ (n : ℕ). Good loop (owingOnly n k) d u l) e g)
-      paid (suc n) e o =
+      settled zero e o = rw append-nil (subst (λ (n : ℕ). Good loop (owingOnly n k) d u l) e g)
+      settled (suc n) e o =
           let none : k .controller .owed - suc n ≡ 0 = omega arith in
           rw (ne-eqb (suc n) 0 (λ q. omega arith))
           (subst (λ (w : ℕ). Good loop (owingOnly w k) d (u ++ (credit (suc n) ∷ [])) (putL (credit (suc n)) l)) none
@@ -133,7 +148,7 @@ module _ {loop : Bool} {k : Connection} {d : List Segment} {u : List Item} {l : 
 
       go : (b : Bool) → (k .controller .opened && flows (k .controller .grant)) ≡ b
           → Good loop (owingOnly (pick b 0 (k .controller .owed)) k) d (u ++ itemsBy (givenTo (pick b (k .controller .owed) 0))) (putsL (itemsBy (givenTo (pick b (k .controller .owed) 0))) l)
-      go true e = paid (k .controller .owed) refl (and-left (k .controller .opened) (flows (k .controller .grant)) e)
+      go true e = settled (k .controller .owed) refl (and-left (k .controller .opened) (flows (k .controller .grant)) e)
       go false e = rw append-nil g
 
   pub read-good : (i : Item) (ms : List Octets) → Handed k i ms → Good loop k d (i ∷ u) l → Good loop (readK i k) d u (readL i ms l)

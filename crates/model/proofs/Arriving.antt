@@ -82,7 +82,7 @@ module _ (s : State) (aim : ℕ) (l : ℕ → Ledger) (p : Octets) (w : List Oct
 
   -- ---- data
 
-  module _ (c : ℕ) (x : Segment) (means : meaning p ≡ datum c x) where
+  module _ (c n : ℕ) (x : Segment) (means : meaning p ≡ datum c n x) where
     data-good : (d : ℕ) → GoodAt d (s .conns d) (pick (eqb c d) (x ∷ []) [] ++ segsOf d w) (itemsOf aim d (s .up)) (l d)
     unfolding segsOf
     data-good d = rw means at (f .good d)
@@ -102,7 +102,7 @@ module _ (s : State) (aim : ℕ) (l : ℕ → Ledger) (p : Octets) (w : List Oct
         }
 
     stored-keeps : s .conns c .controller .opened ≡ true
-        → Kept (withConns (at c (λ k. withController (stored p (k .controller)) k) (s .conns)) (withDown w s)) (counted w s aim l (datum c x) [])
+        → Kept (withConns (at c (λ k. withController (stored p (k .controller)) k) (s .conns)) (withDown w s)) (counted w s aim l (datum c n x) [])
     stored-keeps here =
         record {
           same-down = refl;
@@ -126,7 +126,7 @@ module _ (s : State) (aim : ℕ) (l : ℕ → Ledger) (p : Octets) (w : List Oct
               };
         }
 
-    dropped-keeps : s .conns c .controller .opened ≡ false → Kept (withDown w s) (counted w s aim l (datum c x) [])
+    dropped-keeps : s .conns c .controller .opened ≡ false → Kept (withDown w s) (counted w s aim l (datum c n x) [])
     dropped-keeps shut =
         record {
           same-down = refl;
@@ -241,7 +241,7 @@ module _ (s : State) (aim : ℕ) (l : ℕ → Ledger) (p : Octets) (w : List Oct
   Arrives q e = Kept (e .next) (counted w s aim l q (e .toUp))
 
   arriving-keeps : (q : Meaning) → meaning p ≡ q → Arrives q (arriving q p (withDown w s))
-  arriving-keeps (datum c x) means = on (Arrives (datum c x)) (isOpen s c) (λ e. stored-keeps c x means e) (λ e. dropped-keeps c x means e)
+  arriving-keeps (datum c n x) means = on (Arrives (datum c n x)) (isOpen s c) (λ e. stored-keeps c n x means e) (λ e. dropped-keeps c n x means e)
   arriving-keeps (control mt gid oid x) means =
       on (Arrives (control mt gid oid x)) (eqb mt 1)
       (λ e. subst (λ (r : Run). Arrives (control mt gid oid x) (askedAs r gid oid x)) (sym (way-run aim (s .asking) p w mt gid oid x means e (f .way))) (asked-keeps mt gid oid e x means))

@@ -153,7 +153,7 @@ module _ (d : ℕ) where
         go false e f = clash e refl
 
     no-close-in : (aim : ℕ) (q : Meaning) → AllFree (repliesIn q) → NoClose (itemsIn aim d q)
-    no-close-in aim (datum c x) f = on NoClose (eqb c d) (λ e. tt) (λ e. tt)
+    no-close-in aim (datum c n x) f = on NoClose (eqb c d) (λ e. tt) (λ e. tt)
     no-close-in aim (control mt gid oid (more b)) f = tt
     no-close-in aim (control mt gid oid (last m)) f = on (Keeps m) (eqb mt 1) (λ e. tt) (λ e. says-keeps aim mt gid oid m f)
     no-close-in aim junk f = tt
@@ -190,7 +190,7 @@ unfolding heardAlone
 says-aim a b mt gid oid m e = rw e
 
 items-aim-in : (a b d : ℕ) (q : Meaning) → repliesIn q ≡ [] → itemsIn a d q ≡ itemsIn b d q
-items-aim-in a b d (datum c x) e = refl
+items-aim-in a b d (datum c n x) e = refl
 items-aim-in a b d (control mt gid oid (more x)) e = refl
 items-aim-in a b d (control mt gid oid (last m)) e = go (eqb mt 2) refl e
   where

@@ -7,7 +7,7 @@ use mathlib.Core.Bool.{Bool, true, false, _||_}
 use mathlib.Core.List.{List, [], _∷_, _++_}
 use lib.Dec.{eqb}
 use borrow.Author.Tests.{eq-eqb}
-use Rattle.octets.specs.Octets.{Octets}
+use Rattle.octets.specs.Octets.{Octets, pick}
 use Rattle.packets.specs.Segments.{Segment}
 use Rattle.model.specs.Kinds.{Pending}
 use Rattle.model.specs.Kinds.pending as pending
@@ -56,14 +56,15 @@ change-shows live b (gives n) e = e
 change-shows over b (gives n) e = tt
 change-shows bad b (gives n) e = tt
 
-data-shows : (h : Phase) (b : Bool) (x : Segment) → Shows h b → Shows (walk h (loaded x ∷ [])) b
-data-shows shut b x e = tt
-data-shows live b x e = e
-data-shows over b x e = tt
-data-shows bad b x e = tt
+data-shows : (h : Phase) (b : Bool) (n : ℕ) (x : Segment) → Shows h b → Shows (walk h (loaded n x ∷ [])) b
+data-shows shut b n x e = tt
+data-shows live b n x e = e
+data-shows over b n x e = tt
+data-shows bad b n x e = tt
 
 packet-shows : (aim c : ℕ) (h : Phase) (b : Bool) (q : Meaning) → Shows h b → Shows (walk h (itemsIn aim c q)) (openedBy (changeIn aim c q) b)
-packet-shows aim c h b (datum d x) e = on (λ (is : List Item). Shows (walk h is) b) (eqb d c) (λ y. data-shows h b x e) (λ y. e)
+packet-shows aim c h b (datum d n x) e =
+    elim (eqb d c) as (λ y. Shows (walk h (pick y (loaded n x ∷ []) [])) (openedBy (pick y (gives n) stays) b)) [ true ↦ data-shows h b n x e | false ↦ e ]
 packet-shows aim c h b (control mt gid oid x) e = change-shows h b (changeIn aim c (control mt gid oid x)) e
 packet-shows aim c h b junk e = e
 
@@ -76,11 +77,11 @@ wire-shows aim c h b (p ∷ w) e =
 
 -- ---- data comes while it is live
 
-live-data : (h : Phase) (x : Segment) (is : List Item) (b o : Bool) → Ends (walk h (loaded x ∷ is)) b → Shows h o → o ≡ true
-live-data shut x is b o e s = bad-walk b is e
-live-data live x is b o e s = s
-live-data over x is b o e s = bad-walk b is e
-live-data bad x is b o e s = bad-walk b is e
+live-data : (h : Phase) (n : ℕ) (x : Segment) (is : List Item) (b o : Bool) → Ends (walk h (loaded n x ∷ is)) b → Shows h o → o ≡ true
+live-data shut n x is b o e s = bad-walk b is e
+live-data live n x is b o e s = s
+live-data over n x is b o e s = bad-walk b is e
+live-data bad n x is b o e s = bad-walk b is e
 
 -- what is open after packets that open nothing was open before them
 opened-by : (c : Change) (b : Bool) → openedBy c b ≡ true → (b ≡ true) ⊎ (isOpening c ≡ true)
@@ -119,16 +120,16 @@ module _ (s : State) (aim : ℕ) (l : ℕ → Ledger) (f : Fine s aim l) where
   phase-of : (c : ℕ) → Ends (walk (start (s .conns c .host .opened)) (itemsOf (aimOf (s .host .pending)) c (s .up))) (s .conns c .controller .opened)
   phase-of c = rw (host-aim (s .host .pending) aim c (s .up) (f .aimed) no-replies) at (f .good c .numbers .phase)
 
-  comes-open : (before : List Octets) (p : Octets) (behind : List Octets) (c : ℕ) (x : Segment) → s .up ≡ before ++ (p ∷ behind) → meaning p ≡ datum c x
+  comes-open : (before : List Octets) (p : Octets) (behind : List Octets) (c n : ℕ) (x : Segment) → s .up ≡ before ++ (p ∷ behind) → meaning p ≡ datum c n x
       → openAfter (aimOf (s .host .pending)) c (s .conns c .host .opened) before ≡ true
   unfolding itemsOf
-  comes-open before p behind c x split means =
+  comes-open before p behind c n x split means =
       let a = aimOf (s .host .pending) in
       let h = start (s .conns c .host .opened) in
-      let items : itemsOf a c (s .up) ≡ itemsOf a c before ++ (loaded x ∷ itemsOf a c behind) =
+      let items : itemsOf a c (s .up) ≡ itemsOf a c before ++ (loaded n x ∷ itemsOf a c behind) =
       ap (itemsOf a c) split ∙ itemsOf-append a c before (p ∷ behind) ∙ rw (means, eq-eqb c c refl) refl in
-      live-data (walk h (itemsOf a c before)) x (itemsOf a c behind) (s .conns c .controller .opened) (openAfter a c (s .conns c .host .opened) before)
-      (subst (λ (q : Phase). Ends q (s .conns c .controller .opened)) (ap (walk h) items ∙ walk-append h (itemsOf a c before) (loaded x ∷ itemsOf a c behind)) (phase-of c))
+      live-data (walk h (itemsOf a c before)) n x (itemsOf a c behind) (s .conns c .controller .opened) (openAfter a c (s .conns c .host .opened) before)
+      (subst (λ (q : Phase). Ends q (s .conns c .controller .opened)) (ap (walk h) items ∙ walk-append h (itemsOf a c before) (loaded n x ∷ itemsOf a c behind)) (phase-of c))
       (wire-shows a c h (s .conns c .host .opened) before (start-shows (s .conns c .host .opened)))
 
   all-open : DataOpen s
@@ -136,8 +137,8 @@ module _ (s : State) (aim : ℕ) (l : ℕ → Ledger) (f : Fine s aim l) where
       record {
         then-open = comes-open;
         open-or-opening =
-            λ before p behind c x split means.
-            open-or (aimOf (s .host .pending)) c (s .conns c .host .opened) before (comes-open before p behind c x split means);
+            λ before p behind c n x split means.
+            open-or (aimOf (s .host .pending)) c (s .conns c .host .opened) before (comes-open before p behind c n x split means);
       }
 
 pub data-open : Always DataOpen

@@ -2,7 +2,7 @@
 -- Assumes nothing.
 use mathlib.Core.Path.{refl}
 use Rattle.octets.specs.Octets.{cut}
-use Rattle.packets.specs.Packet.{octet0, octet1, packetOf, oidOf, spareOf, headerOf, readOf}
+use Rattle.packets.specs.Packet.{octet0, octet1, packetOf, oidOf, carriedOf, spareOf, headerOf, readOf}
 use Rattle.packets.specs.Segments.{segmentsWithin, segments}
 use Rattle.state.specs.Conn.{placeOf, connOf, termsOf}
 use Rattle.state.specs.Commands.{commandOf}
@@ -20,7 +20,7 @@ use Rattle.model.specs.Discards.{diary}
 use Rattle.model.specs.Discarded.{Discarded}
 
 pub discarded : Discarded Plays
-unfolding cut octet0 octet1 packetOf oidOf spareOf headerOf readOf segmentsWithin segments placeOf connOf termsOf commandOf shortest allowed resetBy after seek nextId createBy closeBy judgeOf controllerAfter responseOf noticeMessage noticeOf zeros initWritten createWritten written answerOf heardAlone hearOf hostAfter dropHeard meaning first anyOf step events observed diary
+unfolding cut octet0 octet1 packetOf oidOf carriedOf spareOf headerOf readOf segmentsWithin segments placeOf connOf termsOf commandOf shortest allowed resetBy after seek nextId createBy closeBy judgeOf controllerAfter responseOf noticeMessage noticeOf zeros initWritten createWritten written answerOf heardAlone hearOf hostAfter dropHeard meaning first anyOf step events observed diary
 discarded =
     record {
       close = record { played = λ s. refl; behind = _; next-read = refl; response = refl; shuts = refl; left = refl; sentAt = refl; commandAt = refl };

@@ -23,7 +23,7 @@ use Rattle.state.proofs.Chains.{on}
 use Rattle.wires.specs.Meaning.{Meaning, datum, control, junk, meaning}
 use Rattle.wires.specs.Tally.{says}
 use Rattle.ends.specs.Changes.{Change, stays, opens, closes, gives, changeHeard}
-use Rattle.model.specs.Connection.{HostEnd, Connection, withHost, withController, sent, pushed, heardData, stored, consumed, spoken}
+use Rattle.model.specs.Connection.{HostEnd, Connection, withHost, withController, sent, pushed, heardData, credited, stored, paid, spoken}
 use Rattle.model.specs.State.{State, at, cold, isOpen, withDown, withUp, withAsking}
 use Rattle.model.specs.Effects.{Call, fresh, power, command, send, push, down, consume, credit, air, reply, up, report, Effect, Result, taken, refused}
 use Rattle.model.specs.Refusals.{Rule, rule, isNil, first, noConn, full, isHeld}
@@ -31,7 +31,7 @@ use Rattle.model.specs.Runs.{runAfter, wholeBy, flagBy}
 use Rattle.model.specs.Changes.{atHost}
 use Rattle.model.specs.calls.Push.{pushing}
 use Rattle.model.specs.calls.Down.{answering, arriving, taking}
-use Rattle.model.specs.calls.Consume.{segmentIn, joinedRun, consuming}
+use Rattle.model.specs.calls.Consume.{segmentIn, echoed, joinedEnd, consuming}
 use Rattle.model.specs.calls.Air.{airedConns, airing}
 use Rattle.model.specs.calls.Reply.{replying}
 use Rattle.model.specs.calls.Up.{coming, reading, heard}
@@ -107,7 +107,7 @@ answering-aside gid oid [] b s = (refl, λ d. refl)
 answering-aside gid oid (m ∷ ms) b s = (refl, λ d. refl)
 
 arriving-aside : (q : Meaning) (p : Octets) (s : State) → Aside s (arriving q p s)
-arriving-aside (datum c x) p s =
+arriving-aside (datum c n x) p s =
     on (Aside s) (isOpen s c)
     (λ e. (refl, host-kept c (λ k. withController (stored p (k .controller)) k) (s .conns) (λ k. refl)))
     (λ e. (refl, λ d. refl))
@@ -124,7 +124,7 @@ down-aside (p ∷ w) s = arriving-aside (meaning p) p (withDown w s)
 consume-aside : (c : ℕ) (st : List Octets) (s : State) → Aside s (consuming c st s)
 consume-aside c [] s = (refl, λ d. refl)
 consume-aside c (p ∷ st) s =
-    (refl, host-kept c (λ k. withController (consumed st (joinedRun (k .controller .run) (segmentIn (meaning p))) (k .controller)) k) (s .conns) (λ k. refl))
+    (refl, host-kept c (λ k. withController (echoed c (joinedEnd (segmentIn (meaning p)) st (k .controller))) k) (s .conns) (λ k. refl))
 
 air-hosts : (s : State) (a : Aired) (m : Octets) (d : ℕ) → airedConns (termsOf (s .profile) 0) a m (s .conns) d .host ≡ s .conns d .host
 air-hosts s Refused m d = refl
@@ -135,7 +135,7 @@ air-hosts s Speaks m d = host-kept 0 (λ k. withController (spoken (segments 255
 
 reply-aside : (ss : List Segment) (s : State) → Aside s (replying ss s)
 reply-aside [] s = (refl, λ d. refl)
-reply-aside (x ∷ ss) s = (refl, host-kept 0 (λ k. withController (spoken ss (k .controller)) k) (s .conns) (λ k. refl))
+reply-aside (x ∷ ss) s = (refl, host-kept 0 (λ k. withController (paid (spoken ss (k .controller))) k) (s .conns) (λ k. refl))
 
 -- ---- the host's calls
 
@@ -226,15 +226,24 @@ module _ (s : State) (aim : ℕ) (l : ℕ → Ledger) (p : Octets) (w : List Oct
   passed-marked : (g : ℕ → Connection) → ((d : ℕ) → Told (g d .host) (n .hand d)) → Marked (s .host .pending) g (turned n)
   passed-marked g told = still m (n .hand) told (λ d z. (z, refl)) (m .latest) (λ z. z)
 
+  -- data: its credits are no concern of the diary
+  data-marked : (c b : ℕ) (x : Segment) (g : ℕ → Connection) → ((d : ℕ) → Told (g d .host) (n .hand d)) → Marked (s .host .pending) g (read (datum c b x))
+  data-marked c b x g told =
+      still m (λ d. handBy (changeIn aim d (datum c b x)) (n .hand d)) (λ d. subst (Told (g d .host)) (same d) (told d))
+      (λ d. change-older (changeIn aim d (datum c b x)) (n .hand d)) (m .latest) (λ z. z)
+    where
+      same : (d : ℕ) → n .hand d ≡ handBy (changeIn aim d (datum c b x)) (n .hand d)
+      same d = elim (eqb c d) as (λ y. n .hand d ≡ handBy (pick y (gives b) stays) (n .hand d)) [ true ↦ refl | false ↦ refl ]
+
   coming-marked : (q : Meaning) → meaning p ≡ q → SoundIn q → MarkedIn (coming q (withUp w s) .next) (read q)
-  coming-marked (datum c x) means k =
-      on (λ (e : Effect). MarkedIn (e .next) (turned n)) (isHeld s c)
+  coming-marked (datum c b x) means k =
+      on (λ (e : Effect). MarkedIn (e .next) (read (datum c b x))) (isHeld s c)
       (λ e.
-      passed-marked (at c (λ k. withHost (heardData x (k .host)) k) (s .conns))
+      data-marked c b x (at c (λ k. withHost (heardData x (credited b (k .host))) k) (s .conns))
       (λ d.
       on (λ (k : Connection). Told (k .host) (n .hand d)) (eqb c d)
       (λ e. record { payload = m .told d .payload; left = m .told d .left }) (λ e. m .told d)))
-      (λ e. passed-marked (s .conns) (m .told))
+      (λ e. data-marked c b x (s .conns) (m .told))
   coming-marked (control mt gid oid (more b)) means k = absurd k
   coming-marked (control mt gid oid (last o)) means k = control-marked mt gid oid o means k
   coming-marked junk means k = passed-marked (s .conns) (m .told)

@@ -25,7 +25,7 @@ use Rattle.ends.specs.Changes.{Change, stays, opens, closes, gives}
 use Rattle.model.specs.Changes.{atController, atHost}
 use Rattle.model.specs.calls.Consume.{isLoop}
 use Rattle.model.specs.Observer.{Ledger, blank, putBy, readBy, putAll, changeIn}
-use Rattle.model.specs.invariant.Items.{Item, itemsBy, itemsIn, itemsOf, segsOf, putsK, readsK, putsL, readsL}
+use Rattle.model.specs.invariant.Items.{Item, loaded, itemsBy, itemsIn, itemsOf, segsOf, putsK, readsK, putsL, readsL}
 use Rattle.model.specs.invariant.Commands.{heads, replies, Tidy, Name}
 use Rattle.model.specs.invariant.Bench.{Order, SoundIn, Sound, StoredIn, StoredFor, Standing, Fine, Kept, accountOf}
 use Rattle.model.proofs.Cases.{clash, each, each-append}
@@ -75,7 +75,8 @@ putsL-append [] b l = refl
 putsL-append (i ∷ a) b l = putsL-append a b _
 
 putsL-in : (aim d : ℕ) (q : Meaning) (l : Ledger) → putsL (itemsIn aim d q) l ≡ putBy (changeIn aim d q) l
-putsL-in aim d (datum c x) l = on (λ (is : List Item). putsL is l ≡ l) (eqb c d) (λ e. refl) (λ e. refl)
+putsL-in aim d (datum c n x) l =
+    elim (eqb c d) as (λ b. putsL (pick b (loaded n x ∷ []) []) l ≡ putBy (pick b (gives n) stays) l) [ true ↦ refl | false ↦ refl ]
 putsL-in aim d (control mt gid oid x) l = putsL-change (changeIn aim d (control mt gid oid x)) l
 putsL-in aim d junk l = refl
 
@@ -93,16 +94,17 @@ put-all aim d (p ∷ ps) l =
 pub sound-append : (a b : List Octets) → Sound a → Sound b → Sound (a ++ b)
 sound-append = each-append (λ p. SoundIn (meaning p))
 
-pub sound-data : (w : List Octets) (p : Octets) (c : ℕ) (x : Segment) → meaning p ≡ datum c x → Sound w → Sound (w ++ (p ∷ []))
-sound-data w p c x means h = sound-append w (p ∷ []) h (rw means (tt, tt))
+pub sound-data : (w : List Octets) (p : Octets) (c n : ℕ) (x : Segment) → meaning p ≡ datum c n x → Sound w → Sound (w ++ (p ∷ []))
+sound-data w p c n x means h = sound-append w (p ∷ []) h (rw means (tt, tt))
 
 pub sound-control : (p : Octets) (mt gid oid : ℕ) (m : Octets) → meaning p ≡ control mt gid oid (last m)
     → ((mt ≡ 2) × (written 2 gid oid m ≡ true)) ⊎ (mt ≡ 3) → length m ≤ controlLimit → Sound (p ∷ [])
 sound-control p mt gid oid m means e h = rw means ((e, h), tt)
 
--- the observer counts nothing of a data packet put up
-pub put-data : (aim d : ℕ) (p : Octets) (c : ℕ) (x : Segment) (l : Ledger) → meaning p ≡ datum c x → putAll aim d (p ∷ []) l ≡ l
-put-data aim d p c x l means = rw means refl
+-- the observer counts the credits of a data packet put up
+pub put-data : (aim d : ℕ) (p : Octets) (c n : ℕ) (x : Segment) (l : Ledger) → meaning p ≡ datum c n x
+    → putAll aim d (p ∷ []) l ≡ putBy (pick (eqb c d) (gives n) stays) l
+put-data aim d p c n x l means = rw means refl
 
 pub stored-append : (d : ℕ) (a b : List Octets) → StoredFor d a → StoredFor d b → StoredFor d (a ++ b)
 stored-append d = each-append (λ p. StoredIn d (meaning p))

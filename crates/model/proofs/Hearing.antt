@@ -22,7 +22,7 @@ use Rattle.dh.specs.Host.{noticed, answerOf, heardAlone, hearOf, hostAfter}
 use Rattle.model.specs.Kinds.notice as notice
 use Rattle.packets.proofs.Reassembly.{within}
 use Rattle.state.proofs.Chains.{on}
-use Rattle.model.specs.Connection.{Connection, withHost, heardData}
+use Rattle.model.specs.Connection.{Connection, withHost, heardData, credited}
 use Rattle.wires.specs.Meaning.{Meaning, datum, control, junk, meaning}
 use Rattle.wires.specs.Tally.{says}
 use Rattle.model.specs.State.{State, at, withUp, withConns, withHearing}
@@ -80,8 +80,8 @@ module _ (s : State) (aim : ℕ) (l : ℕ → Ledger) (p : Octets) (w : List Oct
 
   -- ---- data
 
-  module _ (c : ℕ) (x : Segment) (means : meaning p ≡ datum c x) where
-    data-good : (d : ℕ) → GoodAt d (s .conns d) (segsOf d (s .down)) (pick (eqb c d) (loaded x ∷ []) [] ++ itemsOf aim d w) (l d)
+  module _ (c n : ℕ) (x : Segment) (means : meaning p ≡ datum c n x) where
+    data-good : (d : ℕ) → GoodAt d (s .conns d) (segsOf d (s .down)) (pick (eqb c d) (loaded n x ∷ []) [] ++ itemsOf aim d w) (l d)
     unfolding itemsOf
     data-good d = rw means at (f .good d)
 
@@ -93,8 +93,8 @@ module _ (s : State) (aim : ℕ) (l : ℕ → Ledger) (p : Octets) (w : List Oct
     held-open : s .conns c .host .opened ≡ true
     held-open = carry-first (s .conns c .host .opened) (s .conns c .controller .opened) _ (itemsOf aim c w) (rw (eq-eqb c c refl) at (data-good c) .numbers .phase) .0
 
-    data-keeps : Kept (withConns (at c (λ k. withHost (heardData x (k .host)) k) (s .conns)) (withUp w s))
-        (counted w s aim l (datum c x) (finished dataLimit (s .conns c .host .run) x))
+    data-keeps : Kept (withConns (at c (λ k. withHost (heardData x (credited n (k .host))) k) (s .conns)) (withUp w s))
+        (counted w s aim l (datum c n x) (finished dataLimit (s .conns c .host .run) x))
     data-keeps =
         record {
           same-down = refl;
@@ -105,16 +105,16 @@ module _ (s : State) (aim : ℕ) (l : ℕ → Ledger) (p : Octets) (w : List Oct
                     λ d.
                     each c
                     (λ d b.
-                    GoodAt d (s .conns d) (segsOf d (s .down)) (pick b (loaded x ∷ []) [] ++ itemsOf aim d w) (l d)
-                    → GoodAt d (pick b (withHost (heardData x (s .conns d .host)) (s .conns d)) (s .conns d)) (segsOf d (s .down)) (itemsOf aim d w) (pick b (givenL (finished dataLimit (s .conns c .host .run) x) (l d)) (l d)))
-                    (λ g. read-good (loaded x) (finished dataLimit (s .conns c .host .run) x) refl g)
+                    GoodAt d (s .conns d) (segsOf d (s .down)) (pick b (loaded n x ∷ []) [] ++ itemsOf aim d w) (l d)
+                    → GoodAt d (pick b (withHost (heardData x (credited n (s .conns d .host))) (s .conns d)) (s .conns d)) (segsOf d (s .down)) (itemsOf aim d w) (pick b (givenL (finished dataLimit (s .conns c .host .run) x) (readBy (gives n) (l d))) (l d)))
+                    (λ g. read-good (loaded n x) (finished dataLimit (s .conns c .host .run) x) refl g)
                     (λ d g. g) d (data-good d);
-                order = order-open (λ d z. at-keeps c (λ k. withHost (heardData x (k .host)) k) (s .conns) (λ k. k .controller .opened) (λ k. refl) d) data-order;
+                order = order-open (λ d z. at-keeps c (λ k. withHost (heardData x (credited n (k .host))) k) (s .conns) (λ k. k .controller .opened) (λ k. refl) d) data-order;
                 way = f .way;
                 aimed = f .aimed;
                 sound = rest-sound;
                 heard = f .heard;
-                standing = standing-same (at-keeps c (λ k. withHost (heardData x (k .host)) k) (s .conns) (λ k. k .controller) (λ k. refl)) (f .standing);
+                standing = standing-same (at-keeps c (λ k. withHost (heardData x (credited n (k .host))) k) (s .conns) (λ k. k .controller) (λ k. refl)) (f .standing);
                 limits = f .limits;
               };
         }
@@ -270,7 +270,7 @@ module _ (s : State) (aim : ℕ) (l : ℕ → Ledger) (p : Octets) (w : List Oct
       go (inr e) = subst Heeded (sym e) notification means
 
   coming-keeps : (q : Meaning) → meaning p ≡ q → SoundIn q → Comes q (coming q (withUp w s))
-  coming-keeps (datum c x) means k = rw (held-open c x means) (data-keeps c x means)
+  coming-keeps (datum c n x) means k = rw (held-open c n x means) (data-keeps c n x means)
   coming-keeps (control mt gid oid (more b)) means k = absurd k
   coming-keeps (control mt gid oid (last m)) means k = control-keeps mt gid oid m means (k .0) (k .1)
   coming-keeps junk means k = junk-keeps means

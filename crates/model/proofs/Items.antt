@@ -22,21 +22,21 @@ upSegs-append (closed ∷ a) b = upSegs-append a b
 
 pub upCredits-append : (a b : List Item) → upCredits (a ++ b) ≡ upCredits a + upCredits b
 upCredits-append [] b = omega arith
-upCredits-append (carry x ∷ a) b = upCredits-append a b
+upCredits-append (carry x ∷ a) b = omega (arith, upCredits-append a b)
 upCredits-append (credit n ∷ a) b = omega (arith, upCredits-append a b)
 upCredits-append (opened t ∷ a) b = omega (arith, upCredits-append a b)
 upCredits-append (closed ∷ a) b = upCredits-append a b
 
 pub upReturned-append : (a b : List Item) → upReturned (a ++ b) ≡ upReturned a + upReturned b
 upReturned-append [] b = omega arith
-upReturned-append (carry x ∷ a) b = upReturned-append a b
+upReturned-append (carry x ∷ a) b = omega (arith, upReturned-append a b)
 upReturned-append (credit n ∷ a) b = omega (arith, upReturned-append a b)
 upReturned-append (opened t ∷ a) b = upReturned-append a b
 upReturned-append (closed ∷ a) b = upReturned-append a b
 
 pub returned-le : (u : List Item) → upReturned u ≤ upCredits u
 returned-le [] = omega arith
-returned-le (carry x ∷ u) = returned-le u
+returned-le (carry x ∷ u) = omega (arith, returned-le u)
 returned-le (credit n ∷ u) = omega (arith, returned-le u)
 returned-le (opened t ∷ u) = omega (arith, returned-le u)
 returned-le (closed ∷ u) = returned-le u

@@ -1,6 +1,6 @@
 -- Each call that is taken keeps the invariant: those of the host, and consume, credit and reply.
 -- Assumes nothing.
-use Prim.Native.Nat.{ℕ, _+_, _≤_, _<_}
+use Prim.Native.Nat.{ℕ, _+_, _%_, _≤_, _<_}
 use native.Mathlib.Omega.{arith}
 use mathlib.Core.Path.{_≡_, refl, sym, ap, _∙_}
 use mathlib.Core.Logic.{inr}
@@ -11,14 +11,16 @@ use lib.ListN.{length}
 use borrow.Author.Tests.{eq-eqb, ltb-false, not-false}
 use Rattle.octets.specs.Octets.{Octets, pick}
 use Rattle.state.specs.Commands.{aimIn}
+use Rattle.packets.specs.Packet.{carrying}
 use Rattle.packets.specs.Segments.{Segment, last, segments, segmentPacket, packetsOf}
-use Rattle.packets.specs.Reassembly.{grown, finished}
+use Rattle.packets.specs.Reassembly.{finished}
 use Rattle.state.specs.Conn.{flows, owing}
 use Rattle.messages.specs.Layout.{creditsNtf}
 use Rattle.state.specs.Runs.{dataLimit, controlLimit}
 use Rattle.state.specs.Profile.{creditsOk, profileIn}
 use Rattle.state.proofs.Chains.{on, or-left, or-right}
-use Rattle.model.specs.Connection.{ControllerEnd, withHost, withController, sent, pushed, consumed, owedOn, spoken}
+use Rattle.state.proofs.Credits.{carriable-few}
+use Rattle.model.specs.Connection.{ControllerEnd, withHost, withController, sent, pushed, owedOn, carriedOn, paid, spoken}
 use Rattle.messages.specs.Packets.{noticePacket}
 use Rattle.packets.specs.Headers.{dataHeader, controlHeader}
 use Rattle.wires.specs.Meaning.{Meaning, datum, control, junk, meaning}
@@ -27,20 +29,21 @@ use Rattle.state.proofs.Limits.{credits-few}
 use Rattle.model.specs.Effects.{taken, fresh, power, command, send, push, consume, credit, reply, report}
 use Rattle.model.specs.Refusals.{isNil, noConn}
 use Rattle.dh.specs.Host.{isClosing}
-use Rattle.ends.specs.Changes.{givenTo}
+use Rattle.ends.specs.Changes.{stays, gives, givenTo}
 use Rattle.model.specs.calls.Push.{pushing}
 use Rattle.model.specs.calls.Consume.{isLoop, consuming, consumedAs, segmentIn}
 use Rattle.model.specs.calls.Credit.{owedBy, allZero}
 use Rattle.model.specs.calls.Reply.{replying}
 use Rattle.model.specs.Bench.{rules}
-use Rattle.model.specs.Observer.{Account, Ledger, sentL, pushedL, consumedL, seen, eventOf, shown}
+use Rattle.model.specs.Observer.{Account, Ledger, putBy, sentL, pushedL, consumedL, seen, eventOf, shown}
 use Rattle.model.specs.invariant.Items.{loaded, itemsBy, itemsOf, segsOf}
 use Rattle.model.specs.invariant.Commands.{heads, replies}
 use Rattle.model.specs.invariant.Bench.{accountOf, Fine, Kept, Keeps, GoodAt, StoredFor, StoredIn}
 use Rattle.model.proofs.Cases.{clash, each, nil-of, left-nil, right-nil}
 use Rattle.model.proofs.Needs.{need}
 use Rattle.model.proofs.Link.{owed-le, credit-left}
-use Rattle.model.proofs.Acts.{send-good, push-good, consume-loop, consume-plain, reply-good, notice-good}
+use Rattle.wires.proofs.Slots.{meaning-carrying}
+use Rattle.model.proofs.Acts.{afterwards, send-good, push-good, consume-loop, consume-plain, reply-good, notice-good}
 use Rattle.model.proofs.Meanings.{meaning-notice, meaning-data, meaning-command, segsOf-append, itemsOf-append, segsOf-command, segsOf-data, itemsOf-data}
 use Rattle.model.proofs.Messages.{profile-limits, terms-within, entries-few, items-credit, items-credit-other}
 use Rattle.model.proofs.Order.{replies-notice, replies-data, heads-append, idle-pending, no-data-tidy, tidy-append, ordered-heads, ordered-no-data, command-way, data-way, heads-data}
@@ -67,12 +70,15 @@ module _ (s : State) (aim : ℕ) (l : ℕ → Ledger) (f : Fine s aim l) where
 
 -- ---- consume
 
-module _ (s : State) (aim : ℕ) (l : ℕ → Ledger) (c : ℕ) (p : Octets) (st : List Octets) (x : Segment)
-    (open-here : s .conns c .controller .opened ≡ true) (first-stored : s .conns c .controller .store ≡ p ∷ st) (means : meaning p ≡ datum c x)
+module _ (s : State) (aim : ℕ) (l : ℕ → Ledger) (c : ℕ) (p : Octets) (st : List Octets) (m : ℕ) (x : Segment)
+    (open-here : s .conns c .controller .opened ≡ true) (first-stored : s .conns c .controller .store ≡ p ∷ st) (means : meaning p ≡ datum c m x)
     (f : Fine s aim l) where
-  -- the connection after it, and the message that it finishes
+  -- the connection after it, the credits that it then returns on a loopback, and the message that it finishes
   eaten : ControllerEnd → ControllerEnd
-  eaten k = consumed st (grown dataLimit (k .run) x) k
+  eaten k = afterwards st x k
+
+  back : ℕ
+  back = carriedOn (eaten (s .conns c .controller))
 
   whole : List Octets
   whole = finished dataLimit (s .conns c .controller .run) x
@@ -86,34 +92,44 @@ module _ (s : State) (aim : ℕ) (l : ℕ → Ledger) (c : ℕ) (p : Octets) (st
   octet : flows (s .conns c .controller .grant) ≡ true → s .conns c .controller .owed < 255
   octet y = omega (arith, few-owed s aim l f c)
 
-  next : List Octets → State
-  next ps = withUp (s .up ++ ps) (withConns (at c (λ k. withController (eaten (k .controller)) k) (s .conns)) s)
+  next : (ControllerEnd → ControllerEnd) → List Octets → State
+  next g ps = withUp (s .up ++ ps) (withConns (at c (λ k. withController (g (k .controller)) k) (s .conns)) s)
+
+  returned : Octets
+  returned = carrying back p
+
+  returns : meaning returned ≡ datum c back x
+  unfolding returned back
+  returns =
+      let few = carriable-few (owedOn (eaten (s .conns c .controller))) in
+      let small : back % 4 ≡ back = omega arith in
+      meaning-carrying back p c m x means ∙ ap (λ (n : ℕ). datum c n x) small
 
   counted : List Octets → Account
   counted ps = shown ps (record { down = s .down; up = s .up; aim = aim; ledger = at c (consumedL whole) l })
 
-  looped : isLoop c ≡ true → Kept (next (p ∷ [])) (counted (p ∷ []))
-  unfolding eaten whole next counted
+  looped : isLoop c ≡ true → Kept (next (λ k. paid (eaten k)) (returned ∷ [])) (counted (returned ∷ []))
+  unfolding eaten back whole next counted
   looped loop =
       kept
       record {
         good =
             λ d.
-            rw (put-data aim d p c x (at c (consumedL whole) l d) means, itemsOf-append aim d (s .up) (p ∷ []), itemsOf-data p c x means aim d)
+            rw (put-data aim d returned c back x (at c (consumedL whole) l d) returns, itemsOf-append aim d (s .up) (returned ∷ []), itemsOf-data returned c back x returns aim d)
             (each c
-            (λ d b. GoodAt d (pick b (withController (eaten (s .conns d .controller)) (s .conns d)) (s .conns d)) (segsOf d (s .down)) (itemsOf aim d (s .up) ++ pick b (loaded x ∷ []) []) (pick b (consumedL whole (l d)) (l d)))
+            (λ d b. GoodAt d (pick b (withController (paid (eaten (s .conns d .controller))) (s .conns d)) (s .conns d)) (segsOf d (s .down)) (itemsOf aim d (s .up) ++ pick b (loaded back x ∷ []) []) (putBy (pick b (gives back) stays) (pick b (consumedL whole (l d)) (l d))))
             (rw loop (consume-loop p st x one-segment open-here first-stored octet (rw loop at (f .good c))))
             (λ d. rw append-nil (f .good d)) d);
-        order = rw (replies-data p c x means (s .up)) (order-open (λ d z. at-keeps c (λ k. withController (eaten (k .controller)) k) (s .conns) (λ k. k .controller .opened) (λ k. refl) d) (f .order));
+        order = rw (replies-data returned c back x returns (s .up)) (order-open (λ d z. at-keeps c (λ k. withController (paid (eaten (k .controller))) k) (s .conns) (λ k. k .controller .opened) (λ k. refl) d) (f .order));
         way = f .way;
         aimed = f .aimed;
-        sound = sound-data (s .up) p c x means (f .sound);
+        sound = sound-data (s .up) returned c back x returns (f .sound);
         heard = f .heard;
-        standing = standing-at c eaten (λ k. refl) (λ k. refl) rest-stored (f .standing);
+        standing = standing-at c (λ k. paid (eaten k)) (λ k. refl) (λ k. refl) rest-stored (f .standing);
         limits = f .limits;
       }
 
-  plain : isLoop c ≡ false → Kept (next []) (counted [])
+  plain : isLoop c ≡ false → Kept (next eaten []) (counted [])
   unfolding eaten whole next counted
   plain loop =
       rw (append-nil (s .up))
@@ -134,10 +150,10 @@ module _ (s : State) (aim : ℕ) (l : ℕ → Ledger) (c : ℕ) (p : Octets) (st
       })
 
   consumed-fine : Kept (consumedAs c (x ∷ []) p st s .next) (seen (consume c) (eventOf (consume c) (record { answer = taken; effect = consumedAs c (x ∷ []) p st s })) (accountOf s aim l))
-  unfolding eaten whole next counted
+  unfolding eaten back whole next returned counted
   consumed-fine = go (isLoop c) refl
     where
-      go : (b : Bool) → isLoop c ≡ b → Kept (next (pick b (p ∷ []) [])) (counted (pick b (p ∷ []) []))
+      go : (b : Bool) → isLoop c ≡ b → Kept (next (λ k. pick b (paid (eaten k)) (eaten k)) (pick b (returned ∷ []) [])) (counted (pick b (returned ∷ []) []))
       go true e = looped e
       go false e = plain e
 
@@ -295,7 +311,7 @@ module _ (s : State) (aim : ℕ) (l : ℕ → Ledger) where
                   tidy = λ b. clash b free;
                   empty = λ b. clash b free;
                 };
-            way = data-way aim (s .asking) (s .down) p c x means (f .way);
+            way = data-way aim (s .asking) (s .down) p c 0 x means (f .way);
             aimed = f .aimed;
             sound = f .sound;
             heard = f .heard;
@@ -304,16 +320,16 @@ module _ (s : State) (aim : ℕ) (l : ℕ → Ledger) where
           }
         where
           p : Octets
-          p = segmentPacket (dataHeader c) x
+          p = segmentPacket (dataHeader c 0) x
 
-          means : meaning p ≡ datum c x
-          means = meaning-data c x small
+          means : meaning p ≡ datum c 0 x
+          means = meaning-data c 0 x small (omega arith)
 
           segs : (d : ℕ) → segsOf d (s .down ++ (p ∷ [])) ≡ segsOf d (s .down) ++ pick (eqb c d) (x ∷ []) []
-          segs d = segsOf-append d (s .down) (p ∷ []) ∙ ap (λ (y : List Segment). segsOf d (s .down) ++ y) (segsOf-data p c x means d)
+          segs d = segsOf-append d (s .down) (p ∷ []) ∙ ap (λ (y : List Segment). segsOf d (s .down) ++ y) (segsOf-data p c 0 x means d)
 
           no-head : heads (p ∷ []) ≡ []
-          no-head = heads-data p c x means
+          no-head = heads-data p c 0 x means
 
   pub consume-keeps : (c : ℕ) → Keeps (consume c) s aim l
   consume-keeps c t f = go (s .conns c .controller .store) refl
@@ -328,7 +344,7 @@ module _ (s : State) (aim : ℕ) (l : ℕ → Ledger) where
         where
           with-meaning : (q : Meaning) → meaning p ≡ q → StoredIn c q
               → Kept (consumedAs c (segmentIn q) p st s .next) (seen (consume c) (eventOf (consume c) (record { answer = taken; effect = consumedAs c (segmentIn q) p st s })) (accountOf s aim l))
-          with-meaning (datum b x) m h = consumed-fine s aim l c p st x open-here e (m ∙ ap (λ (n : ℕ). datum n x) h) f
+          with-meaning (datum b n x) m h = consumed-fine s aim l c p st n x open-here e (m ∙ ap (λ (a : ℕ). datum a n x) h) f
           with-meaning (control mt gid oid x) m h = absurd h
           with-meaning junk m h = absurd h
 
@@ -376,22 +392,25 @@ module _ (s : State) (aim : ℕ) (l : ℕ → Ledger) where
           record {
             good =
                 λ d.
-                rw (put-data aim d p 0 x (l d) means, itemsOf-append aim d (s .up) (p ∷ []), itemsOf-data p 0 x means aim d)
+                rw (put-data aim d p 0 back x (l d) means, itemsOf-append aim d (s .up) (p ∷ []), itemsOf-data p 0 back x means aim d)
                 (each 0
-                (λ d b. GoodAt d (pick b (withController (spoken h (s .conns d .controller)) (s .conns d)) (s .conns d)) (segsOf d (s .down)) (itemsOf aim d (s .up) ++ pick b (loaded x ∷ []) []) (l d))
+                (λ d b. GoodAt d (pick b (withController (paid (spoken h (s .conns d .controller))) (s .conns d)) (s .conns d)) (segsOf d (s .down)) (itemsOf aim d (s .up) ++ pick b (loaded back x ∷ []) []) (putBy (pick b (gives back) stays) (l d)))
                 (reply-good x h (open-here x h e (s .conns 0 .controller .opened) refl) e (f .good 0))
                 (λ d. rw append-nil (f .good d)) d);
-            order = rw (replies-data p 0 x means (s .up)) (order-open (λ d z. at-keeps 0 (λ k. withController (spoken h (k .controller)) k) (s .conns) (λ k. k .controller .opened) (λ k. refl) d) (f .order));
+            order = rw (replies-data p 0 back x means (s .up)) (order-open (λ d z. at-keeps 0 (λ k. withController (paid (spoken h (k .controller))) k) (s .conns) (λ k. k .controller .opened) (λ k. refl) d) (f .order));
             way = f .way;
             aimed = f .aimed;
-            sound = sound-data (s .up) p 0 x means (f .sound);
+            sound = sound-data (s .up) p 0 back x means (f .sound);
             heard = f .heard;
-            standing = standing-at 0 (spoken h) (λ k. refl) (λ k. refl) (f .standing .stores 0) (f .standing);
+            standing = standing-at 0 (λ k. paid (spoken h k)) (λ k. refl) (λ k. refl) (f .standing .stores 0) (f .standing);
             limits = f .limits;
           }
         where
-          p : Octets
-          p = segmentPacket (dataHeader 0) x
+          back : ℕ
+          back = carriedOn (s .conns 0 .controller)
 
-          means : meaning p ≡ datum 0 x
-          means = meaning-data 0 x (omega arith)
+          p : Octets
+          p = segmentPacket (dataHeader 0 back) x
+
+          means : meaning p ≡ datum 0 back x
+          means = meaning-data 0 back x (omega arith) (omega (arith, carriable-few (owedOn (s .conns 0 .controller))))

@@ -2,9 +2,9 @@
 -- Assumes nothing.
 use mathlib.Core.Path.{refl}
 use Rattle.octets.specs.Octets.{cut}
-use Rattle.packets.specs.Packet.{octet0, octet1, packetOf, oidOf, spareOf, headerOf, readOf}
+use Rattle.packets.specs.Packet.{octet0, octet1, packetOf, oidOf, carriedOf, spareOf, headerOf, readOf, carrying}
 use Rattle.packets.specs.Segments.{segmentsWithin, segments}
-use Rattle.state.specs.Conn.{placeOf, connOf, termsOf}
+use Rattle.state.specs.Conn.{placeOf, connOf, termsOf, carriable}
 use Rattle.state.specs.Commands.{commandOf}
 use Rattle.nfcc.specs.Controller.{shortest, allowed, resetBy, after, seek, nextId, createBy, closeBy, configsOk, discoverBy, deactivateBy, judgeOf, controllerAfter}
 use Rattle.messages.specs.Layout.{entriesFrom, entryCount, responseOf, noticeMessage}
@@ -23,7 +23,7 @@ use Rattle.model.specs.Table.{Plays}
 use Rattle.model.specs.Limits.{Limits}
 
 pub limits : Limits Plays
-unfolding cut octet0 octet1 packetOf oidOf spareOf headerOf readOf segmentsWithin segments placeOf connOf termsOf commandOf shortest allowed resetBy after seek nextId createBy closeBy configsOk discoverBy deactivateBy judgeOf controllerAfter entriesFrom entryCount responseOf noticeMessage pollIn eventOf pollBy airedBy airMessage controllerAired noticeOf zeros initWritten createWritten entriesOk creditsWritten activatedWritten written answerOf heardAlone hearOf creditsIn namesClosed hostAfter dropHeard meaning dataCount creditsUp first allZero anyOf step events observer.after
+unfolding cut octet0 octet1 packetOf oidOf carriedOf spareOf headerOf readOf carrying segmentsWithin segments placeOf connOf termsOf carriable commandOf shortest allowed resetBy after seek nextId createBy closeBy configsOk discoverBy deactivateBy judgeOf controllerAfter entriesFrom entryCount responseOf noticeMessage pollIn eventOf pollBy airedBy airMessage controllerAired noticeOf zeros initWritten createWritten entriesOk creditsWritten activatedWritten written answerOf heardAlone hearOf creditsIn namesClosed hostAfter dropHeard meaning dataCount creditsUp first allZero anyOf step events observer.after
 limits =
     record {
       send-1024 = λ s. refl;

@@ -25,9 +25,10 @@ use Rattle.dh.specs.Host.{heardAlone, hearOf, answerOf, okAnswer, noticed, cred
 use Rattle.packets.specs.Headers.{dataHeader, controlHeader}
 use Rattle.messages.specs.Packets.{responsePacket, noticePacket}
 use Rattle.wires.specs.Meaning.{Meaning, datum, control, junk, meant, meaning}
-use Rattle.wires.specs.Tally.{isDataFor, dataCount, aimedAt, says, saysIn, contents, creditsSaid, creditsUp}
+use Rattle.wires.specs.Tally.{isDataFor, dataCount, aimedAt, says, creditsSaid, creditsMeant, creditsUp}
 use Rattle.ends.specs.Changes.{stays, opens, closes, gives, changeHeard}
-use Rattle.model.specs.invariant.Items.{Item, carry, credit, opened, closed, loaded, itemsBy, itemsIn, itemsOf, segsIn, segsOf, storeSegs, upCredits}
+use Rattle.model.specs.invariant.Items.{loaded, itemsBy, itemsIn, itemsOf, segsIn, segsOf, storeSegs, upCredits}
+use Rattle.model.proofs.Items.{upCredits-append}
 
 -- ---- what a packet means that was written with a header in range
 
@@ -44,30 +45,30 @@ segment-flagged (more b) = refl
 segment-flagged (last b) = refl
 
 -- data that an end puts on a wire
-pub meaning-data : (c : ℕ) (x : Segment) → c < 16 → meaning (segmentPacket (dataHeader c) x) ≡ datum c x
-meaning-data c x low =
-    meaning-packet (marked (dataHeader c) (flag x)) (body x)
-    (record { mt = omega arith; id = low; oid = omega arith; data-oid = λ e. refl; spare = refl })
-    ∙ ap (datum c) (segment-flagged x)
+pub meaning-data : (c n : ℕ) (x : Segment) → c < 16 → n < 4 → meaning (segmentPacket (dataHeader c n) x) ≡ datum c n x
+meaning-data c n x low few =
+    meaning-packet (marked (dataHeader c n) (flag x)) (body x)
+    (record { mt = omega arith; id = low; oid = omega arith; data-oid = λ e. refl; credits = few; control-credits = λ z. absurd (z refl); spare = refl })
+    ∙ ap (datum c n) (segment-flagged x)
 
 module _ (gid oid : ℕ) (low : gid < 16) (small : oid < 64) where
   -- a segment of a command
   pub meaning-command : (x : Segment) → meaning (segmentPacket (controlHeader 1 gid oid) x) ≡ control 1 gid oid x
   meaning-command x =
       meaning-packet (marked (controlHeader 1 gid oid) (flag x)) (body x)
-      (record { mt = omega arith; id = low; oid = small; data-oid = λ e. absurd (omega arith); spare = refl })
+      (record { mt = omega arith; id = low; oid = small; data-oid = λ e. absurd (omega arith); credits = omega arith; control-credits = λ z. refl; spare = refl })
       ∙ ap (control 1 gid oid) (segment-flagged x)
 
   -- a response and a notification, each one packet
   pub meaning-response : (m : Octets) → meaning (responsePacket (record { gid = gid; oid = oid; payload = m })) ≡ control 2 gid oid (last m)
   meaning-response m =
       meaning-packet (controlHeader 2 gid oid) m
-      (record { mt = omega arith; id = low; oid = small; data-oid = λ e. absurd (omega arith); spare = refl })
+      (record { mt = omega arith; id = low; oid = small; data-oid = λ e. absurd (omega arith); credits = omega arith; control-credits = λ z. refl; spare = refl })
 
   pub meaning-notice : (m : Octets) → meaning (noticePacket (record { gid = gid; oid = oid; payload = m })) ≡ control 3 gid oid (last m)
   meaning-notice m =
       meaning-packet (controlHeader 3 gid oid) m
-      (record { mt = omega arith; id = low; oid = small; data-oid = λ e. absurd (omega arith); spare = refl })
+      (record { mt = omega arith; id = low; oid = small; data-oid = λ e. absurd (omega arith); credits = omega arith; control-credits = λ z. refl; spare = refl })
 
 -- ---- the projections of one list after another
 
@@ -96,17 +97,10 @@ unfolding creditsUp
 creditsUp-append c [] b = omega arith
 creditsUp-append c (p ∷ a) b = omega (arith, creditsUp-append c a b)
 
-pub upCredits-append : (a b : List Item) → upCredits (a ++ b) ≡ upCredits a + upCredits b
-upCredits-append [] b = omega arith
-upCredits-append (carry l ∷ a) b = upCredits-append a b
-upCredits-append (credit n ∷ a) b = omega (arith, upCredits-append a b)
-upCredits-append (opened t ∷ a) b = omega (arith, upCredits-append a b)
-upCredits-append (closed ∷ a) b = upCredits-append a b
-
 -- ---- data on the down wire is counted by its segments
 
 data-one : (c : ℕ) (q : Meaning) → pick (isDataFor c q) 1 0 ≡ length (segsIn c q)
-data-one c (datum d x) = elim (eqb d c) as (λ b. pick b 1 0 ≡ length (pick b (x ∷ []) [])) [ true ↦ refl | false ↦ refl ]
+data-one c (datum d n x) = elim (eqb d c) as (λ b. pick b 1 0 ≡ length (pick b (x ∷ []) [])) [ true ↦ refl | false ↦ refl ]
 data-one c (control mt gid oid x) = refl
 data-one c junk = refl
 
@@ -162,8 +156,8 @@ says-aimless aim mt gid oid d m n =
     elim (written mt gid oid n) as (λ b. creditsSaid d m (pick b (heardAlone (aimedAt aim) mt gid oid n) Nothing)
     ≡ creditsSaid d m (pick b (heardAlone (aimedAt 0) mt gid oid n) Nothing)) [ true ↦ heard-aimless aim mt gid oid d m n | false ↦ refl ]
 
-credits-one : (aim d : ℕ) (q : Meaning) → creditsSaid d (contents q) (saysIn 0 q) ≡ upCredits (itemsIn aim d q)
-credits-one aim d (datum c x) = elim (eqb c d) as (λ b. 0 ≡ upCredits (pick b (loaded x ∷ []) [])) [ true ↦ refl | false ↦ refl ]
+credits-one : (aim d : ℕ) (q : Meaning) → creditsMeant d q ≡ upCredits (itemsIn aim d q)
+credits-one aim d (datum c n x) = elim (eqb c d) as (λ b. pick b n 0 ≡ upCredits (pick b (loaded n x ∷ []) [])) [ true ↦ omega arith | false ↦ refl ]
 credits-one aim d (control mt gid oid (more b)) = refl
 credits-one aim d (control mt gid oid (last m)) =
     sym (credits-change (pick (eqb mt 1) Nothing (says aim mt gid oid m)) m d
@@ -180,12 +174,12 @@ creditsUp-items aim d (p ∷ w) =
 -- ---- the packets that an end puts on a wire, projected
 
 -- one packet of data
-module _ (p : Octets) (c : ℕ) (x : Segment) (means : meaning p ≡ datum c x) where
+module _ (p : Octets) (c n : ℕ) (x : Segment) (means : meaning p ≡ datum c n x) where
   pub segsOf-data : (d : ℕ) → segsOf d (p ∷ []) ≡ pick (eqb c d) (x ∷ []) []
   unfolding segsOf
   segsOf-data d = rw (means, append-nil)
 
-  pub itemsOf-data : (aim d : ℕ) → itemsOf aim d (p ∷ []) ≡ pick (eqb c d) (loaded x ∷ []) []
+  pub itemsOf-data : (aim d : ℕ) → itemsOf aim d (p ∷ []) ≡ pick (eqb c d) (loaded n x ∷ []) []
   unfolding itemsOf
   itemsOf-data aim d = rw (means, append-nil)
 

@@ -10,7 +10,7 @@ use lib.Dec.{eqb, leb}
 use lib.ListN.{length}
 use borrow.Author.Tests.{not-false, lt-leb, le-ltb, eq-eqb}
 use Rattle.octets.specs.Octets.{Octets, pick}
-use Rattle.packets.specs.Segments.{more, last}
+use Rattle.packets.specs.Segments.{Segment, more, last}
 use Rattle.packets.specs.Reassembly.{Run, run, finished}
 use Rattle.packets.proofs.Reassembly.{within}
 use Rattle.model.specs.Kinds.{Pending, Answer, Heard}
@@ -30,7 +30,7 @@ use Rattle.model.specs.Refusals.{Rule, rule, first, isNil, noConn, isHel
 use Rattle.model.specs.Runs.{sameRun, wholeBy}
 use Rattle.ends.specs.Changes.{Change, creditsOf, changeHeard}
 use Rattle.model.specs.calls.Consume.{isLoop}
-use Rattle.model.specs.calls.Up.{above, anyOf, tooMany, firstTooMany}
+use Rattle.model.specs.calls.Up.{passing, above, anyOf, tooMany, firstTooMany}
 use Rattle.model.specs.Bench.{rules, judged, step}
 use Rattle.model.specs.Observer.{Ledger, Account}
 use Rattle.model.specs.Reachable.{Always, Never13}
@@ -123,10 +123,8 @@ none-of f (c ∷ cs) h = rw (h c) (none-of f cs h)
 
 module _ (s : State) (aim : ℕ) (l : ℕ → Ledger) (p : Octets) (w : List Octets) (f : Fine (withUp (p ∷ w) s) aim l) where
   -- within the grant, no connection is brought above it
-  not-above : (h : Heard) (m : Octets) (d : ℕ) → s .conns d .host .held + creditsOf (changeHeard h m d) ≤ s .conns d .host .grant
-      → above (withUp (p ∷ w) s) h m d ≡ false
-  not-above h m d e =
-      go (isHeld s d) (flows (s .conns d .host .grant)) (le-ltb (s .conns d .host .grant) (s .conns d .host .held + creditsOf (changeHeard h m d)) e)
+  not-above : (d n : ℕ) → s .conns d .host .held + n ≤ s .conns d .host .grant → passing (withUp (p ∷ w) s) d n ≡ false
+  not-above d n e = go (isHeld s d) (flows (s .conns d .host .grant)) (le-ltb (s .conns d .host .grant) (s .conns d .host .held + n) e)
     where
       go : (a b : Bool) {c : Bool} → c ≡ false → (a && b && c) ≡ false
       go true true z = z
@@ -153,8 +151,12 @@ module _ (s : State) (aim : ℕ) (l : ℕ → Ledger) (p : Octets) (w : List Oct
       (on (λ (r : Run). run [] ≡ r) (sameRun (s .hearing) mt gid oid) (λ e. sym (f .heard)) (λ e. refl))
       (rw (within controlLimit [] m short))
 
+  data-room : (c n : ℕ) (x : Segment) → meaning p ≡ datum c n x → s .conns c .host .held + n ≤ s .conns c .host .grant
+  unfolding itemsOf
+  data-room c n x means = omega (arith, (rw (means, eq-eqb c c refl) at (f .good c .numbers)) .debts .bound)
+
   not-too-many : (q : Meaning) → meaning p ≡ q → SoundIn q → tooMany (withUp (p ∷ w) s) q ≡ false
-  not-too-many (datum c x) means k = refl
+  not-too-many (datum c n x) means k = not-above c n (data-room c n x means)
   not-too-many (control mt gid oid (more b)) means k = absurd k
   not-too-many (control mt gid oid (last m)) means k = rw (heard-whole mt gid oid m (k .1)) (go (k .0))
     where
@@ -163,7 +165,7 @@ module _ (s : State) (aim : ℕ) (l : ℕ → Ledger) (p : Octets) (w : List Oct
 
       spared : (n : ℕ) → Room n gid oid m → Spared n
       spared n room =
-          rw (none-of (above (withUp (p ∷ w) s) (hearOf (s .host .pending) n gid oid m) m) ids (λ d. not-above (hearOf (s .host .pending) n gid oid m) m d (room d)))
+          rw (none-of (above (withUp (p ∷ w) s) (hearOf (s .host .pending) n gid oid m) m) ids (λ d. not-above d (creditsOf (changeHeard (hearOf (s .host .pending) n gid oid m) m d)) (room d)))
           (elim (not (eqb n 1)) as (λ b. (b && false) ≡ false) [ true ↦ refl | false ↦ refl ])
 
       go : ((mt ≡ 2) × (written 2 gid oid m ≡ true)) ⊎ (mt ≡ 3) → Spared mt

@@ -5,21 +5,22 @@ use Prim.Native.Nat.{ℕ, _+_, _-_, _≤_, _<_}
 use native.Mathlib.Omega.{arith}
 use mathlib.Core.Bool.{Bool, true, false, _&&_}
 use mathlib.Core.List.{List, [], _∷_, _++_}
-use mathlib.Core.Path.{_≡_, refl}
+use mathlib.Core.Path.{_≡_, refl, subst}
 use lib.ListN.{length-append}
 use Rattle.octets.specs.Octets.{Octets, pick}
 use Rattle.packets.specs.Segments.{Segment}
 use Rattle.packets.specs.Reassembly.{grown, finished}
 use Rattle.state.specs.Conn.{flows, creditSum}
 use Rattle.state.specs.Runs.{dataLimit}
-use Rattle.model.specs.Connection.{Connection, withHost, withController, pushed, stored, consumed}
-use Rattle.model.specs.Observer.{Ledger, pushedL, arrivedL, consumedL}
-use Rattle.model.specs.invariant.Items.{Load, Item, carry, credit, opened, closed, putK, readK, putL, readL, upReturned}
-use Rattle.model.specs.invariant.Phases.{walk, start}
+use Rattle.model.specs.Connection.{Connection, withHost, withController, pushed, credited, stored, consumed}
+use Rattle.ends.specs.Changes.{gives}
+use Rattle.model.specs.Observer.{Ledger, readBy, pushedL, arrivedL, consumedL}
+use Rattle.model.specs.invariant.Items.{Load, Item, carry, credit, opened, closed, putK, readK, putL, readL, upCredits, upReturned}
+use Rattle.model.specs.invariant.Phases.{Phase, shut, live, over, bad, enter, walk, start, Ends}
 use Rattle.model.specs.invariant.Link.{Figures, figures, AllOpened, Agreed, Debts, Numbers}
 use Rattle.model.proofs.Cases.{clash}
 use Rattle.model.proofs.Items.{upCredits-append, upReturned-append, opened-append}
-use Rattle.model.proofs.Phases.{walk-append, carry-first, credit-first, opened-first, closed-first, phase-put, closed-ends}
+use Rattle.model.proofs.Phases.{walk-append, credit-first, opened-first, closed-first, phase-put, closed-ends}
 use Rattle.model.proofs.Link.{held-none, owed-room}
 
 -- ---- parts
@@ -50,19 +51,64 @@ pick-sum : (b : Bool) (m n : ℕ) → m + n ≤ 255 → pick b (creditSum m n) m
 pick-sum true m n h = omega (arith, small-sum m n h)
 pick-sum false m n h = omega arith
 
--- ---- a segment more on the up wire leaves the numbers
+-- ---- credits are put on the up wire, in a notice or inside data
 
-pub carried : {n : Figures} {u : List Item} (x : Load) → n .here ≡ true → Numbers n u → Numbers n (u ++ (carry x ∷ []))
-carried {n} {u} x c g =
+-- the numbers with n credits less owed, which the observer has counted
+abbrev less : ℕ → Figures → Figures
+less n f =
+    let c = f .controllerCount in
+    record {
+      there = f .there;
+      hostGrant = f .hostGrant;
+      held = f .held;
+      down = f .down;
+      here = f .here;
+      grant = f .grant;
+      stored = f .stored;
+      owed = f .owed - n;
+      hostCount = f .hostCount;
+      controllerCount = record { opened = c .opened; grant = c .grant; arrived = c .arrived; consumed = c .consumed; noticed = c .noticed + n };
+    }
+
+-- an item that gives n credits back and opens nothing
+pub record Returns (i : Item) (n : ℕ) : Type 0 where
+  pub back : upReturned (i ∷ []) ≡ n
+  pub all : upCredits (i ∷ []) ≡ n
+  pub enters : enter live i ≡ live
+  pub opens : (g : ℕ) → AllOpened g (i ∷ [])
+
+carry-returns : (x : Load) → Returns (carry x) (x .credits)
+carry-returns x = record { back = omega arith; all = omega arith; enters = refl; opens = λ g. tt }
+
+credit-returns : (n : ℕ) → Returns (credit n) n
+credit-returns n = record { back = omega arith; all = omega arith; enters = refl; opens = λ g. tt }
+
+returned : {f : Figures} {u : List Item} (i : Item) (n : ℕ) → Returns i n → f .here ≡ true → n ≤ f .owed → Numbers f u → Numbers (less n f) (u ++ (i ∷ []))
+returned {f} {u} i n r c h g =
     record {
       opened = g .opened;
       counts = g .counts;
-      phase = phase-put (n .there) u (carry x) (n .here) (rw c at (g .phase)) c;
-      debts = within-grant (g .debts) (rw upReturned-append (omega (arith, g .debts .bound)));
+      phase = phase-put (f .there) u i (f .here) (rw c at (g .phase)) (rw (r .enters) c);
+      debts =
+          let q = g .debts in
+          record {
+            bound = rw upReturned-append (omega (arith, owed-room g c, r .back));
+            granted = q .granted;
+            octet = q .octet;
+            spare = (λ y. omega (arith, q .spare y));
+            asleep = (λ a. clash c a);
+          };
       live = (λ a.
           let v = g .live a in
-          record { sum = (λ y. rw upCredits-append (omega (arith, v .sum y))); terms = terms-put (carry x) tt (v .terms); counts = v .counts });
+          record {
+            sum = (λ y. rw upCredits-append (omega (arith, r .all, v .sum y)));
+            terms = terms-put i (r .opens (f .grant)) (v .terms);
+            counts = record { granted = v .counts .granted; stored = v .counts .stored; owed = (λ y. omega (arith, v .counts .owed y)) };
+          });
     }
+
+pub carried : {f : Figures} {u : List Item} (x : Load) → f .here ≡ true → x .credits ≤ f .owed → Numbers f u → Numbers (less (x .credits) f) (u ++ (carry x ∷ []))
+carried x c h g = returned (carry x) (x .credits) (carry-returns x) c h g
 
 -- ---- what may be put and read
 
@@ -151,20 +197,7 @@ module _ (k : Connection) (d : List Segment) (u : List Item) (l : Ledger) where
 
   pub put-numbers : (i : Item) → Allowed k d u i → Numbers (figures k d l) u → Numbers (figures (putK i k) d (putL i l)) (u ++ (i ∷ []))
   put-numbers (carry x) a g = absurd a
-  put-numbers (credit n) m g =
-      record {
-        opened = g .opened;
-        counts = g .counts;
-        phase = phase-put (k .host .opened) u (credit n) (k .controller .opened) (rw (m .0) at (g .phase)) (m .0);
-        debts = let q = g .debts in record { bound = rw upReturned-append (omega (arith, owed-room g (m .0), m .1)); granted = q .granted; octet = q .octet; spare = (λ y. omega (arith, m .1)); asleep = (λ a. omega (arith, m .1)) };
-        live = (λ a.
-            let v = g .live a in
-            record {
-              sum = (λ y. rw upCredits-append (omega (arith, m .1, v .sum y)));
-              terms = terms-put (credit n) tt (v .terms);
-              counts = record { granted = v .counts .granted; stored = v .counts .stored; owed = (λ y. omega (arith, m .1, v .counts .owed y)) };
-            });
-      }
+  put-numbers (credit n) m g = returned (credit n) n (credit-returns n) (m .0) (omega (arith, m .1)) g
   put-numbers (opened t) m g =
       record {
         opened = refl;
@@ -189,16 +222,8 @@ module _ (k : Connection) (d : List Segment) (u : List Item) (l : Ledger) where
 
   -- ---- the host reads an item
 
-  pub read-numbers : (i : Item) (ms : List Octets) → Handed k i ms → Numbers (figures k d l) (i ∷ u) → Numbers (figures (readK i k) d (readL i ms l)) u
-  read-numbers (carry x) ms h g =
-      record {
-        opened = g .opened;
-        counts = g .counts;
-        phase = carry-first (k .host .opened) (k .controller .opened) x u (g .phase) .1;
-        debts = within-grant (g .debts) (g .debts .bound);
-        live = (λ a. let v = g .live a in record { sum = v .sum; terms = record { same = v .terms .same; under-way = v .terms .under-way }; counts = v .counts });
-      }
-  read-numbers (credit n) ms h g =
+  read-credits : (n : ℕ) → Numbers (figures k d l) (credit n ∷ u) → Numbers (figures (withHost (credited n (k .host)) k) d (readBy (gives n) l)) u
+  read-credits n g =
       let p = credit-first (k .host .opened) (k .controller .opened) n u (g .phase) in
       let octet : k .host .held + n ≤ 255 = omega (arith, g .debts .bound, g .debts .octet) in
       let more = small-sum (k .host .held) n octet in
@@ -215,6 +240,27 @@ module _ (k : Connection) (d : List Segment) (u : List Item) (l : Ledger) where
               counts = v .counts;
             });
       }
+
+  -- credits inside data count as those of a notice
+  as-notice : (x : Load) → Numbers (figures k d l) (carry x ∷ u) → Numbers (figures k d l) (credit (x .credits) ∷ u)
+  as-notice x g =
+      record {
+        opened = g .opened;
+        counts = g .counts;
+        phase = subst (λ (p : Phase). Ends (walk p u) (k .controller .opened)) (same (start (k .host .opened))) (g .phase);
+        debts = within-grant (g .debts) (g .debts .bound);
+        live = (λ a. let v = g .live a in record { sum = v .sum; terms = record { same = v .terms .same; under-way = v .terms .under-way }; counts = v .counts });
+      }
+    where
+      same : (p : Phase) → enter p (carry x) ≡ enter p (credit (x .credits))
+      same shut = refl
+      same live = refl
+      same over = refl
+      same bad = refl
+
+  pub read-numbers : (i : Item) (ms : List Octets) → Handed k i ms → Numbers (figures k d l) (i ∷ u) → Numbers (figures (readK i k) d (readL i ms l)) u
+  read-numbers (carry x) ms h g = read-credits (x .credits) (as-notice x g)
+  read-numbers (credit n) ms h g = read-credits n g
   read-numbers (opened t) ms h g =
       let p = opened-first (k .host .opened) (k .controller .opened) t u (g .phase) in
       record {

@@ -68,7 +68,7 @@ idle-pending (pending.Command k) e = clash refl e
 -- ---- no data behind a command that closes
 
 no-segsIn : (d : ℕ) (q : Meaning) → NoDatum q → segsIn d q ≡ []
-no-segsIn d (datum c x) n = absurd n
+no-segsIn d (datum c m x) n = absurd n
 no-segsIn d (control mt gid oid x) n = refl
 no-segsIn d junk n = refl
 
@@ -87,7 +87,7 @@ no-data-tidy (p ∷ w) n = go (needsTwo (meaning p)) (no-data-tidy w (n .1))
     go false t = t
 
 no-head-end : (q : Meaning) → headsIn q ≡ [] → needsTwo q ≡ false
-no-head-end (datum c x) e = refl
+no-head-end (datum c n x) e = refl
 no-head-end (control mt gid oid (more b)) e = refl
 no-head-end (control mt gid oid (last b)) e = go (eqb mt 1) e
   where
@@ -116,7 +116,7 @@ complete-no-last (more b ∷ ss) c n = absurd (subst NonEmpty (complete-no-last 
 complete-no-last (last b ∷ ss) c n = absurd n
 
 no-last-in : (q : Meaning) (ss : List Segment) → headsIn q ≡ [] → NoLast ss → NoLast (ordersIn q ++ ss)
-no-last-in (datum c x) ss e n = n
+no-last-in (datum c m x) ss e n = n
 no-last-in (control mt gid oid (more b)) ss e n = elim (eqb mt 1) as (λ t. NoLast (pick t (more b ∷ []) [] ++ ss)) [ true ↦ n | false ↦ n ]
 no-last-in (control mt gid oid (last b)) ss e n = go (eqb mt 1) e
   where
@@ -173,7 +173,7 @@ pub named-append : (n : Name) (a b : List Octets) → AllNamed n a → AllNamed 
 named-append n = each-append (λ p. NamedIn n (meaning p))
 
 unordered-in : (n : Name) (q : Meaning) → ordersIn q ≡ [] → NamedIn n q
-unordered-in n (datum c x) e = tt
+unordered-in n (datum c m x) e = tt
 unordered-in n (control mt gid oid x) e = λ t. absurd (cons≢nil (rw t at e))
 unordered-in n junk e = tt
 
@@ -256,7 +256,7 @@ no-way aim =
     }
 
 -- a data packet is no command's
-module _ (p : Octets) (c : ℕ) (x : Segment) (means : meaning p ≡ datum c x) where
+module _ (p : Octets) (c m : ℕ) (x : Segment) (means : meaning p ≡ datum c m x) where
   pub heads-data : heads (p ∷ []) ≡ []
   unfolding heads
   heads-data = rw means
@@ -272,10 +272,10 @@ module _ (p : Octets) (c : ℕ) (x : Segment) (means : meaning p ≡ datum c x) 
   named-data : (n : Name) (w : List Octets) → AllNamed n w → AllNamed n (w ++ (p ∷ []))
   named-data n w h = named-append n w (p ∷ []) h (rw means (tt, tt))
 
-pub data-way : (aim : ℕ) (r : ControlRun) (w : List Octets) (p : Octets) (c : ℕ) (x : Segment) → meaning p ≡ datum c x
+pub data-way : (aim : ℕ) (r : ControlRun) (w : List Octets) (p : Octets) (c m : ℕ) (x : Segment) → meaning p ≡ datum c m x
     → OnItsWay aim r w → OnItsWay aim r (w ++ (p ∷ []))
-data-way aim r w p c x means q =
-    let same = orders-data p c x means w in
+data-way aim r w p c m x means q =
+    let same = orders-data p c m x means w in
     record {
       name = q .name;
       low = q .low;
@@ -283,7 +283,7 @@ data-way aim r w p c x means q =
       so-far = q .so-far;
       kept = q .kept;
       mine = q .mine;
-      of-one = named-data p c x means (q .name) w (q .of-one);
+      of-one = named-data p c m x means (q .name) w (q .of-one);
       complete = rw same (q .complete);
       whole = rw same (q .whole);
       aims = rw same (q .aims);

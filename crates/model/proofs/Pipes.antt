@@ -145,15 +145,15 @@ module _ {loop : Bool} (k : Connection) (d : List Segment) (u : List Item) (l : 
       }
 
 module _ (k : Connection) (d : List Segment) (u : List Item) (l : Ledger) where
-  pub echoed : (p : Octets) (rest : List Octets) (x : Segment) → segmentIn (meaning p) ≡ x ∷ [] → k .controller .store ≡ p ∷ rest
-      → upSegs u ++ below (ways k d u l) ≡ upSegs (u ++ (loaded x ∷ [])) ++ (storeSegs rest ++ (d ++ k .host .hand))
-  echoed p rest x m e = rw (e, store-first p rest x m, upSegs-append) (simp append-assoc)
+  pub echoed : (p : Octets) (rest : List Octets) (n : ℕ) (x : Segment) → segmentIn (meaning p) ≡ x ∷ [] → k .controller .store ≡ p ∷ rest
+      → upSegs u ++ below (ways k d u l) ≡ upSegs (u ++ (loaded n x ∷ [])) ++ (storeSegs rest ++ (d ++ k .host .hand))
+  echoed p rest n x m e = rw (e, store-first p rest x m, upSegs-append) (simp append-assoc)
 
   -- ---- the endpoint speaks, where there is no loopback
 
-  pub reply-pipes : (x : Segment) (rest : List Segment) → k .controller .opened ≡ true → k .controller .speech ≡ x ∷ rest → Pipes false (ways k d u l)
-      → Pipes false (ways (withController (spoken rest (k .controller)) k) d (u ++ (loaded x ∷ [])) l)
-  reply-pipes x rest c e g =
+  pub reply-pipes : (n : ℕ) (x : Segment) (rest : List Segment) → k .controller .opened ≡ true → k .controller .speech ≡ x ∷ rest → Pipes false (ways k d u l)
+      → Pipes false (ways (withController (spoken rest (k .controller)) k) d (u ++ (loaded n x ∷ [])) l)
+  reply-pipes n x rest c e g =
       record {
         hand = g .hand;
         reassembly = g .reassembly;

@@ -53,7 +53,7 @@ Bounded Deactivated = Unit {0}
 Bounded Credits = Unit {0}
 
 abbrev SaidIn : Meaning → Type 0
-SaidIn (datum c x) = Unit {0}
+SaidIn (datum c n x) = Unit {0}
 SaidIn (control mt gid oid (more b)) = Unit {0}
 SaidIn (control mt gid oid (last m)) = Bounded (says 0 mt gid oid m)
 SaidIn junk = Unit {0}
@@ -159,9 +159,9 @@ pub credit-said : (ns : List ℕ) → Said (noticePacket (record { gid = 0; oid 
 unfolding noticeOf
 credit-said ns = notice-said 0 6 (creditsNtf ns) (omega arith) (omega arith) tt
 
-pub data-said : (p : Octets) (c : ℕ) (x : Segment) → meaning p ≡ datum c x → Said (p ∷ [])
+pub data-said : (p : Octets) (c n : ℕ) (x : Segment) → meaning p ≡ datum c n x → Said (p ∷ [])
 unfolding Said
-data-said p c x means = rw means (tt, tt)
+data-said p c n x means = rw means (tt, tt)
 
 -- ---- what it does at the host
 

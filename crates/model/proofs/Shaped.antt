@@ -2,18 +2,18 @@
 -- Assumes nothing.
 use Prim.Native.Nat.{ℕ, zero, suc, _+_, _≤_, _<_}
 use native.Mathlib.Omega.{arith}
-use mathlib.Core.Path.{_≡_, refl, ap, _∙_}
+use mathlib.Core.Path.{_≡_, refl, sym, ap, _∙_}
 use mathlib.Core.Logic.{inl, inr}
-use mathlib.Core.Bool.{Bool, false}
+use mathlib.Core.Bool.{Bool, true, false}
 use mathlib.Core.List.{List, [], _∷_, map, append-nil}
 use lib.Dec.{eqb, ltb}
 use lib.ListN.{length, drop, length-append, length-take, length-drop}
-use borrow.Author.Tests.{ltb-false}
-use Rattle.octets.specs.Octets.{Octets}
+use borrow.Author.Tests.{eqb-true, ltb-false}
+use Rattle.octets.specs.Octets.{Octets, pick}
 use Rattle.model.specs.Kinds.{Header, Profile, Verdict, Event}
-use Rattle.packets.specs.Packet.{packetOf, readOf, Writable}
-use Rattle.packets.specs.Segments.{Segment, body, flag, marked, segmentsWithin, segments, segmentPacket}
-use Rattle.packets.proofs.RoundTrip.{read-written}
+use Rattle.packets.specs.Packet.{packetOf, readOf, carrying, credited, Writable}
+use Rattle.packets.specs.Segments.{Segment, body, flag, marked, segment, segmentsWithin, segments, segmentPacket}
+use Rattle.packets.proofs.RoundTrip.{read-written, carrying-written}
 use Rattle.model.specs.Kinds.verdict as verdict
 use Rattle.model.specs.Kinds.event.{Bad, Found, Poll, Listen, Failed, Sleeps, LinkLost, Releases, Endpoint}
 use Rattle.state.specs.Conn.{termsOf}
@@ -23,7 +23,7 @@ use Rattle.state.proofs.Chains.{on}
 use Rattle.model.specs.Connection.{Connection, withHost, withController}
 use Rattle.packets.specs.Headers.{dataHeader, controlHeader}
 use Rattle.messages.specs.Packets.{noticePacket, noticePackets}
-use Rattle.wires.specs.Meaning.{meaning}
+use Rattle.wires.specs.Meaning.{datum, control, meaning}
 use Rattle.model.specs.State.{State, cold}
 use Rattle.model.specs.Refusals.{noConn}
 use Rattle.ends.specs.Changes.{Change, stays, opens, closes, gives}
@@ -32,7 +32,7 @@ use Rattle.model.specs.calls.Down.{answers}
 use Rattle.model.specs.Reachable.{WellFormed, GoesDown, GoesUp, Each}
 use Rattle.messages.proofs.Lengths.{response-short}
 use Rattle.air.proofs.Taken.{Within}
-use Rattle.model.proofs.Meanings.{meaning-data, meaning-command, meaning-response, meaning-notice}
+use Rattle.model.proofs.Meanings.{meaning-packet, meaning-data, meaning-command, meaning-response, meaning-notice}
 use Rattle.model.proofs.Fine.{conn-small}
 use Rattle.model.proofs.Messages.{entries-few}
 
@@ -86,21 +86,44 @@ short-segments size m low high = short-within (length m) size m (omega arith) lo
 
 -- ---- what each end writes
 
-data-formed : (c : ℕ) (x : Segment) → c < 16 → length (body x) ≤ 255 → Formed (segmentPacket (dataHeader c) x)
-data-formed c x low short =
+data-formed : (c n : ℕ) (x : Segment) → c < 16 → n < 4 → length (body x) ≤ 255 → Formed (segmentPacket (dataHeader c n) x)
+data-formed c n x low few short =
     record {
-      header = marked (dataHeader c) (flag x);
+      header = marked (dataHeader c n) (flag x);
       payload = body x;
       same = refl;
-      writable = record { mt = omega arith; id = low; oid = omega arith; data-oid = λ e. refl; spare = refl };
+      writable = record { mt = omega arith; id = low; oid = omega arith; data-oid = λ e. refl; credits = few; control-credits = λ z. absurd (z refl); spare = refl };
       short = short;
     }
 
-pub data-down : (c : ℕ) (x : Segment) → noConn c ≡ false → length (body x) ≤ 255 → DownOk (segmentPacket (dataHeader c) x)
-data-down c x five short = (data-formed c x (conn-small c five) short, rw (meaning-data c x (conn-small c five)) five)
+pub data-down : (c : ℕ) (x : Segment) → noConn c ≡ false → length (body x) ≤ 255 → DownOk (segmentPacket (dataHeader c 0) x)
+data-down c x five short =
+    (data-formed c 0 x (conn-small c five) (omega arith) short, rw (meaning-data c 0 x (conn-small c five) (omega arith)) (five, refl))
 
-pub data-up : (c : ℕ) (x : Segment) → noConn c ≡ false → length (body x) ≤ 255 → UpOk (segmentPacket (dataHeader c) x)
-data-up c x five short = (data-formed c x (conn-small c five) short, rw (meaning-data c x (conn-small c five)) five)
+pub data-up : (c n : ℕ) (x : Segment) → noConn c ≡ false → n < 4 → length (body x) ≤ 255 → UpOk (segmentPacket (dataHeader c n) x)
+data-up c n x five few short = (data-formed c n x (conn-small c five) few short, rw (meaning-data c n x (conn-small c five) few) five)
+
+-- data that is passed on with other credits
+module _ (p : Octets) (c m : ℕ) (x : Segment) (means : meaning p ≡ datum c m x) (f : Formed p) where
+  is-data : f .header .mt ≡ 0
+  is-data = go (eqb (f .header .mt) 0) refl (sym (meaning-packet (f .header) (f .payload) (f .writable)) ∙ ap meaning (sym (f .same)) ∙ means)
+    where
+      go : (b : Bool) → eqb (f .header .mt) 0 ≡ b
+          → pick b (datum (f .header .id) (f .header .credits) (segment (f .header .pbf) (f .payload))) (control (f .header .mt) (f .header .id) (f .header .oid) (segment (f .header .pbf) (f .payload))) ≡ datum c m x
+          → f .header .mt ≡ 0
+      go true e h = eqb-true (f .header .mt) 0 e
+      go false e h = let z : _≡_ {A = ℕ} 0 1 = cc in absurd (omega arith)
+
+  pub carrying-formed : (n : ℕ) → Formed (carrying n p)
+  carrying-formed n =
+      let w = f .writable in
+      record {
+        header = credited (f .header) n;
+        payload = f .payload;
+        same = ap (carrying n) (f .same) ∙ carrying-written (f .header) (f .payload) n is-data;
+        writable = record { mt = w .mt; id = w .id; oid = w .oid; data-oid = w .data-oid; credits = omega arith; control-credits = λ z. absurd (z is-data); spare = w .spare };
+        short = f .short;
+      }
 
 control-formed : (mt gid oid : ℕ) (b : Bool) (m : Octets) → 1 ≤ mt → mt < 4 → gid < 16 → oid < 64 → length m ≤ 255
     → Formed (packetOf (marked (controlHeader mt gid oid) b) m)
@@ -109,7 +132,7 @@ control-formed mt gid oid b m least most low small short =
       header = marked (controlHeader mt gid oid) b;
       payload = m;
       same = refl;
-      writable = record { mt = most; id = low; oid = small; data-oid = λ e. absurd (omega arith); spare = refl };
+      writable = record { mt = most; id = low; oid = small; data-oid = λ e. absurd (omega arith); credits = omega arith; control-credits = λ z. refl; spare = refl };
       short = short;
     }
 

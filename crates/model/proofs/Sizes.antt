@@ -1,6 +1,6 @@
 -- The sizes of everything that a bench holds: each call keeps them. What down does is in SizesDown.
 -- Assumes nothing.
-use Prim.Native.Nat.{ℕ, _+_, _≤_}
+use Prim.Native.Nat.{ℕ, _+_, _%_, _≤_}
 use native.Mathlib.Omega.{arith}
 use mathlib.Core.Path.{_≡_, refl, ap}
 use mathlib.Core.Bool.{Bool, true, false, _&&_}
@@ -9,6 +9,7 @@ use lib.Dec.{eqb, ltb}
 use lib.ListN.{length, drop, length-append, length-map}
 use borrow.Author.Tests.{ltb-false, not-false}
 use Rattle.octets.specs.Octets.{Octets, pick}
+use Rattle.packets.specs.Packet.{carrying}
 use Rattle.packets.specs.Segments.{Segment, more, last, segments, segmentPacket}
 use Rattle.packets.specs.Reassembly.{Run}
 use Rattle.model.specs.Kinds.{Profile, Host, Event, Aired, Heard}
@@ -22,9 +23,11 @@ use Rattle.state.specs.Profile.{profileIn, ProfileWithin}
 use Rattle.dh.specs.Host.{hostAfter, hearOf}
 use Rattle.air.specs.Air.{eventOf, airMessage}
 use Rattle.state.proofs.Chains.{on, or-left, or-right}
-use Rattle.model.specs.Connection.{Connection, withHost, withController, sent, pushed, heardData, stored, consumed, noticed, spoken}
+use Rattle.state.proofs.Credits.{carriable-few}
+use Rattle.model.specs.Connection.{ControllerEnd, Connection, withHost, withController, sent, pushed, heardData, credited, stored, owedOn, carriedOn, paid, noticed, spoken}
 use Rattle.packets.specs.Headers.{dataHeader}
 use Rattle.messages.specs.Packets.{noticePackets}
+use Rattle.wires.proofs.Slots.{meaning-carrying}
 use Rattle.wires.specs.Meaning.{Meaning, datum, control, junk, meaning}
 use Rattle.model.specs.State.{State, at, withConns, withUp, withHearing, ControlRun, withHostState}
 use Rattle.model.specs.Effects.{fresh, power, command, send, push, down, consume, credit, air, reply, up, report, Effect, taken}
@@ -33,7 +36,7 @@ use Rattle.model.specs.Runs.{runFor, runAfter}
 use Rattle.ends.specs.Changes.{stays, opens, closes, changeHeard}
 use Rattle.model.specs.Changes.{atHost}
 use Rattle.model.specs.calls.Push.{pushing}
-use Rattle.model.specs.calls.Consume.{isLoop, echo, segmentIn, joinedRun, consuming}
+use Rattle.model.specs.calls.Consume.{isLoop, echo, echoed, segmentIn, joinedRun, joinedEnd, consuming}
 use Rattle.model.specs.calls.Credit.{owedBy}
 use Rattle.model.specs.calls.Air.{airedConns, airing}
 use Rattle.model.specs.calls.Reply.{replying}
@@ -123,38 +126,47 @@ push-small s c t m = go (s .conns c .host .hand) refl
           asking = m .asking;
         }
 
-stored-said : (c : ℕ) (p : Octets) (q : Meaning) → meaning p ≡ q → StoredIn c q → Said (p ∷ [])
-stored-said c p (datum b x) means h = data-said p b x means
-stored-said c p (control mt gid oid x) means h = absurd h
-stored-said c p junk means h = absurd h
+stored-said : (c n : ℕ) (p : Octets) (q : Meaning) → meaning p ≡ q → StoredIn c q → Said (carrying n p ∷ [])
+stored-said c n p (datum b m x) means h = data-said (carrying n p) b (n % 4) x (meaning-carrying n p b m x means)
+stored-said c n p (control mt gid oid x) means h = absurd h
+stored-said c n p junk means h = absurd h
 
 joined-within : (r : Run) (xs : List Segment) → RunWithin dataLimit r → RunWithin dataLimit (joinedRun r xs)
 joined-within r [] h = h
 joined-within r (x ∷ xs) h = grown-within dataLimit r x
 
+-- what is owed has no part in it
+echoed-small : (c : ℕ) (k : ControllerEnd) → ControllerSmall k → ControllerSmall (echoed c k)
+echoed-small c k m =
+    on (λ (j : ControllerEnd). ControllerSmall j) (isLoop c)
+    (λ e. record { stored = m .stored; speech = m .speech; reassembly = m .reassembly }) (λ e. m)
+
 consume-small : (s : State) (aim : ℕ) (l : ℕ → Ledger) (c : ℕ) → first (rules (consume c) s) ≡ taken → Fine s aim l → Small s → Small (act (consume c) s .next)
 unfolding Said
 consume-small s aim l c t f m = go (s .conns c .controller .store) refl
   where
-    room : (p : Octets) → length (s .up) + length (echo c p) ≤ 16
-    room p = with-loop (isLoop c) (need 4 (rules (consume c) s) t)
+    room : (n : ℕ) (p : Octets) → length (s .up) + length (echo c n p) ≤ 16
+    room n p = with-loop (isLoop c) (need 4 (rules (consume c) s) t)
       where
-        with-loop : (b : Bool) → (b && full 1 (s .up)) ≡ false → length (s .up) + length (pick b (p ∷ []) []) ≤ 16
+        with-loop : (b : Bool) → (b && full 1 (s .up)) ≡ false → length (s .up) + length (pick b (carrying n p ∷ []) []) ≤ 16
         with-loop true e = omega (arith, ltb-false 16 (length (s .up) + 1) e)
         with-loop false e = omega (arith, m .ups)
 
     go : (st : List Octets) → s .conns c .controller .store ≡ st → Small (consuming c st s .next)
     go [] e = m
     go (p ∷ st) e =
-        put-small s c (λ k. withController (consumed st (joinedRun (k .controller .run) (segmentIn (meaning p))) (k .controller)) k) (echo c p)
+        let after = joinedEnd (segmentIn (meaning p)) st (s .conns c .controller) in
+        let n = carriedOn after in
+        put-small s c (λ k. withController (echoed c (joinedEnd (segmentIn (meaning p)) st (k .controller))) k) (echo c n p)
         (need 3 (rules (consume c) s) t) (m .conns c .host)
+        (echoed-small c after
         (record {
           stored = omega (arith, rw e at (m .conns c .controller .stored));
           speech = m .conns c .controller .speech;
           reassembly = joined-within (s .conns c .controller .run) (segmentIn (meaning p)) (m .conns c .controller .reassembly);
-        })
-        (room p)
-        (on Said (isLoop c) (λ e′. stored-said c p (meaning p) refl (rw e at (f .standing .stores c) .0)) (λ e′. tt))
+        }))
+        (room n p)
+        (on Said (isLoop c) (λ e′. stored-said c n p (meaning p) refl (rw e at (f .standing .stores c) .0)) (λ e′. tt))
         m
 
 reply-small : (s : State) → first (rules reply s) ≡ taken → Small s → Small (act reply s .next)
@@ -164,14 +176,15 @@ reply-small s t m = go (s .conns 0 .controller .speech) refl
     go : (h : List Segment) → s .conns 0 .controller .speech ≡ h → Small (replying h s .next)
     go [] e = m
     go (x ∷ h) e =
-        put-small s 0 (λ k. withController (spoken h (k .controller)) k) (segmentPacket (dataHeader 0) x ∷ []) refl (m .conns 0 .host)
+        let n = carriedOn (s .conns 0 .controller) in
+        put-small s 0 (λ k. withController (paid (spoken h (k .controller))) k) (segmentPacket (dataHeader 0 n) x ∷ []) refl (m .conns 0 .host)
         (record {
           stored = m .conns 0 .controller .stored;
           speech = omega (arith, rw e at (m .conns 0 .controller .speech));
           reassembly = m .conns 0 .controller .reassembly;
         })
         (ltb-false 16 (length (s .up) + 1) (need 4 (rules reply s) t))
-        (data-said (segmentPacket (dataHeader 0) x) 0 x (meaning-data 0 x (omega arith)))
+        (data-said (segmentPacket (dataHeader 0 n) x) 0 n x (meaning-data 0 n x (omega arith) (omega (arith, carriable-few (owedOn (s .conns 0 .controller))))))
         m
 
 -- ---- command, credit
@@ -299,10 +312,10 @@ module _ (s : State) (aim : ℕ) (l : ℕ → Ledger) (p : Octets) (w : List Oct
   gone : Small (withUp w s)
   gone = taken-small (s .conns) (s .host) (s .hearing) (m .conns) same-size (m .hearing)
 
-  data-small : (c : ℕ) (x : Segment) → isHeld s c ≡ true → Small (withConns (at c (λ k. withHost (heardData x (k .host)) k) (s .conns)) (withUp w s))
-  data-small c x o =
-      taken-small (at c (λ k. withHost (heardData x (k .host)) k) (s .conns)) (s .host) (s .hearing)
-      (at-small c (λ k. withHost (heardData x (k .host)) k) (s .conns) (held-known c (s .conns c) (m .conns c) o)
+  data-small : (c n : ℕ) (x : Segment) → isHeld s c ≡ true → Small (withConns (at c (λ k. withHost (heardData x (credited n (k .host))) k) (s .conns)) (withUp w s))
+  data-small c n x o =
+      taken-small (at c (λ k. withHost (heardData x (credited n (k .host))) k) (s .conns)) (s .host) (s .hearing)
+      (at-small c (λ k. withHost (heardData x (credited n (k .host))) k) (s .conns) (held-known c (s .conns c) (m .conns c) o)
       (record { hand = m .conns c .host .hand; reassembly = grown-within dataLimit (s .conns c .host .run) x; terms = m .conns c .host .terms })
       (m .conns c .controller) (m .conns))
       same-size (m .hearing)
@@ -319,7 +332,7 @@ module _ (s : State) (aim : ℕ) (l : ℕ → Ledger) (p : Octets) (w : List Oct
       (after-size (s .host) h bound same-size) (grown-within controlLimit (runFor (s .hearing) mt gid oid) (last o)))
 
   coming-small : (q : Meaning) → meaning p ≡ q → SoundIn q → Small (coming q (withUp w s) .next)
-  coming-small (datum c x) means k = on (λ (e : Effect). Small (e .next)) (isHeld s c) (λ o. data-small c x o) (λ o. gone)
+  coming-small (datum c n x) means k = on (λ (e : Effect). Small (e .next)) (isHeld s c) (λ o. data-small c n x o) (λ o. gone)
   coming-small (control mt gid oid (more b)) means k = absurd k
   coming-small (control mt gid oid (last o)) means k =
       on (λ (e : Effect). Small (e .next)) (eqb mt 1) (λ e. gone) (λ e. heard-small mt gid oid o means (k .1))

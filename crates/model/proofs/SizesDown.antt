@@ -135,7 +135,7 @@ module _ (s : State) (aim : ℕ) (l : ℕ → Ledger) (p : Octets) (w : List Oct
 
   arriving-small : (q : Meaning) → meaning p ≡ q → (needsTwo q && full 2 (s .up)) ≡ false → storeFull s q ≡ false
       → Small (arriving q p (withDown w s) .next)
-  arriving-small (datum c x) means two room = on Leads (isOpen s c) (λ o. store-small c o room) (λ o. off)
+  arriving-small (datum c n x) means two room = on Leads (isOpen s c) (λ o. store-small c o room) (λ o. off)
   arriving-small (control mt gid oid (more b)) means two room =
       on Leads (eqb mt 1)
       (λ e. rw (more-none controlLimit (runFor (s .asking) 1 gid oid) b) (joined gid oid (more b)))

@@ -9,6 +9,7 @@ use lib.Dec.{eqb, ltb}
 use lib.ListN.{length, drop}
 use borrow.Author.Tests.{ltb-false, not-false}
 use Rattle.octets.specs.Octets.{Octets, pick}
+use Rattle.packets.specs.Packet.{carrying}
 use Rattle.packets.specs.Segments.{Segment, segments, segmentPacket, packetsOf}
 use Rattle.model.specs.Kinds.{Verdict, Aired}
 use Rattle.model.specs.Kinds.aired.{Refused, Goes, Activates, Ends, Speaks}
@@ -18,8 +19,10 @@ use Rattle.nfcc.specs.Controller.{judgeOf}
 use Rattle.dh.specs.Host.{hearOf}
 use Rattle.air.specs.Air.{eventOf}
 use Rattle.state.proofs.Chains.{on, or-left, or-right}
-use Rattle.model.specs.Connection.{Connection, withHost, withController, sent, pushed, heardData, stored, consumed, spoken}
+use Rattle.state.proofs.Credits.{carriable-few}
+use Rattle.model.specs.Connection.{ControllerEnd, Connection, withHost, withController, sent, pushed, heardData, credited, stored, owedOn, carriedOn, paid, spoken}
 use Rattle.packets.specs.Headers.{dataHeader, controlHeader}
+use Rattle.wires.proofs.Slots.{meaning-carrying}
 use Rattle.wires.specs.Meaning.{Meaning, datum, control, junk, meaning}
 use Rattle.model.specs.State.{State, isOpen, at, withConns, withDown, withUp, withAsking, withHearing}
 use Rattle.model.specs.Effects.{Call, fresh, power, command, send, push, down, consume, credit, air, reply, up, report, Effect, taken}
@@ -28,7 +31,7 @@ use Rattle.model.specs.Runs.{runAfter, wholeBy}
 use Rattle.ends.specs.Changes.{changeBy, changeAired, changeHeard}
 use Rattle.model.specs.calls.Push.{pushing}
 use Rattle.model.specs.calls.Down.{answers, deciding, answering, arriving, taking}
-use Rattle.model.specs.calls.Consume.{isLoop, echo, segmentIn, joinedRun, consuming}
+use Rattle.model.specs.calls.Consume.{isLoop, echo, echoed, segmentIn, joinedEnd, consuming}
 use Rattle.model.specs.calls.Air.{airedConns, airing}
 use Rattle.model.specs.calls.Reply.{replying}
 use Rattle.model.specs.calls.Up.{hearing, coming, reading}
@@ -43,7 +46,7 @@ use Rattle.model.proofs.Order.{way-low, way-small}
 use Rattle.model.proofs.Always.{always}
 use Rattle.model.proofs.Small.{Small, cold-small}
 use Rattle.model.proofs.Sizes.{act-small}
-use Rattle.model.proofs.Shaped.{Formed, formed-well, DownOk, UpOk, Short, short-segments, data-down, data-up, commands-down, answers-up, air-up, credit-up, ConnShaped, Shaped, cold-shaped, controller-shaped, host-shaped}
+use Rattle.model.proofs.Shaped.{Formed, formed-well, DownOk, UpOk, Short, short-segments, data-down, data-up, carrying-formed, commands-down, answers-up, air-up, credit-up, ConnShaped, Shaped, cold-shaped, controller-shaped, host-shaped}
 
 -- one connection changes
 at-shaped : (c : ℕ) (f : Connection → Connection) (g : ℕ → Connection) → ConnShaped (f (g c)) → ((d : ℕ) → ConnShaped (g d)) → (d : ℕ) → ConnShaped (at c f g d)
@@ -86,7 +89,7 @@ push-shaped s c t m = go (s .conns c .host .hand) refl
     go (x ∷ h) e =
         let short : Short (x ∷ h) = rw e at (m .conns c .hand) in
         record {
-          down = each-append DownOk (s .down) (segmentPacket (dataHeader c) x ∷ []) (m .down) (data-down c x (need 3 (rules (push c) s) t) (short .0), tt);
+          down = each-append DownOk (s .down) (segmentPacket (dataHeader c 0) x ∷ []) (m .down) (data-down c x (need 3 (rules (push c) s) t) (short .0), tt);
           up = m .up;
           conns =
               at-shaped c (λ k. withHost (pushed h (k .host)) k) (s .conns)
@@ -131,7 +134,7 @@ module _ (s : State) (aim : ℕ) (l : ℕ → Ledger) (p : Octets) (w : List Oct
       }
 
   arriving-shaped : (q : Meaning) → meaning p ≡ q → Shaped (arriving q p (withDown w s) .next)
-  arriving-shaped (datum c x) means = on (λ (e : Effect). Shaped (e .next)) (isOpen s c) (λ o. store-shaped c) (λ o. off)
+  arriving-shaped (datum c n x) means = on (λ (e : Effect). Shaped (e .next)) (isOpen s c) (λ o. store-shaped c) (λ o. off)
   arriving-shaped (control mt gid oid x) means =
       on (λ (e : Effect). Shaped (e .next)) (eqb mt 1)
       (λ e. answering-shaped gid oid x (wholeBy (s .asking) 1 gid oid x) _
@@ -149,10 +152,16 @@ down-shaped s aim l t f m = go (s .down) (need 8 (rules down s) t) f m
 -- ---- consume, credit, reply
 
 -- what a loopback sends up again is data of one of the five
-echo-up : (c : ℕ) (p : Octets) (q : Meaning) → meaning p ≡ q → StoredIn c q → noConn c ≡ false → Formed p → UpOk p
-echo-up c p (datum b x) means h five f = (f, rw (means, h) five)
-echo-up c p (control mt gid oid x) means h five f = absurd h
-echo-up c p junk means h five f = absurd h
+echo-up : (c n : ℕ) (p : Octets) (q : Meaning) → meaning p ≡ q → StoredIn c q → noConn c ≡ false → Formed p → UpOk (carrying n p)
+echo-up c n p (datum b m x) means h five f = (carrying-formed p b m x means f n, rw (meaning-carrying n p b m x means, h) five)
+echo-up c n p (control mt gid oid x) means h five f = absurd h
+echo-up c n p junk means h five f = absurd h
+
+-- what is owed has no part in it
+echoed-shaped : (c : ℕ) (k : Connection) (j : ControllerEnd) → ConnShaped (withController j k) → ConnShaped (withController (echoed c j) k)
+echoed-shaped c k j m =
+    on (λ (i : ControllerEnd). ConnShaped (withController i k)) (isLoop c)
+    (λ e. record { store = m .store; hand = m .hand; speech = m .speech }) (λ e. m)
 
 consume-shaped : (s : State) (aim : ℕ) (l : ℕ → Ledger) (c : ℕ) → first (rules (consume c) s) ≡ taken → Fine s aim l → Shaped s → Shaped (act (consume c) s .next)
 consume-shaped s aim l c t f m = go (s .conns c .controller .store) refl
@@ -161,15 +170,17 @@ consume-shaped s aim l c t f m = go (s .conns c .controller .store) refl
     go [] e = m
     go (p ∷ st) e =
         let formed : Each (λ x. Formed x) (p ∷ st) = rw e at (m .conns c .store) in
+        let after = joinedEnd (segmentIn (meaning p)) st (s .conns c .controller) in
+        let n = carriedOn after in
         record {
           down = m .down;
           up =
-              each-append UpOk (s .up) (echo c p) (m .up)
+              each-append UpOk (s .up) (echo c n p) (m .up)
               (on (Each UpOk) (isLoop c)
-              (λ y. (echo-up c p (meaning p) refl (rw e at (f .standing .stores c) .0) (need 3 (rules (consume c) s) t) (formed .0), tt)) (λ y. tt));
+              (λ y. (echo-up c n p (meaning p) refl (rw e at (f .standing .stores c) .0) (need 3 (rules (consume c) s) t) (formed .0), tt)) (λ y. tt));
           conns =
-              at-shaped c (λ k. withController (consumed st (joinedRun (k .controller .run) (segmentIn (meaning p))) (k .controller)) k) (s .conns)
-              (record { store = formed .1; hand = m .conns c .hand; speech = m .conns c .speech }) (m .conns);
+              at-shaped c (λ k. withController (echoed c (joinedEnd (segmentIn (meaning p)) st (k .controller))) k) (s .conns)
+              (echoed-shaped c (s .conns c) after (record { store = formed .1; hand = m .conns c .hand; speech = m .conns c .speech })) (m .conns);
         }
 
 credit-shaped : (s : State) → Shaped s → Shaped (act credit s .next)
@@ -190,9 +201,11 @@ reply-shaped s m = go (s .conns 0 .controller .speech) refl
         let short : Short (x ∷ h) = rw e at (m .conns 0 .speech) in
         record {
           down = m .down;
-          up = each-append UpOk (s .up) (segmentPacket (dataHeader 0) x ∷ []) (m .up) (data-up 0 x refl (short .0), tt);
+          up =
+              each-append UpOk (s .up) (segmentPacket (dataHeader 0 (carriedOn (s .conns 0 .controller))) x ∷ []) (m .up)
+              (data-up 0 (carriedOn (s .conns 0 .controller)) x refl (omega (arith, carriable-few (owedOn (s .conns 0 .controller)))) (short .0), tt);
           conns =
-              at-shaped 0 (λ k. withController (spoken h (k .controller)) k) (s .conns)
+              at-shaped 0 (λ k. withController (paid (spoken h (k .controller))) k) (s .conns)
               (record { store = m .conns 0 .store; hand = m .conns 0 .hand; speech = short .1 }) (m .conns);
         }
 
@@ -231,14 +244,14 @@ module _ (s : State) (p : Octets) (w : List Octets) (m : Shaped (withUp (p ∷ w
       }
 
   coming-shaped : (q : Meaning) → Shaped (coming q (withUp w s) .next)
-  coming-shaped (datum c x) =
+  coming-shaped (datum c n x) =
       on (λ (e : Effect). Shaped (e .next)) (isHeld s c)
       (λ o.
       record {
         down = m .down;
         up = m .up .1;
         conns =
-            at-shaped c (λ k. withHost (heardData x (k .host)) k) (s .conns)
+            at-shaped c (λ k. withHost (heardData x (credited n (k .host))) k) (s .conns)
             (record { store = m .conns c .store; hand = m .conns c .hand; speech = m .conns c .speech }) (m .conns);
       })
       (λ o. gone)

@@ -24,7 +24,7 @@ heldIn l = pick (l .host .opened) (l .host .grant + l .host .read - l .host .pus
 abbrev pub storedIn : Ledger → ℕ
 storedIn l = l .controller .arrived - l .controller .consumed
 
--- "packets consumed since the opening less credits put in notices since"
+-- "packets consumed since the opening less credits put in notices since", and less those put inside data
 abbrev pub owedIn : Ledger → ℕ
 owedIn l = l .controller .consumed - l .controller .noticed
 
@@ -46,7 +46,7 @@ total (n ∷ ns) = n + total ns
 pub record Conserved (c : ℕ) (o : Account) : Type 0 where
   -- under flow control the five numbers sum to the grant
   pub sum : o .ledger c .controller .opened ≡ true → flows (o .ledger c .controller .grant) ≡ true → total (numbersOf c o) ≡ o .ledger c .controller .grant
-  -- no subtraction in these numbers is cut off: no more is consumed than was stored, put in notices than consumed, pushed than granted
+  -- no subtraction in these numbers is cut off: no more is consumed than was stored, put on the up wire than consumed, pushed than granted
   -- and read
   pub whole-stored : o .ledger c .controller .opened ≡ true → o .ledger c .controller .consumed ≤ o .ledger c .controller .arrived
   pub whole-owed : o .ledger c .controller .opened ≡ true → flows (o .ledger c .controller .grant) ≡ true

@@ -7,7 +7,7 @@ use Rattle.octets.specs.Octets.{Octets, pick}
 use Rattle.packets.specs.Segments.{Segment, segments}
 use Rattle.packets.specs.Reassembly.{Run, run, grown}
 use Rattle.model.specs.Kinds.{Terms}
-use Rattle.state.specs.Conn.{flows, creditSum, owing}
+use Rattle.state.specs.Conn.{flows, creditSum, owing, carriable}
 use Rattle.state.specs.Runs.{dataLimit}
 
 -- at the host: the terms it was opened with, the credits held, the segments of the message in hand still to go, reassembly
@@ -114,6 +114,18 @@ consumed rest r c =
 -- what is owed, and nothing of a connection that is not open or not flow-controlled
 abbrev pub owedOn : ControllerEnd → ℕ
 owedOn c = owing (c .opened) (c .grant) (c .owed)
+
+-- what a data packet going up carries of it
+abbrev pub carriedOn : ControllerEnd → ℕ
+carriedOn c = carriable (owedOn c)
+
+-- n credits have gone up
+abbrev pub lessOwed : ℕ → ControllerEnd → ControllerEnd
+lessOwed n c = record { opened = c .opened; grant = c .grant; owed = c .owed - n; store = c .store; run = c .run; speech = c .speech }
+
+-- a data packet has gone up: what it carries is no longer owed
+abbrev pub paid : ControllerEnd → ControllerEnd
+paid c = lessOwed (carriedOn c) c
 
 -- all that is owed has been put in a notice; a field that counts for nothing stays as it was
 abbrev pub noticed : ControllerEnd → ControllerEnd

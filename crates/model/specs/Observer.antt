@@ -35,7 +35,7 @@ pub record HostCount : Type 0 where
   pub read : ℕ
 
 -- at the controller: whether it is open, the grant given with the opening, and since then the packets taken by down, the packets
--- consumed and the credits put in notices
+-- consumed and the credits put on the up wire, in notices and inside data
 pub record ControllerCount : Type 0 where
   pub opened : Bool
   pub grant : ℕ
@@ -76,7 +76,7 @@ withControllerCount c l = record { host = l .host; controller = c; talk = l .tal
 abbrev pub withTalk : Talk → Ledger → Ledger
 withTalk t l = record { host = l .host; controller = l .controller; talk = t }
 
--- what the controller puts up: an opening starts its counts anew, credits are put in a notice
+-- what the controller puts up: an opening starts its counts anew, credits are put in a notice or inside data
 abbrev pub putBy : Change → Ledger → Ledger
 putBy stays l = l
 putBy (opens t) l = withTalk silence (withControllerCount (record { opened = true; grant = t .credits; arrived = 0; consumed = 0; noticed = 0 }) l)
@@ -133,9 +133,12 @@ abbrev pub rest : List Octets → List Octets
 rest [] = []
 rest (p ∷ w) = w
 
--- what a packet on the up wire does to a connection, where `aim` is the one that the last command named
+-- what a packet on the up wire does to a connection, where `aim` is the one that the last command named; data gives the credits that it
+-- carries
 abbrev pub changeIn : ℕ → ℕ → Meaning → Change
-changeIn aim d q = changeHeard (saysIn aim q) (contents q) d
+changeIn aim d (datum c n x) = pick (eqb c d) (gives n) stays
+changeIn aim d (control mt gid oid x) = changeHeard (saysIn aim (control mt gid oid x)) (contents (control mt gid oid x)) d
+changeIn aim d junk = stays
 
 -- packets that the controller puts up
 abbrev pub putAll : ℕ → ℕ → List Octets → Ledger → Ledger
@@ -147,7 +150,7 @@ shown ps o = record { down = o .down; up = o .up ++ ps; aim = o .aim; ledger = �
 
 -- the packet that the controller takes: data of a connection that is open there
 abbrev pub arrival : ℕ → Meaning → Ledger → Ledger
-arrival d (datum c x) l = pick (eqb c d) (pick (l .controller .opened) (arrivedL l) l) l
+arrival d (datum c n x) l = pick (eqb c d) (pick (l .controller .opened) (arrivedL l) l) l
 arrival d (control mt gid oid x) l = l
 arrival d junk l = l
 
@@ -155,9 +158,9 @@ abbrev pub arrivalOf : ℕ → List Octets → Ledger → Ledger
 arrivalOf d [] l = l
 arrivalOf d (p ∷ w) l = arrival d (meaning p) l
 
--- the packet that the host takes: a message handed out is on the Conn ID that up read
+-- the packet that the host takes: its credits are read, and a message handed out is on the Conn ID that up read
 abbrev pub heardAs : ℕ → ℕ → Meaning → List Octets → Ledger → Ledger
-heardAs aim d (datum c x) ms l = pick (eqb c d) (givenL ms l) l
+heardAs aim d (datum c n x) ms l = pick (eqb c d) (givenL ms (readBy (gives n) l)) l
 heardAs aim d (control mt gid oid x) ms l = readBy (changeIn aim d (control mt gid oid x)) l
 heardAs aim d junk ms l = l
 

@@ -91,15 +91,15 @@ pub record WellFormed (p : Octets) : Type 0 where
   pub whole : length p ≡ 3 + size
   pub most : length p ≤ 258
 
--- going down: data of one of the five connections, or a segment of a command
+-- going down: data of one of the five connections, without credits, or a segment of a command
 abbrev pub GoesDown : Meaning → Type 0
-GoesDown (datum c x) = noConn c ≡ false
+GoesDown (datum c n x) = (noConn c ≡ false) × (n ≡ 0)
 GoesDown (control mt gid oid x) = mt ≡ 1
 GoesDown junk = ⊥
 
 -- going up: data of one of the five connections, or a whole response or notification
 abbrev pub GoesUp : Meaning → Type 0
-GoesUp (datum c x) = noConn c ≡ false
+GoesUp (datum c n x) = noConn c ≡ false
 GoesUp (control mt gid oid (more b)) = ⊥
 GoesUp (control mt gid oid (last m)) = (mt ≡ 2) ⊎ (mt ≡ 3)
 GoesUp junk = ⊥
@@ -143,8 +143,8 @@ opensIn aim c (p ∷ w) = isOpening (changeIn aim c (meaning p)) || opensIn aim 
 -- of a packet p of data for connection c, with others before and behind it on the up wire
 pub record DataOpen (s : State) : Type 0 where
   -- once the host has read those before it, the connection is open at the host
-  pub then-open : (before : List Octets) (p : Octets) (behind : List Octets) (c : ℕ) (x : Segment) → s .up ≡ before ++ (p ∷ behind) → meaning p ≡ datum c x
+  pub then-open : (before : List Octets) (p : Octets) (behind : List Octets) (c n : ℕ) (x : Segment) → s .up ≡ before ++ (p ∷ behind) → meaning p ≡ datum c n x
       → openAfter (aimOf (s .host .pending)) c (s .conns c .host .opened) before ≡ true
   -- so it is open at the host now, or its opening lies before the data
-  pub open-or-opening : (before : List Octets) (p : Octets) (behind : List Octets) (c : ℕ) (x : Segment) → s .up ≡ before ++ (p ∷ behind) → meaning p ≡ datum c x
+  pub open-or-opening : (before : List Octets) (p : Octets) (behind : List Octets) (c n : ℕ) (x : Segment) → s .up ≡ before ++ (p ∷ behind) → meaning p ≡ datum c n x
       → (s .conns c .host .opened ≡ true) ⊎ (opensIn (aimOf (s .host .pending)) c before ≡ true)

@@ -9,6 +9,8 @@ use mathlib.Core.List.{List, [], _∷_, _++_, map}
 use Rattle.octets.specs.Octets.{Octets}
 use Rattle.model.specs.State.{State, cold, withDown}
 use Rattle.model.specs.Effects.{Call, fresh, command, send, push, down, consume, credit, air, up, report, taken, refused}
+use Rattle.model.specs.Refusals.{full}
+use Rattle.model.specs.calls.Credit.{owedBy}
 use Rattle.model.specs.Bench.{step}
 use Rattle.model.specs.Observer.{Event, eventOf, events, after}
 
@@ -84,7 +86,8 @@ created =
 abbrev pub onTwo : List Event
 onTwo = ready ++ created
 
--- octets 01-09 on 2: two packets spend both credits; the controller consumes them, and as 2 is a loopback they go up again
+-- octets 01-09 on 2: two packets spend both credits; the controller consumes them, and as 2 is a loopback they go up again, each with the
+-- credit that it gives back
 abbrev pub twoConsumed : List Event
 twoConsumed =
     onTwo
@@ -94,24 +97,39 @@ twoConsumed =
     ∷ refusal (push 2) 9
     ∷ quietly down
     ∷ quietly down
-    ∷ goesUp (consume 2) (0x12 ∷ 0x00 ∷ 0x04 ∷ 0x01 ∷ 0x02 ∷ 0x03 ∷ 0x04 ∷ [])
-    ∷ goesUp (consume 2) (0x12 ∷ 0x00 ∷ 0x04 ∷ 0x05 ∷ 0x06 ∷ 0x07 ∷ 0x08 ∷ [])
+    ∷ goesUp (consume 2) (0x12 ∷ 0x01 ∷ 0x04 ∷ 0x01 ∷ 0x02 ∷ 0x03 ∷ 0x04 ∷ [])
+    ∷ goesUp (consume 2) (0x12 ∷ 0x01 ∷ 0x04 ∷ 0x05 ∷ 0x06 ∷ 0x07 ∷ 0x08 ∷ [])
     ∷ []
 
 -- connection 0 is closed: it has no report
 abbrev pub zeroClosed : List Event
 zeroClosed = ready ++ refusal (report 0) 6 ∷ []
 
--- DISCOVER and a poll activation: connection 0 is open, and its one credit is with the host
-abbrev pub zeroOpen : List Event
-zeroOpen =
-    ready
-    ++ goesDown (command 0x1 0x03 (0x01 ∷ 0x00 ∷ 0x01 ∷ [])) (0x21 ∷ 0x03 ∷ 0x03 ∷ 0x01 ∷ 0x00 ∷ 0x01 ∷ [])
+-- DISCOVER and a poll activation: connection 0 is open, and its n credits are with the host
+abbrev pub activated : ℕ → List Event
+activated n =
+    goesDown (command 0x1 0x03 (0x01 ∷ 0x00 ∷ 0x01 ∷ [])) (0x21 ∷ 0x03 ∷ 0x03 ∷ 0x01 ∷ 0x00 ∷ 0x01 ∷ [])
     ∷ goesUp down (0x41 ∷ 0x03 ∷ 0x01 ∷ 0x00 ∷ [])
     ∷ quietly up
-    ∷ goesUp (air (0x02 ∷ 0x01 ∷ 0x04 ∷ 0x00 ∷ [])) (0x61 ∷ 0x05 ∷ 0x0B ∷ 0x01 ∷ 0x01 ∷ 0x04 ∷ 0x00 ∷ 0x04 ∷ 0x01 ∷ 0x00 ∷ 0x00 ∷ 0x00 ∷ 0x00 ∷ 0x00 ∷ [])
+    ∷ goesUp (air (0x02 ∷ 0x01 ∷ 0x04 ∷ 0x00 ∷ [])) (0x61 ∷ 0x05 ∷ 0x0B ∷ 0x01 ∷ 0x01 ∷ 0x04 ∷ 0x00 ∷ 0x04 ∷ n ∷ 0x00 ∷ 0x00 ∷ 0x00 ∷ 0x00 ∷ 0x00 ∷ [])
     ∷ quietly up
-    ∷ shows (report 0) [] [] ((0x01 ∷ 0x00 ∷ 0x00 ∷ 0x00 ∷ 0x00 ∷ []) ∷ [])
+    ∷ shows (report 0) [] [] ((n ∷ 0x00 ∷ 0x00 ∷ 0x00 ∷ 0x00 ∷ []) ∷ [])
+    ∷ []
+
+abbrev pub zeroOpen : List Event
+zeroOpen = ready ++ activated 1
+
+-- two credits on 0: two packets spend them and are consumed, and no packet goes up that could give them back
+abbrev pub twoOwed : List Event
+twoOwed =
+    readyWith (0x20 ∷ 0x04 ∷ 0x02 ∷ 0x04 ∷ 0x02 ∷ []) ++ activated 2
+    ++ quietly (send 0 (0x01 ∷ 0x02 ∷ 0x03 ∷ 0x04 ∷ 0x05 ∷ 0x06 ∷ 0x07 ∷ 0x08 ∷ []))
+    ∷ goesDown (push 0) (0x10 ∷ 0x00 ∷ 0x04 ∷ 0x01 ∷ 0x02 ∷ 0x03 ∷ 0x04 ∷ [])
+    ∷ goesDown (push 0) (0x00 ∷ 0x00 ∷ 0x04 ∷ 0x05 ∷ 0x06 ∷ 0x07 ∷ 0x08 ∷ [])
+    ∷ quietly down
+    ∷ quietly down
+    ∷ quietly (consume 0)
+    ∷ shows (consume 0) [] [] ((0x01 ∷ 0x02 ∷ 0x03 ∷ 0x04 ∷ 0x05 ∷ 0x06 ∷ 0x07 ∷ 0x08 ∷ []) ∷ [])
     ∷ []
 
 -- ---- the table, in the words of document 01
@@ -124,15 +142,7 @@ pub record Table (P : List Event → Type 0) : Type 0 where
   -- "empty message on 2: 02 00 00"; then nothing is left to move
   pub empty : P (onTwo ++ quietly (send 2 []) ∷ goesDown (push 2) (0x02 ∷ 0x00 ∷ 0x00 ∷ []) ∷ refusal (push 2) 8 ∷ [])
   -- "Octets 01-09: 12 00 04 01 02 03 04, 12 00 04 05 06 07 08, 02 00 01 09"; the third goes with a credit that came back
-  pub nine : P
-      (twoConsumed
-      ++ goesUp credit (0x60 ∷ 0x06 ∷ 0x03 ∷ 0x01 ∷ 0x02 ∷ 0x02 ∷ [])
-      ∷ quietly up
-      ∷ quietly up
-      ∷ quietly up
-      ∷ goesDown (push 2) (0x02 ∷ 0x00 ∷ 0x01 ∷ 0x09 ∷ [])
-      ∷ refusal (push 2) 8
-      ∷ [])
+  pub nine : P (twoConsumed ++ quietly up ∷ goesDown (push 2) (0x02 ∷ 0x00 ∷ 0x01 ∷ 0x09 ∷ []) ∷ refusal (push 2) 8 ∷ [])
   -- "Eight octets: two packets, the second with PBF 0"
   pub eight : P
       (onTwo
@@ -143,8 +153,11 @@ pub record Table (P : List Event → Type 0) : Type 0 where
       ∷ [])
   -- "20 04 02 01 00 gives 40 04 04 00 04 02 02"
   pub create : Gives P ready 0x0 0x04 (0x01 ∷ 0x00 ∷ []) (0x20 ∷ 0x04 ∷ 0x02 ∷ 0x01 ∷ 0x00 ∷ []) (0x40 ∷ 0x04 ∷ 0x04 ∷ 0x00 ∷ 0x04 ∷ 0x02 ∷ 0x02 ∷ [])
-  -- "Two credits to 2: 60 06 03 01 02 02"
-  pub credits : P (twoConsumed ++ goesUp credit (0x60 ∷ 0x06 ∷ 0x03 ∷ 0x01 ∷ 0x02 ∷ 0x02 ∷ []) ∷ [])
+  -- "Two credits to 2: 60 06 03 01 02 02", wherever 2 owes two and no other any. Packets that go up leave a loopback nothing to owe, so by
+  -- calls alone it is two credits to 0
+  pub credits : (s : State) → owedBy s ≡ 0 ∷ 2 ∷ 0 ∷ 0 ∷ 0 ∷ [] → full 1 (s .up) ≡ false
+      → eventOf credit (step credit s) ≡ goesUp credit (0x60 ∷ 0x06 ∷ 0x03 ∷ 0x01 ∷ 0x02 ∷ 0x02 ∷ [])
+  pub credits-zero : P (twoOwed ++ goesUp credit (0x60 ∷ 0x06 ∷ 0x03 ∷ 0x01 ∷ 0x00 ∷ 0x02 ∷ []) ∷ [])
   -- "20 3F 00 gives 40 3F 01 05"
   pub unknown : Gives P ready 0x0 0x3F [] (0x20 ∷ 0x3F ∷ 0x00 ∷ []) (0x40 ∷ 0x3F ∷ 0x01 ∷ 0x05 ∷ [])
   -- "Deactivate in IDLE 41 06 01 06", whatever the type

@@ -1,21 +1,22 @@
 -- The laws of `specs/Packet.antt`: a law for each case of a definition. Functions and callers cite these, never the definitions' text.
 -- Assumes nothing.
-use Prim.Native.Nat.{ℕ, _+_, _-_, _/_, _%_, _≤_, _<_}
+use Prim.Native.Nat.{ℕ, _+_, _*_, _-_, _/_, _%_, _≤_, _<_}
 use native.Mathlib.Nat.{le-of-suc-le-suc, not-suc-le-zero}
 use native.Mathlib.Decide.{decLe}
 use native.Mathlib.Omega.{arith}
-use mathlib.Core.Path.{_≡_, sym, ap, _∙_, subst}
+use mathlib.Core.Path.{_≡_, refl, sym, ap, _∙_, subst}
 use mathlib.Core.Bool.{Bool, true, false}
 use mathlib.Core.List.{[], _∷_, _++_}
 use lib.ListN.{length, getD, drop, set}
 use lib.Dec.{eqb}
 use borrow.Author.Tests.{le-leb, lt-leb, lt-ltb, le-ltb}
-use Rattle.octets.specs.Octets.{Octets, pick, splice, over}
+use Rattle.octets.specs.Octets.{Octets, pick, cut, splice, over}
 use Rattle.octets.specs.Octal.{Octal, octal-cons}
 use Rattle.octets.proofs.Octets.{splice-front}
+use Rattle.packets.specs.Types.{mtData}
 use Rattle.packets.specs.declared.Header.{Header}
 use Rattle.packets.specs.declared.Reading.the-variants.{Packet, Drop}
-use Rattle.packets.specs.Packet.{octet0, octet1, packetOf, oidOf, headerOf, readOf, slotAfter, sizeAfter}
+use Rattle.packets.specs.Packet.{octet0, octet1, packetOf, oidOf, carriedOf, spareOf, headerOf, readOf, payloadOf, carrying, credited, slotAfter, sizeAfter}
 
 -- ---- packetOf
 
@@ -28,18 +29,18 @@ unfolding octet0
 octet0-small mt true id = omega arith
 octet0-small mt false id = omega arith
 
-octet1-small : (mt oid : ℕ) → octet1 mt oid ≤ 255
+octet1-small : (mt oid credits : ℕ) → octet1 mt oid credits ≤ 255
 unfolding octet1
-octet1-small mt oid = go (eqb mt 0)
+octet1-small mt oid credits = go (eqb mt 0)
   where
-    go : (b : Bool) → pick b 0 (oid % 64) ≤ 255
+    go : (b : Bool) → pick b (credits % 4) (oid % 64) ≤ 255
     go true = omega arith
     go false = omega arith
 
 -- whatever its header, the octets of a packet are octets
 pub octal-packet : (h : Header) (payload : Octets) → length payload ≤ 255 → Octal payload → Octal (packetOf h payload)
 unfolding packetOf
-octal-packet h payload n k = octal-cons (octet0-small (h .mt) (h .pbf) (h .id)) (octal-cons (octet1-small (h .mt) (h .oid)) (octal-cons n k))
+octal-packet h payload n k = octal-cons (octet0-small (h .mt) (h .pbf) (h .id)) (octal-cons (octet1-small (h .mt) (h .oid) (h .credits)) (octal-cons n k))
 
 -- ---- readOf
 
@@ -89,6 +90,7 @@ pub record Ranged (h : Header) : Type 0 where
   pub mt : h .mt < 4
   pub id : h .id < 16
   pub oid : h .oid < 64
+  pub credits : h .credits < 4
 
 oid-small : (mt second : ℕ) → oidOf mt second < 64
 unfolding oidOf
@@ -98,18 +100,85 @@ oid-small mt second = go (eqb mt 0)
     go true = omega arith
     go false = omega arith
 
+carried-small : (mt second : ℕ) → carriedOf mt second < 4
+unfolding carriedOf
+carried-small mt second = go (eqb mt 0)
+  where
+    go : (b : Bool) → pick b (second % 4) 0 < 4
+    go true = omega arith
+    go false = omega arith
+
 pub read-ranged : (p : Octets) (h : Header) (n : ℕ) → readOf p ≡ Packet h n → Ranged h
 unfolding headerOf
 read-ranged p h n e =
     let f = read-facts p h n e in
     subst Ranged (sym (f .header))
-    (record { mt = f .known; id = omega arith; oid = oid-small (getD p 0 0 / 32) (getD p 1 0) })
+    (record { mt = f .known; id = omega arith; oid = oid-small (getD p 0 0 / 32) (getD p 1 0); credits = carried-small (getD p 0 0 / 32) (getD p 1 0) })
+
+-- ---- carrying
+
+pub carrying-short : (n : ℕ) (p : Octets) → length p ≤ 1 → carrying n p ≡ p
+unfolding carrying
+carrying-short n [] h = refl
+carrying-short n (x ∷ []) h = refl
+carrying-short n (x ∷ y ∷ p) h = absurd (not-suc-le-zero (le-of-suc-le-suc h))
+
+-- one store
+pub carrying-stored : (n : ℕ) (p : Octets) → set p 1 (getD p 1 0 / 4 * 4 + n % 4) ≡ carrying n p
+unfolding carrying
+carrying-stored n [] = refl
+carrying-stored n (x ∷ []) = refl
+carrying-stored n (x ∷ y ∷ p) = refl
+
+pub length-carrying : (n : ℕ) (p : Octets) → length (carrying n p) ≡ length p
+unfolding carrying
+length-carrying n [] = refl
+length-carrying n (x ∷ []) = refl
+length-carrying n (x ∷ y ∷ p) = refl
+
+pub octal-carrying : (n : ℕ) (p : Octets) → Octal p → Octal (carrying n p)
+unfolding carrying
+octal-carrying n [] k = k
+octal-carrying n (x ∷ []) k = k
+octal-carrying n (x ∷ y ∷ p) (octal-cons a (octal-cons b k)) = octal-cons a (octal-cons {x = y / 4 * 4 + n % 4} (omega arith) k)
+
+-- its payload is as it was
+pub payload-carrying : (n : ℕ) (p : Octets) (len : ℕ) → payloadOf (carrying n p) len ≡ payloadOf p len
+unfolding carrying cut
+payload-carrying n [] len = refl
+payload-carrying n (x ∷ []) len = refl
+payload-carrying n (x ∷ y ∷ p) len = refl
+
+-- of a header only the credits change
+header-carrying : (first second n : ℕ) → first / 32 ≡ 0 → headerOf first (second / 4 * 4 + n % 4) ≡ credited (headerOf first second) n
+unfolding headerOf oidOf carriedOf spareOf
+header-carrying first second n e =
+    rw e
+    (λ i. record { mt = 0; pbf = eqb (first / 16 % 2) 1; id = first % 16; oid = 0; credits = low i; spare = high i })
+  where
+    low : (second / 4 * 4 + n % 4) % 4 ≡ n % 4
+    low = omega arith
+
+    high : (second / 4 * 4 + n % 4) / 4 * 4 ≡ second / 4 * 4
+    high = omega arith
+
+-- a data packet is read back with its new credits
+pub read-carrying : (n : ℕ) (p : Octets) (h : Header) (len : ℕ) → readOf p ≡ Packet h len → h .mt ≡ mtData
+    → readOf (carrying n p) ≡ Packet (credited h n) len
+unfolding carrying headerOf
+read-carrying n [] h len e d = absurd (not-suc-le-zero (read-facts [] h len e .long))
+read-carrying n (x ∷ []) h len e d = absurd (not-suc-le-zero (le-of-suc-le-suc (read-facts (x ∷ []) h len e .long)))
+read-carrying n (x ∷ y ∷ p) h len e d =
+    let w = read-facts (x ∷ y ∷ p) h len e in
+    let top : x / 32 ≡ 0 = sym (ap (λ (k : Header). k .mt) (w .header)) ∙ d in
+    read-whole (x ∷ (y / 4 * 4 + n % 4) ∷ p) (w .long) (w .known) (w .room)
+    ∙ (λ i. Packet ((header-carrying x y n top ∙ ap (λ (k : Header). credited k n) (sym (w .header))) i) (sym (w .size) i))
 
 -- ---- slotAfter, sizeAfter
 
 -- three stores and a part after them are one packet
 pub packet-stored : (slot : Octets) (h : Header) (payload : Octets) (a b : ℕ) → 3 ≤ length slot
-    → a ≡ octet0 (h .mt) (h .pbf) (h .id) → b ≡ octet1 (h .mt) (h .oid)
+    → a ≡ octet0 (h .mt) (h .pbf) (h .id) → b ≡ octet1 (h .mt) (h .oid) (h .credits)
     → splice (set (set (set slot 0 a) 1 b) 2 (length payload)) 3 payload ≡ splice slot 0 (packetOf h payload)
 unfolding splice over packetOf
 packet-stored [] h payload a b k ea eb = absurd (not-suc-le-zero k)

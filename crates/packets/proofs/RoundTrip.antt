@@ -12,9 +12,10 @@ use lib.Seq.{take-append-seam}
 use lib.Dec.{eqb}
 use borrow.Author.Tests.{eq-eqb, ne-eqb}
 use Rattle.octets.specs.Octets.{Octets, pick, cut}
+use Rattle.packets.specs.Types.{mtData}
 use Rattle.packets.specs.declared.Header.{Header}
 use Rattle.packets.specs.declared.Reading.the-variants.{Packet}
-use Rattle.packets.specs.Packet.{octet0, octet1, oidOf, spareOf, packetOf, headerOf, readOf, payloadOf, Writable}
+use Rattle.packets.specs.Packet.{octet0, octet1, oidOf, carriedOf, spareOf, packetOf, headerOf, readOf, payloadOf, carrying, credited, Writable}
 use Rattle.octets.proofs.Octets.{length-cut}
 use Rattle.packets.proofs.Packet.{read-whole, read-facts}
 
@@ -38,35 +39,44 @@ module _ (mt id : ℕ) where
 
 -- ---- octet 1, written and read
 
-module _ (mt oid : ℕ) (small : oid < 64) (data-oid : mt ≡ 0 → oid ≡ 0) where
-  octet1-oid : oidOf mt (octet1 mt oid) ≡ oid
+module _ (mt oid credits : ℕ) where
+  octet1-oid : oid < 64 → (mt ≡ 0 → oid ≡ 0) → oidOf mt (octet1 mt oid credits) ≡ oid
   unfolding oidOf octet1
-  octet1-oid = go (decLe mt 0)
+  octet1-oid small data-oid = go (decLe mt 0)
     where
-      go : Dec (mt ≤ 0) → pick (eqb mt 0) 0 (pick (eqb mt 0) 0 (oid % 64) % 64) ≡ oid
+      go : Dec (mt ≤ 0) → pick (eqb mt 0) 0 (pick (eqb mt 0) (credits % 4) (oid % 64) % 64) ≡ oid
       go (yes e) = let z : mt ≡ 0 = omega arith in rw (eq-eqb mt 0 z) (sym (data-oid z))
       go (no n) = rw (ne-eqb mt 0 (λ (z : mt ≡ 0). n (omega arith))) (omega arith)
 
-  octet1-spare : spareOf mt (octet1 mt oid) ≡ 0
-  unfolding spareOf octet1
-  octet1-spare = go (decLe mt 0)
+  octet1-credits : credits < 4 → ((mt ≡ 0 → ⊥) → credits ≡ 0) → carriedOf mt (octet1 mt oid credits) ≡ credits
+  unfolding carriedOf octet1
+  octet1-credits small control-credits = go (decLe mt 0)
     where
-      go : Dec (mt ≤ 0) → pick (eqb mt 0) (pick (eqb mt 0) 0 (oid % 64)) (pick (eqb mt 0) 0 (oid % 64) / 64 * 64) ≡ 0
-      go (yes e) = let z : mt ≡ 0 = omega arith in rw (eq-eqb mt 0 z)
+      go : Dec (mt ≤ 0) → pick (eqb mt 0) (pick (eqb mt 0) (credits % 4) (oid % 64) % 4) 0 ≡ credits
+      go (yes e) = let z : mt ≡ 0 = omega arith in rw (eq-eqb mt 0 z) (omega arith)
+      go (no n) = let z : mt ≡ 0 → ⊥ = λ e. n (omega arith) in rw (ne-eqb mt 0 z) (sym (control-credits z))
+
+  octet1-spare : oid < 64 → spareOf mt (octet1 mt oid credits) ≡ 0
+  unfolding spareOf octet1
+  octet1-spare small = go (decLe mt 0)
+    where
+      go : Dec (mt ≤ 0) → pick (eqb mt 0) (pick (eqb mt 0) (credits % 4) (oid % 64) / 4 * 4) (pick (eqb mt 0) (credits % 4) (oid % 64) / 64 * 64) ≡ 0
+      go (yes e) = let z : mt ≡ 0 = omega arith in rw (eq-eqb mt 0 z) (omega arith)
       go (no n) = rw (ne-eqb mt 0 (λ (z : mt ≡ 0). n (omega arith))) (omega arith)
 
 -- ---- fields to octets and back: whatever stands after the packet
 
 module _ (h : Header) (payload rest : Octets) (w : Writable h) where
-  header-written : headerOf (octet0 (h .mt) (h .pbf) (h .id)) (octet1 (h .mt) (h .oid)) ≡ h
+  header-written : headerOf (octet0 (h .mt) (h .pbf) (h .id)) (octet1 (h .mt) (h .oid) (h .credits)) ≡ h
   unfolding headerOf
   header-written =
       rw (
         octet0-mt (h .mt) (h .id) (h .pbf) (w .mt),
         octet0-pbf (h .mt) (h .id) (h .pbf),
         octet0-id (h .mt) (h .id) (h .pbf) (w .id),
-        octet1-oid (h .mt) (h .oid) (w .oid) (w .data-oid),
-        octet1-spare (h .mt) (h .oid) (w .oid) (w .data-oid),
+        octet1-oid (h .mt) (h .oid) (h .credits) (w .oid) (w .data-oid),
+        octet1-credits (h .mt) (h .oid) (h .credits) (w .credits) (w .control-credits),
+        octet1-spare (h .mt) (h .oid) (h .credits) (w .oid),
         ← w .spare,
       )
 
@@ -80,6 +90,15 @@ module _ (h : Header) (payload rest : Octets) (w : Writable h) where
   pub payload-written : payloadOf (packetOf h payload ++ rest) (length payload) ≡ payload
   unfolding packetOf cut
   payload-written = take-append-seam payload rest
+
+-- data that is passed on with other credits is as if it had been written with them
+pub carrying-written : (h : Header) (payload : Octets) (n : ℕ) → h .mt ≡ mtData → carrying n (packetOf h payload) ≡ packetOf (credited h n) payload
+unfolding packetOf carrying octet1
+carrying-written h payload n e =
+    λ i. octet0 (h .mt) (h .pbf) (h .id) ∷ second i ∷ length payload ∷ payload
+  where
+    second : octet1 (h .mt) (h .oid) (h .credits) / 4 * 4 + n % 4 ≡ octet1 (h .mt) (h .oid) (n % 4)
+    second = rw (eq-eqb (h .mt) 0 e) (omega arith)
 
 -- ---- octets to fields and back
 
@@ -101,12 +120,16 @@ module _ (first second : ℕ) (small : first < 256) (octet : second < 256) where
       go (yes e) = rw (ne-eqb (first / 16 % 2) 1 (λ (z : first / 16 % 2 ≡ 1). omega arith), top, low) (omega (arith, half))
       go (no e) = rw (eq-eqb (first / 16 % 2) 1 (omega arith), top, low) (omega (arith, half))
 
-  octet1-read : (mt : ℕ) → spareOf mt second ≡ 0 → octet1 mt (oidOf mt second) ≡ second
-  unfolding octet1 oidOf spareOf
+  octet1-read : (mt : ℕ) → spareOf mt second ≡ 0 → octet1 mt (oidOf mt second) (carriedOf mt second) ≡ second
+  unfolding octet1 oidOf carriedOf spareOf
   octet1-read mt = go (decLe mt 0)
     where
-      go : Dec (mt ≤ 0) → pick (eqb mt 0) second (second / 64 * 64) ≡ 0 → pick (eqb mt 0) 0 (pick (eqb mt 0) 0 (second % 64) % 64) ≡ second
-      go (yes e) h = let z : mt ≡ 0 = omega arith in rw (eq-eqb mt 0 z) (sym (rw (eq-eqb mt 0 z) at h))
+      go : Dec (mt ≤ 0) → pick (eqb mt 0) (second / 4 * 4) (second / 64 * 64) ≡ 0
+          → pick (eqb mt 0) (pick (eqb mt 0) (second % 4) 0 % 4) (pick (eqb mt 0) 0 (second % 64) % 64) ≡ second
+      go (yes e) h =
+          let t = eq-eqb mt 0 (omega arith) in
+          let s : second / 4 * 4 ≡ 0 = rw t at h in
+          rw t (omega arith)
       go (no n) h =
           let t = ne-eqb mt 0 (λ (z : mt ≡ 0). n (omega arith)) in
           let s : second / 64 * 64 ≡ 0 = rw t at h in

@@ -5,8 +5,9 @@ use mathlib.Core.Bool.{false}
 use Rattle.packets.specs.Types.{mtData}
 use Rattle.packets.specs.declared.Header.{Header}
 
-abbrev pub dataHeader : ℕ → Header
-dataHeader c = record { mt = mtData; pbf = false; id = c; oid = 0; spare = 0 }
+-- data of a connection, that carries n credits: going down always 0
+abbrev pub dataHeader : ℕ → ℕ → Header
+dataHeader c n = record { mt = mtData; pbf = false; id = c; oid = 0; credits = n; spare = 0 }
 
 abbrev pub controlHeader : ℕ → ℕ → ℕ → Header
-controlHeader mt gid oid = record { mt = mt; pbf = false; id = gid; oid = oid; spare = 0 }
+controlHeader mt gid oid = record { mt = mt; pbf = false; id = gid; oid = oid; credits = 0; spare = 0 }

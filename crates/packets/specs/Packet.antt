@@ -3,7 +3,7 @@
 use Prim.Native.Nat.{ℕ, _+_, _*_, _-_, _/_, _%_, _<_}
 use mathlib.Core.Path.{_≡_}
 use mathlib.Core.Bool.{Bool, true, false}
-use mathlib.Core.List.{_∷_}
+use mathlib.Core.List.{[], _∷_}
 use lib.ListN.{length, getD}
 use lib.Dec.{ltb, leb, eqb}
 use Rattle.octets.specs.Octets.{Octets, pick, cut, splice}
@@ -19,13 +19,13 @@ unfoldable pub octet0 : ℕ → Bool → ℕ → ℕ
 octet0 mt true id = mt % 8 * 32 + 16 + id % 16
 octet0 mt false id = mt % 8 * 32 + id % 16
 
--- octet 1: for control packets the OID in bits 5-0, for data 0; the other bits are written 0
-unfoldable pub octet1 : ℕ → ℕ → ℕ
-octet1 mt oid = pick (eqb mt mtData) 0 (oid % 64)
+-- octet 1: for control packets the OID in bits 5-0, for data the credits (CR) in bits 1-0; the other bits are written 0
+unfoldable pub octet1 : ℕ → ℕ → ℕ → ℕ
+octet1 mt oid credits = pick (eqb mt mtData) (credits % 4) (oid % 64)
 
 -- a packet's octets; octet 2 is the payload's length
 unfoldable pub packetOf : Header → Octets → Octets
-packetOf h payload = octet0 (h .mt) (h .pbf) (h .id) ∷ octet1 (h .mt) (h .oid) ∷ length payload ∷ payload
+packetOf h payload = octet0 (h .mt) (h .pbf) (h .id) ∷ octet1 (h .mt) (h .oid) (h .credits) ∷ length payload ∷ payload
 
 -- ---- octets to fields
 
@@ -33,9 +33,13 @@ packetOf h payload = octet0 (h .mt) (h .pbf) (h .id) ∷ octet1 (h .mt) (h .oid)
 unfoldable pub oidOf : ℕ → ℕ → ℕ
 oidOf mt second = pick (eqb mt mtData) 0 (second % 64)
 
--- the bits of octet 1 that are no OID, in their places: they are read and, in the end, ignored
+-- the credits that it holds: a control packet has none
+unfoldable pub carriedOf : ℕ → ℕ → ℕ
+carriedOf mt second = pick (eqb mt mtData) (second % 4) 0
+
+-- its other bits, in their places: they are read and, in the end, ignored
 unfoldable pub spareOf : ℕ → ℕ → ℕ
-spareOf mt second = pick (eqb mt mtData) second (second / 64 * 64)
+spareOf mt second = pick (eqb mt mtData) (second / 4 * 4) (second / 64 * 64)
 
 -- the header that the first two octets hold
 unfoldable pub headerOf : ℕ → ℕ → Header
@@ -45,6 +49,7 @@ headerOf first second =
       pbf = eqb (first / 16 % 2) 1;
       id = first % 16;
       oid = oidOf (first / 32) second;
+      credits = carriedOf (first / 32) second;
       spare = spareOf (first / 32) second;
     }
 
@@ -59,6 +64,18 @@ readOf p =
 -- the payload of a packet, of the length that reading found
 abbrev pub payloadOf : Octets → ℕ → Octets
 payloadOf p len = cut 3 len p
+
+-- ---- a data packet that is passed on
+
+-- it carries n credits in the two low bits of octet 1, whatever stood there; all else is as it was
+unfoldable pub carrying : ℕ → Octets → Octets
+carrying n [] = []
+carrying n (first ∷ []) = first ∷ []
+carrying n (first ∷ second ∷ p) = first ∷ (second / 4 * 4 + n % 4) ∷ p
+
+-- its header after it
+abbrev pub credited : Header → ℕ → Header
+credited h n = record { mt = h .mt; pbf = h .pbf; id = h .id; oid = h .oid; credits = n % 4; spare = h .spare }
 
 -- ---- a packet written into a slot
 
@@ -87,4 +104,6 @@ pub record Writable (h : Header) : Type 0 where
   pub id : h .id < 16
   pub oid : h .oid < 64
   pub data-oid : h .mt ≡ mtData → h .oid ≡ 0
+  pub credits : h .credits < 4
+  pub control-credits : (h .mt ≡ mtData → ⊥) → h .credits ≡ 0
   pub spare : h .spare ≡ 0

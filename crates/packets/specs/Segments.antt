@@ -47,7 +47,7 @@ segmentAt size m at = segment (ltb (at + size) (length m)) (cut at size m)
 -- ---- segments to packets
 
 abbrev pub marked : Header → Bool → Header
-marked h b = record { mt = h .mt; pbf = b; id = h .id; oid = h .oid; spare = h .spare }
+marked h b = record { mt = h .mt; pbf = b; id = h .id; oid = h .oid; credits = h .credits; spare = h .spare }
 
 -- the packet of a segment, with the header of its message
 abbrev pub segmentPacket : Header → Segment → Octets

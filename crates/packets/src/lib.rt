@@ -1,10 +1,10 @@
 // The packet layer of NCI 2.0 (003, 3.4): a packet's header is read, its payload is handed out as a part of the packet
 // itself, and a packet is written straight into the slot that the caller lends.
 ghost use mathlib.Core.Path.{_≡_};
-ghost use Prim.Native.Nat.{_+_, _≤_};
+ghost use Prim.Native.Nat.{_+_, _*_, _/_, _%_, _≤_};
 ghost use lib.ListN.{length};
 ghost use lib.Dec.{ltb};
-ghost use Rattle.packets.specs.Packet.{octet0, octet1, oidOf, spareOf, readOf, payloadOf, Written};
+ghost use Rattle.packets.specs.Packet.{octet0, octet1, oidOf, carriedOf, spareOf, readOf, payloadOf, carrying, Written};
 ghost use Rattle.packets.specs.Segments.{segments, segmentAt, marked, body, flag};
 
 // Message types (003, Table 2). 4 to 7 are RFU.
@@ -17,13 +17,14 @@ pub const RESPONSE: u8 = 2;
 pub const NOTIFICATION: u8 = 3;
 
 // A packet's header. mt: message type. pbf: packet boundary flag, true where more of the message follows. id: GID, or
-// for data the Conn ID. oid: for control packets, 0 for data. spare: the bits of octet 1 that are no OID, in their places;
-// a writer leaves them 0.
+// for data the Conn ID. oid: for control packets, 0 for data. credits: for data the credits that it carries (CR), 0 for
+// control packets. spare: the other bits of octet 1, in their places; a writer leaves them 0.
 pub struct Header {
     pub mt: u8,
     pub pbf: bool,
     pub id: u8,
     pub oid: u8,
+    pub credits: u8,
     pub spare: u8,
 }
 
@@ -40,11 +41,22 @@ fn oid_of(mt: u8, second: u8) -> u8
     if mt == DATA { 0 } else { second % 64 }
 }
 
-// The bits of octet 1 that are no OID.
+// The credits that it holds for a message type.
+fn carried_of(mt: u8, second: u8) -> u8
+    ensures { λ r. ⌜ r ≡ carriedOf mt second ⌝ }
+{
+    if mt == DATA { second % 4 } else { 0 }
+}
+
+// Its other bits.
 fn spare_of(mt: u8, second: u8) -> u8
     ensures { λ r. ⌜ r ≡ spareOf mt second ⌝ }
 {
-    if mt == DATA { second } else { second / 64 * 64 }
+    if mt == DATA {
+        second / 4 * 4
+    } else {
+        second / 64 * 64
+    }
 }
 
 // Reads a packet. Too short for its header or its stated length, or of an RFU message type, it is a drop; octets past its
@@ -66,6 +78,7 @@ pub fn read(p: &[u8]) -> Reading
     }
     let second = p[1];
     let oid = oid_of(mt, second);
+    let credits = carried_of(mt, second);
     let spare = spare_of(mt, second);
     Reading::Packet(
         Header {
@@ -73,6 +86,7 @@ pub fn read(p: &[u8]) -> Reading
             pbf: first / 16 % 2 == 1,
             id: first % 16,
             oid: oid,
+            credits: credits,
             spare: spare,
         },
         len,
@@ -96,10 +110,10 @@ fn first_octet(mt: u8, pbf: bool, id: u8) -> u8
     }
 }
 
-fn second_octet(mt: u8, oid: u8) -> u8
-    ensures { λ r. ⌜ r ≡ octet1 mt oid ⌝ }
+fn second_octet(mt: u8, oid: u8, credits: u8) -> u8
+    ensures { λ r. ⌜ r ≡ octet1 mt oid credits ⌝ }
 {
-    if mt == DATA { 0 } else { oid % 64 }
+    if mt == DATA { credits % 4 } else { oid % 64 }
 }
 
 // Writes a packet over the front of the slot. The number of octets written; 0, with the slot as it was, where the payload
@@ -115,10 +129,26 @@ pub fn write(slot: &mut [u8], h: Header, payload: &[u8]) -> usize
         return 0;
     }
     slot[0] = first_octet(h.mt, h.pbf, h.id);
-    slot[1] = second_octet(h.mt, h.oid);
+    slot[1] = second_octet(h.mt, h.oid, h.credits);
     slot[2] = n as u8;
     octets::put(slot, 3, payload);
     3 + n
+}
+
+// Octet 1 of a data packet with n credits in place of those that it has.
+fn recredited(second: u8, n: u8) -> u8
+    ensures { λ r. ⌜ r ≡ second / 4 * 4 + n % 4 ⌝ }
+{
+    second / 4 * 4 + n % 4
+}
+
+// Puts n credits into a data packet that is passed on, in place of those that it carried.
+pub fn set_credits(p: &mut [u8], n: u8)
+    ensures { λ _. ⌜ now (p .exit) ≡ carrying n (now (p .entry)) ⌝ }
+{
+    if 1 < p.len() {
+        p[1] = recredited(p[1], n);
+    }
 }
 
 // Whether another segment follows the one of size octets at index at of a message of n octets.

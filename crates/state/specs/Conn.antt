@@ -1,6 +1,6 @@
 -- Conn IDs and their places in the record's array of five; what a connection's counts are when it opens and closes.
 -- Assumes nothing.
-use Prim.Native.Nat.{ℕ, _+_, _%_}
+use Prim.Native.Nat.{ℕ, _+_, _-_, _%_}
 use mathlib.Core.Bool.{Bool, true, false, not, _&&_}
 use mathlib.Core.List.{List}
 use lib.ListN.{getD, set}
@@ -47,6 +47,10 @@ creditSum held n = (held + n) % 256
 -- what is owed: "if flow-controlled and open at the controller (else nothing)", whatever the field says
 abbrev pub owing : Bool → ℕ → ℕ → ℕ
 owing opened grant owed = pick (opened && flows grant) owed 0
+
+-- what a data packet going up carries of it: the CR field holds at most 3 (003, 3.4.3)
+unfoldable pub carriable : ℕ → ℕ
+carriable owed = pick (ltb 3 owed) 3 owed
 
 -- ---- counts
 
@@ -122,6 +126,15 @@ joinedAt conns c t = withHost conns c (openedHost t)
 
 abbrev pub allLeft : List Counts → List Counts
 allLeft conns = leftAt (leftAt (leftAt (leftAt (leftAt conns 0) 2) 3) 4) 5
+
+-- ---- credits inside a data packet
+
+abbrev pub carriedBy : ControllerSide → ℕ
+carriedBy k = carriable (owing (k .opened) (k .grant) (k .owed))
+
+-- what the packet carries is no longer owed
+abbrev pub paidSide : ControllerSide → ControllerSide
+paidSide k = record { opened = k .opened; grant = k .grant; owed = k .owed - carriedBy k; store = k .store; run = k .run }
 
 -- ---- a credit notice
 

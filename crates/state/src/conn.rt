@@ -8,7 +8,7 @@ use crate::kinds::Progress;
 use crate::kinds::Ring;
 use crate::kinds::Terms;
 ghost use mathlib.Core.Path.{_≡_};
-ghost use Rattle.state.specs.Conn.{placeOf, connOf, termsOf, metered, creditSum, owing, countsOf, heldOpen, openAt, start, empty, handWith, handAfter, closedController, openedController, closedHost, openedHost, withController, withHost, shutAt, openedAt, allShut, leftAt, joinedAt, allLeft, noticedSide, noticedAt, allNoticed};
+ghost use Rattle.state.specs.Conn.{placeOf, connOf, termsOf, metered, creditSum, owing, countsOf, heldOpen, openAt, start, empty, handWith, handAfter, closedController, openedController, closedHost, openedHost, withController, withHost, shutAt, openedAt, allShut, leftAt, joinedAt, allLeft, carriedBy, paidSide, noticedSide, noticedAt, allNoticed};
 
 // The credits octet for no flow control.
 pub const UNMETERED: u8 = 255;
@@ -309,6 +309,24 @@ pub fn all_left(conns: [Counts; 5]) -> [Counts; 5]
     let c = left_at(b, 3);
     let d = left_at(c, 4);
     left_at(d, 5)
+}
+
+// The credits that a data packet going up carries: what the connection owes, at most 3.
+pub fn carried(k: ControllerSide) -> u8
+    ensures { λ r. ⌜ r ≡ carriedBy k ⌝ }
+{
+    let owed = owing(k);
+    if 3 < owed { 3 } else { owed }
+}
+
+// The connection after it: what the packet carries is no longer owed.
+pub fn paid(k: ControllerSide) -> ControllerSide
+    ensures { λ r. ⌜ r ≡ paidSide k ⌝ }
+{
+    let n = carried(k);
+    let mut next = k;
+    next.owed = k.owed - n;
+    next
 }
 
 // All that a connection owes has been put in a notice.

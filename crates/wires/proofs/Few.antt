@@ -11,7 +11,12 @@ use lib.Dec.{eqb, ltb, leb}
 use lib.ListN.{length, getD}
 use borrow.Author.Tests.{eqb-true, ltb-true, leb-true, eq-eqb}
 use Rattle.octets.specs.Octets.{Octets, pick}
-use Rattle.packets.specs.Segments.{more, last}
+use Rattle.packets.specs.declared.Header.{Header}
+use Rattle.packets.specs.declared.Reading.{Reading}
+use Rattle.packets.specs.declared.Reading.the-variants.{Packet, Drop}
+use Rattle.packets.specs.Packet.{readOf, payloadOf}
+use Rattle.packets.specs.Segments.{Segment, more, last, segment}
+use Rattle.packets.proofs.Packet.{read-ranged}
 use Rattle.state.specs.declared.commands.Command.{Command}
 use Rattle.state.specs.declared.commands.Command.the-variants.{Reset, Init, ConnCreate, ConnClose, Discover, Select, Deactivate, Unknown}
 use Rattle.state.specs.Conn.{placeOf, metered}
@@ -26,8 +31,8 @@ use Rattle.dh.specs.declared.host.Answer.the-variants.{Done}
 use Rattle.dh.specs.declared.host.Heard.the-variants.{Nothing, Answered}
 use Rattle.dh.specs.Contents.{noticeOf, entryId, entryCredits, entriesOk, creditsWritten, createWritten, activatedWritten, noticeWritten, statusAlone, okWritten, written}
 use Rattle.dh.specs.Host.{okAnswer, answerOf, noticed, heardAlone, creditsIn, creditsFor}
-use Rattle.wires.specs.Meaning.{Meaning, datum, control, junk, meaning}
-use Rattle.wires.specs.Tally.{aimedAt, says, saysIn, contents, creditsSaid, creditsUp, dataCount}
+use Rattle.wires.specs.Meaning.{datum, control, meant, meaningIn, meaning}
+use Rattle.wires.specs.Tally.{aimedAt, says, creditsSaid, creditsMeant, creditsOn, creditsUp, dataCount}
 use Rattle.wires.proofs.Counting.{data-one-small}
 
 -- ---- a grant
@@ -136,20 +141,34 @@ module _ (m : Octets) (c : ℕ) where
 
 -- ---- a packet, and a wire
 
-meant-few : (c : ℕ) (x : Meaning) → creditsSaid c (contents x) (saysIn 0 x) ≤ 8
-meant-few c (datum d x) = omega arith
-meant-few c (control mt gid oid (more b)) = omega arith
-meant-few c (control mt gid oid (last m)) = go (eqb mt 1)
+control-few : (c mt gid oid : ℕ) (x : Segment) → creditsMeant c (control mt gid oid x) ≤ 8
+control-few c mt gid oid (more b) = omega arith
+control-few c mt gid oid (last m) = go (eqb mt 1)
   where
     go : (b : Bool) → creditsSaid c m (pick b Nothing (says 0 mt gid oid m)) ≤ 8
     go true = omega arith
     go false = says-few m c mt gid oid
-meant-few c junk = omega arith
+
+-- the field of a data packet holds at most 3
+meant-few : (c : ℕ) (h : Header) (x : Segment) → h .credits < 4 → creditsMeant c (meant h x) ≤ 8
+meant-few c h x few = go (eqb (h .mt) 0)
+  where
+    go : (b : Bool) → creditsMeant c (pick b (datum (h .id) (h .credits) x) (control (h .mt) (h .id) (h .oid) x)) ≤ 8
+    go true = on (λ (k : ℕ). k ≤ 8) (eqb (h .id) c) (λ e. omega arith) (λ e. omega arith)
+    go false = control-few c (h .mt) (h .id) (h .oid) x
+
+packet-few : (c : ℕ) (p : Octets) → creditsOn c p ≤ 8
+unfolding meaning
+packet-few c p = go (readOf p) refl
+  where
+    go : (r : Reading) → readOf p ≡ r → creditsMeant c (meaningIn p r) ≤ 8
+    go (Packet h n) e = meant-few c h (segment (h .pbf) (payloadOf p n)) (read-ranged p h n e .credits)
+    go Drop e = omega arith
 
 pub credits-up-few : (c : ℕ) (w : List Octets) → creditsUp c w ≤ 8 * length w
 unfolding creditsUp
 credits-up-few c [] = omega arith
-credits-up-few c (p ∷ w) = omega (arith, meant-few c (meaning p), credits-up-few c w)
+credits-up-few c (p ∷ w) = omega (arith, packet-few c p, credits-up-few c w)
 
 pub data-count-few : (c : ℕ) (w : List Octets) → dataCount c w ≤ length w
 unfolding dataCount

@@ -7,7 +7,7 @@ use mathlib.Core.Bool.{Bool, true, false, _&&_, _||_, false≢true}
 use mathlib.Core.List.{[], _∷_}
 use lib.ListN.{length, getD}
 use lib.Dec.{eqb, ltb, leb}
-use borrow.Author.Tests.{leb-true}
+use borrow.Author.Tests.{leb-true, eq-eqb, ne-eqb}
 use Rattle.octets.specs.Octets.{Octets, pick}
 use Rattle.packets.specs.declared.Header.{Header}
 use Rattle.packets.specs.Segments.{Segment, segment}
@@ -21,47 +21,45 @@ use Rattle.dh.specs.declared.host.Heard.{Heard}
 use Rattle.dh.specs.declared.host.Heard.the-variants.{Nothing, Answered, Credits}
 use Rattle.dh.specs.Contents.{noticeOf, entryId, entryCredits, entriesOk, creditsWritten, noticeWritten, statusAlone, okWritten, written}
 use Rattle.dh.specs.Host.{answerOf, noticed, heardAlone, creditsIn, creditsFor}
-use Rattle.wires.specs.Meaning.{Meaning, datum, control, meant}
-use Rattle.wires.specs.Tally.{isDataFor, says, saysIn, contents, creditsSaid}
+use Rattle.wires.specs.Meaning.{datum, control, meant}
+use Rattle.wires.specs.Tally.{isDataFor, says, creditsSaid, creditsMeant}
 
 -- ---- isDataFor
 
 pub data-meant : (c : ℕ) (h : Header) (x : Segment) → (eqb (h .mt) 0 && eqb (h .id) c) ≡ isDataFor c (meant h x)
 data-meant c h x = go (eqb (h .mt) 0)
   where
-    go : (b : Bool) → (b && eqb (h .id) c) ≡ isDataFor c (pick b (datum (h .id) x) (control (h .mt) (h .id) (h .oid) x))
+    go : (b : Bool) → (b && eqb (h .id) c) ≡ isDataFor c (pick b (datum (h .id) (h .credits) x) (control (h .mt) (h .id) (h .oid) x))
     go true = refl
     go false = refl
 
--- ---- creditsOn, by what the packet means
-
-abbrev pub creditsMeant : ℕ → Meaning → ℕ
-creditsMeant c x = creditsSaid c (contents x) (saysIn 0 x)
+-- ---- creditsMeant, by the header
 
 module _ (c : ℕ) (h : Header) (m : Octets) where
-  -- data, a part of a message, or a command has none
-  pub credits-none : (eqb (h .mt) 0 || h .pbf || eqb (h .mt) 1) ≡ true → 0 ≡ creditsMeant c (meant h (segment (h .pbf) m))
-  credits-none = go (eqb (h .mt) 0) (h .pbf)
+  -- data has what it carries
+  pub credits-data : h .mt ≡ 0 → pick (eqb (h .id) c) (h .credits) 0 ≡ creditsMeant c (meant h (segment (h .pbf) m))
+  credits-data e = rw (eq-eqb (h .mt) 0 e)
+
+  -- a part of a message, or a command has none
+  pub credits-none : (h .mt ≡ 0 → ⊥) → (h .pbf || eqb (h .mt) 1) ≡ true → 0 ≡ creditsMeant c (meant h (segment (h .pbf) m))
+  credits-none z = rw (ne-eqb (h .mt) 0 z) (go (h .pbf))
     where
-      go : (a b : Bool) → (a || b || eqb (h .mt) 1) ≡ true
-          → 0 ≡ creditsMeant c (pick a (datum (h .id) (segment b m)) (control (h .mt) (h .id) (h .oid) (segment b m)))
-      go true b e = refl
-      go false true e = refl
-      go false false e = rw e
+      go : (b : Bool) → (b || eqb (h .mt) 1) ≡ true → 0 ≡ creditsMeant c (control (h .mt) (h .id) (h .oid) (segment b m))
+      go true e = refl
+      go false e = rw e
 
   -- a whole response or notification has those of what it says; x is the payload as it was read, y what was heard in it
   pub credits-whole : (x : Octets) (y : Heard) → x ≡ m → y ≡ says 0 (h .mt) (h .id) (h .oid) x
-      → (eqb (h .mt) 0 || h .pbf || eqb (h .mt) 1) ≡ false → creditsSaid c x y ≡ creditsMeant c (meant h (segment (h .pbf) m))
-  credits-whole x y p q e =
+      → (h .mt ≡ 0 → ⊥) → (h .pbf || eqb (h .mt) 1) ≡ false → creditsSaid c x y ≡ creditsMeant c (meant h (segment (h .pbf) m))
+  credits-whole x y p q z e =
       ap (creditsSaid c x) q
       ∙ (λ i. creditsSaid c (p i) (says 0 (h .mt) (h .id) (h .oid) (p i)))
-      ∙ go (eqb (h .mt) 0) (h .pbf) e
+      ∙ rw (ne-eqb (h .mt) 0 z) (go (h .pbf) e)
     where
-      go : (a b : Bool) → (a || b || eqb (h .mt) 1) ≡ false → creditsSaid c m (says 0 (h .mt) (h .id) (h .oid) m)
-          ≡ creditsMeant c (pick a (datum (h .id) (segment b m)) (control (h .mt) (h .id) (h .oid) (segment b m)))
-      go true b e = absurd (false≢true (sym e))
-      go false true e = absurd (false≢true (sym e))
-      go false false e = rw e
+      go : (b : Bool) → (b || eqb (h .mt) 1) ≡ false → creditsSaid c m (says 0 (h .mt) (h .id) (h .oid) m)
+          ≡ creditsMeant c (control (h .mt) (h .id) (h .oid) (segment b m))
+      go true e = absurd (false≢true (sym e))
+      go false e = rw e
 
 -- ---- credits of a notice that is written here
 

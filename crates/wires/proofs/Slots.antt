@@ -1,22 +1,25 @@
 -- A slot and the packet that it starts with read the same: octets past the stated length are ignored.
 -- Assumes nothing.
-use Prim.Native.Nat.{ℕ, _+_, _/_, _≤_, _<_}
+use Prim.Native.Nat.{ℕ, _+_, _/_, _%_, _≤_, _<_}
 use native.Mathlib.Decide.{decLe}
 use native.Mathlib.Omega.{arith}
 use mathlib.Core.Path.{_≡_, refl, sym, ap, _∙_}
+use mathlib.Core.Bool.{Bool, true, false}
 use lib.ListN.{length, getD, length-take}
 use lib.Seq.{take-all, getD-take}
-use Rattle.octets.specs.Octets.{Octets, cut}
+use lib.Dec.{eqb}
+use borrow.Author.Tests.{eqb-true, eq-eqb}
+use Rattle.octets.specs.Octets.{Octets, pick, cut}
 use Rattle.octets.proofs.Octets.{cut-cut}
 use Rattle.packets.specs.declared.Header.{Header}
 use Rattle.packets.specs.declared.Reading.{Reading}
 use Rattle.packets.specs.declared.Reading.the-variants.{Packet, Drop}
-use Rattle.packets.specs.Packet.{readOf, headerOf, payloadOf}
-use Rattle.packets.specs.Segments.{segment}
-use Rattle.packets.proofs.Packet.{read-rfu, read-whole, read-facts}
+use Rattle.packets.specs.Packet.{readOf, headerOf, payloadOf, carrying, credited}
+use Rattle.packets.specs.Segments.{Segment, segment}
+use Rattle.packets.proofs.Packet.{read-rfu, read-whole, read-facts, read-carrying, payload-carrying}
 use Rattle.area.specs.Map.{slotSize}
 use Rattle.area.specs.Ring.{trim, slotAt, slotPacket}
-use Rattle.wires.specs.Meaning.{junk, meant, meaningIn, meaning}
+use Rattle.wires.specs.Meaning.{Meaning, datum, control, junk, meant, meaningIn, meaning}
 
 -- ---- slotPacket
 
@@ -83,3 +86,31 @@ module _ (s : Octets) where
   pub meaning-packet : (h : Header) (n : ℕ) → readOf s ≡ Packet h n → meaning (trim s) ≡ meant h (segment (h .pbf) (payloadOf s n))
   unfolding meaning
   meaning-packet h n e = meaning-trim ∙ ap (meaningIn s) e
+
+-- ---- data that is passed on with n credits
+
+-- the same data with other credits
+abbrev renewed : ℕ → Meaning → Meaning
+renewed n (datum c m x) = datum c n x
+renewed n (control mt gid oid x) = control mt gid oid x
+renewed n junk = junk
+
+pub meaning-carrying : (n : ℕ) (p : Octets) (c m : ℕ) (x : Segment) → meaning p ≡ datum c m x → meaning (carrying n p) ≡ datum c (n % 4) x
+unfolding meaning
+meaning-carrying n p c m x = go (readOf p) refl
+  where
+    told : (h : Header) (y : Segment) (b : Bool) → eqb (h .mt) 0 ≡ b → pick b (datum (h .id) (h .credits) y) (control (h .mt) (h .id) (h .oid) y) ≡ datum c m x
+        → (h .mt ≡ 0) × (datum (h .id) (n % 4) y ≡ datum c (n % 4) x)
+    told h y true z e = (eqb-true _ _ z, ap (renewed (n % 4)) e)
+    told h y false z e = absurd (apart e)
+      where
+        apart : control (h .mt) (h .id) (h .oid) y ≡ datum c m x → ⊥
+        apart e = let z : _≡_ {A = ℕ} 0 1 = cc in omega arith
+
+    go : (r : Reading) → readOf p ≡ r → meaningIn p r ≡ datum c m x → meaningIn (carrying n p) (readOf (carrying n p)) ≡ datum c (n % 4) x
+    go (Packet h k) e means =
+        let t = told h (segment (h .pbf) (payloadOf p k)) (eqb (h .mt) 0) refl means in
+        ap (meaningIn (carrying n p)) (read-carrying n p h k e (t .0))
+        ∙ ap (λ (o : Octets). meant (credited h n) (segment (h .pbf) o)) (payload-carrying n p k)
+        ∙ rw (eq-eqb _ _ (t .0)) (t .1)
+    go Drop e means = let z : _≡_ {A = ℕ} 0 1 = cc in absurd (omega arith)

@@ -1,4 +1,5 @@
--- What a packet on a wire counts for: data of a connection going down, credits and grants going up.
+-- What a packet on a wire counts for: data of a connection going down, credits and grants going up. Credits of data going down are
+-- ignored.
 -- Assumes nothing.
 use Prim.Native.Nat.{ℕ, _+_}
 use mathlib.Core.Bool.{Bool, false}
@@ -22,7 +23,7 @@ use Rattle.wires.specs.Meaning.{Meaning, datum, control, junk, meaning}
 
 -- it holds data of a connection
 abbrev pub isDataFor : ℕ → Meaning → Bool
-isDataFor c (datum d x) = eqb d c
+isDataFor c (datum d n x) = eqb d c
 isDataFor c (control mt gid oid x) = false
 isDataFor c junk = false
 
@@ -40,14 +41,14 @@ abbrev pub says : ℕ → ℕ → ℕ → ℕ → Octets → Heard
 says aim mt gid oid m = pick (written mt gid oid m) (heardAlone (aimedAt aim) mt gid oid m) Nothing
 
 abbrev pub saysIn : ℕ → Meaning → Heard
-saysIn aim (datum c x) = Nothing
+saysIn aim (datum c n x) = Nothing
 saysIn aim (control mt gid oid (more b)) = Nothing
 saysIn aim (control mt gid oid (last m)) = pick (eqb mt mtCommand) Nothing (says aim mt gid oid m)
 saysIn aim junk = Nothing
 
 -- its octets, where it is a whole control message
 abbrev pub contents : Meaning → Octets
-contents (datum c x) = []
+contents (datum c n x) = []
 contents (control mt gid oid (more b)) = []
 contents (control mt gid oid (last m)) = m
 contents junk = []
@@ -66,9 +67,15 @@ creditsSaid c m (Activated t) = pick (eqb 0 c) (metered (t .credits)) 0
 creditsSaid c m Deactivated = 0
 creditsSaid c m Credits = creditsFor m c
 
--- credits for a connection on the up wire; which connection a CONN_CLOSE named makes no difference here
+-- credits for a connection on the up wire: those that data carries, and those of control messages; which connection a CONN_CLOSE named
+-- makes no difference here
+abbrev pub creditsMeant : ℕ → Meaning → ℕ
+creditsMeant c (datum d n x) = pick (eqb d c) n 0
+creditsMeant c (control mt gid oid x) = creditsSaid c (contents (control mt gid oid x)) (saysIn 0 (control mt gid oid x))
+creditsMeant c junk = 0
+
 abbrev pub creditsOn : ℕ → Octets → ℕ
-creditsOn c p = creditsSaid c (contents (meaning p)) (saysIn 0 (meaning p))
+creditsOn c p = creditsMeant c (meaning p)
 
 unfoldable pub creditsUp : ℕ → List Octets → ℕ
 creditsUp c [] = 0

@@ -1,4 +1,5 @@
-// Credits on the up wire: what the packets of a ring have for a connection, in credit notices and in the grants of what opens it.
+// Credits on the up wire: what the packets of a ring have for a connection, inside data, in credit notices and in the grants of
+// what opens it.
 use area::map;
 use dh::contents;
 use dh::host;
@@ -73,7 +74,14 @@ fn said_credits(x: Heard, m: &[u8], conn: u8) -> u8
     }
 }
 
-// The credits for the connection in the packet that a slot starts with: only a whole response or notification has any.
+// The credits that data of connection id has for the connection.
+fn carried(id: u8, n: u8, conn: u8) -> u8
+    ensures { λ r. ⌜ r ≡ pick (eqb id conn) n 0 ⌝ }
+{
+    if id == conn { n } else { 0 }
+}
+
+// The credits for the connection in the packet that a slot starts with: data, or a whole response or notification.
 pub fn credits_on(slot: &[u8], conn: u8) -> u8
     ensures { λ r. ⌜ r ≡ creditsOn conn (trim (now (slot .entry))) ⌝ }
 {
@@ -81,7 +89,10 @@ pub fn credits_on(slot: &[u8], conn: u8) -> u8
     let Reading::Packet(h, n) = got else {
         return 0;
     };
-    if (h.mt == packets::DATA) | h.pbf | (h.mt == packets::COMMAND) {
+    if h.mt == packets::DATA {
+        return carried(h.id, h.credits, conn);
+    }
+    if h.pbf | (h.mt == packets::COMMAND) {
         return 0;
     }
     let m = packets::payload(slot, n);

@@ -1,15 +1,17 @@
--- consume: the controller takes the oldest stored packet into reassembly; on a loopback it also goes up unchanged.
+-- consume: the controller takes the oldest stored packet into reassembly; on a loopback it also goes up, unchanged but for the credits
+-- that it carries (003, 3.4.3).
 -- Assumes nothing.
 use Prim.Native.Nat.{ℕ}
 use mathlib.Core.Bool.{Bool, true, not, _&&_}
 use mathlib.Core.List.{List, [], _∷_}
 use lib.Dec.{eqb, leb}
 use Rattle.octets.specs.Octets.{Octets, pick}
+use Rattle.packets.specs.Packet.{carrying}
 use Rattle.packets.specs.Segments.{Segment}
 use Rattle.packets.specs.Reassembly.{Run, grown, finished, flagged}
 use Rattle.state.specs.Conn.{flows}
 use Rattle.state.specs.Runs.{dataLimit}
-use Rattle.model.specs.Connection.{withController, consumed}
+use Rattle.model.specs.Connection.{ControllerEnd, withController, consumed, carriedOn, paid}
 use Rattle.wires.specs.Meaning.{Meaning, datum, control, junk, meaning}
 use Rattle.model.specs.State.{State, isOpen, at, withConns}
 use Rattle.model.specs.Effects.{Effect, quiet, puttingUp}
@@ -19,12 +21,17 @@ use Rattle.model.specs.Refusals.{Rule, rule, isNil, noConn, full}
 abbrev pub isLoop : ℕ → Bool
 isLoop c = not (eqb 0 c)
 
-abbrev pub echo : ℕ → Octets → List Octets
-echo c p = pick (isLoop c) (p ∷ []) []
+-- the packet that goes up, with n credits
+abbrev pub echo : ℕ → ℕ → Octets → List Octets
+echo c n p = pick (isLoop c) (carrying n p ∷ []) []
+
+-- connection c at the controller once the packet has gone up, if it goes
+abbrev pub echoed : ℕ → ControllerEnd → ControllerEnd
+echoed c k = pick (isLoop c) (paid k) k
 
 -- the segment of a stored packet; one that cannot be read has none, and is dropped
 abbrev pub segmentIn : Meaning → List Segment
-segmentIn (datum c x) = x ∷ []
+segmentIn (datum c n x) = x ∷ []
 segmentIn (control mt gid oid x) = x ∷ []
 segmentIn junk = []
 
@@ -40,10 +47,14 @@ abbrev pub joinedFlag : Run → List Segment → Bool
 joinedFlag r [] = true
 joinedFlag r (x ∷ xs) = flagged dataLimit r x
 
+-- the connection with the packet taken and its credit owed: what goes up carries of that
+abbrev pub joinedEnd : List Segment → List Octets → ControllerEnd → ControllerEnd
+joinedEnd xs rest k = consumed rest (joinedRun (k .run) xs) k
+
 abbrev pub consumedAs : ℕ → List Segment → Octets → List Octets → State → Effect
 consumedAs c xs p rest s =
-    puttingUp (joinedFlag (s .conns c .controller .run) xs) (echo c p) (joinedMessage (s .conns c .controller .run) xs)
-    (withConns (at c (λ k. withController (consumed rest (joinedRun (k .controller .run) xs) (k .controller)) k) (s .conns)) s)
+    puttingUp (joinedFlag (s .conns c .controller .run) xs) (echo c (carriedOn (joinedEnd xs rest (s .conns c .controller))) p) (joinedMessage (s .conns c .controller .run) xs)
+    (withConns (at c (λ k. withController (echoed c (joinedEnd xs rest (k .controller))) k) (s .conns)) s)
 
 abbrev pub consuming : ℕ → List Octets → State → Effect
 consuming c [] s = quiet s

@@ -23,7 +23,7 @@ use Rattle.model.specs.Changes.{atController}
 
 -- the last packet of a command needs two slots for its answer
 abbrev pub needsTwo : Meaning → Bool
-needsTwo (datum c x) = false
+needsTwo (datum c n x) = false
 needsTwo (control mt gid oid (more b)) = false
 needsTwo (control mt gid oid (last b)) = eqb mt mtCommand
 needsTwo junk = false
@@ -33,7 +33,7 @@ tooTight s [] = false
 tooTight s (p ∷ w) = needsTwo (meaning p) && full 2 (s .up)
 
 abbrev pub storeFull : State → Meaning → Bool
-storeFull s (datum c x) = isOpen s c && leb 8 (length (s .conns c .controller .store))
+storeFull s (datum c n x) = isOpen s c && leb 8 (length (s .conns c .controller .store))
 storeFull s (control mt gid oid x) = false
 storeFull s junk = false
 
@@ -66,7 +66,7 @@ storing c p s =
 
 -- data is stored, or dropped if the connection isn't open; commands aside, the rest is dropped
 abbrev pub arriving : Meaning → Octets → State → Effect
-arriving (datum c x) p s = storing c p s
+arriving (datum c n x) p s = storing c p s
 arriving (control mt gid oid x) p s = pick (eqb mt mtCommand) (asked gid oid x s) (flaggedAs true s)
 arriving junk p s = flaggedAs true s
 

@@ -16,7 +16,7 @@ use Rattle.dh.specs.Host.{isClosing}
 abbrev pub pushing : ℕ → List Segment → State → Effect
 pushing c [] s = quiet s
 pushing c (x ∷ rest) s =
-    puttingDown (segmentPacket (dataHeader c) x ∷ []) (withConns (at c (λ k. withHost (pushed rest (k .host)) k) (s .conns)) s)
+    puttingDown (segmentPacket (dataHeader c 0) x ∷ []) (withConns (at c (λ k. withHost (pushed rest (k .host)) k) (s .conns)) s)
 
 -- ---- refusals
 

@@ -13,7 +13,7 @@ use Rattle.model.specs.Kinds.{Heard}
 use Rattle.state.specs.Conn.{flows}
 use Rattle.state.specs.Runs.{dataLimit}
 use Rattle.dh.specs.Host.{hearOf, hostAfter, dropHeard}
-use Rattle.model.specs.Connection.{withHost, heardData}
+use Rattle.model.specs.Connection.{withHost, heardData, credited}
 use Rattle.wires.specs.Meaning.{Meaning, datum, control, junk, meaning}
 use Rattle.model.specs.State.{State, at, withConns, withUp, withHostState, withHearing}
 use Rattle.model.specs.Effects.{Effect, quiet, flaggedAs}
@@ -22,16 +22,17 @@ use Rattle.model.specs.Runs.{runAfter, wholeBy, flagBy}
 use Rattle.ends.specs.Changes.{changeHeard, creditsOf}
 use Rattle.model.specs.Changes.{atHost}
 
--- a finished data message is handed out; data for a connection not open at the host is dropped
-abbrev pub receiving : ℕ → Segment → State → Effect
-receiving c x s =
+-- a finished data message is handed out, and the credits that the packet carries are held; data for a connection not open at the host
+-- is dropped, its credits with it
+abbrev pub receiving : ℕ → ℕ → Segment → State → Effect
+receiving c n x s =
     pick (isHeld s c)
     (record {
       drop = flagged dataLimit (s .conns c .host .run) x;
       toDown = [];
       toUp = [];
       message = finished dataLimit (s .conns c .host .run) x;
-      next = withConns (at c (λ k. withHost (heardData x (k .host)) k) (s .conns)) s;
+      next = withConns (at c (λ k. withHost (heardData x (credited n (k .host))) k) (s .conns)) s;
     })
     (flaggedAs true s)
 
@@ -54,7 +55,7 @@ heard mt gid oid x s =
     hearing mt gid oid (wholeBy (s .hearing) mt gid oid x) (flagBy (s .hearing) mt gid oid x) (withHearing (runAfter (s .hearing) mt gid oid x) s)
 
 abbrev pub coming : Meaning → State → Effect
-coming (datum c x) s = receiving c x s
+coming (datum c n x) s = receiving c n x s
 coming (control mt gid oid x) s = pick (eqb mt mtCommand) (flaggedAs true s) (heard mt gid oid x s)
 coming junk s = flaggedAs true s
 
@@ -62,10 +63,13 @@ abbrev pub reading : List Octets → State → Effect
 reading [] s = quiet s
 reading (p ∷ w) s = coming (meaning p) (withUp w s)
 
--- a notice that would bring a connection above its grant (refusal 13)
+-- n credits would bring a connection above its grant (refusal 13)
+abbrev pub passing : State → ℕ → ℕ → Bool
+passing s c n = isHeld s c && flows (s .conns c .host .grant) && ltb (s .conns c .host .grant) (s .conns c .host .held + n)
+
+-- those of a notice
 abbrev pub above : State → Heard → Octets → ℕ → Bool
-above s h m c =
-    isHeld s c && flows (s .conns c .host .grant) && ltb (s .conns c .host .grant) (s .conns c .host .held + creditsOf (changeHeard h m c))
+above s h m c = passing s c (creditsOf (changeHeard h m c))
 
 unfoldable pub anyOf : (ℕ → Bool) → List ℕ → Bool
 anyOf f [] = false
@@ -76,7 +80,7 @@ aboveIn s mt gid oid [] = false
 aboveIn s mt gid oid (m ∷ ms) = anyOf (above s (hearOf (s .host .pending) mt gid oid m) m) ids
 
 abbrev pub tooMany : State → Meaning → Bool
-tooMany s (datum c x) = false
+tooMany s (datum c n x) = passing s c n
 tooMany s (control mt gid oid x) = not (eqb mt mtCommand) && aboveIn s mt gid oid (wholeBy (s .hearing) mt gid oid x)
 tooMany s junk = false
 

@@ -50,7 +50,7 @@ Aimed (pending.Command a) aim = a .aim ≡ aim
 
 -- a packet on the up wire is data, or a whole response or notification; a response is one that the host understands
 abbrev pub SoundIn : Meaning → Type 0
-SoundIn (datum c x) = Unit {0}
+SoundIn (datum c n x) = Unit {0}
 SoundIn (control mt gid oid (more b)) = ⊥
 SoundIn (control mt gid oid (last m)) = (((mt ≡ 2) × (written 2 gid oid m ≡ true)) ⊎ (mt ≡ 3)) × (length m ≤ controlLimit)
 SoundIn junk = Unit {0}
@@ -60,7 +60,7 @@ Sound = Each (λ p. SoundIn (meaning p))
 
 -- a stored packet is data of its connection
 abbrev pub StoredIn : ℕ → Meaning → Type 0
-StoredIn d (datum c x) = c ≡ d
+StoredIn d (datum c n x) = c ≡ d
 StoredIn d (control mt gid oid x) = ⊥
 StoredIn d junk = ⊥
 

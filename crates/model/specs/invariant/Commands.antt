@@ -30,7 +30,7 @@ named gid oid = record { gid = gid; oid = oid }
 
 -- the commands whose last packet lies on the down wire
 abbrev pub headsIn : Meaning → List Name
-headsIn (datum c x) = []
+headsIn (datum c n x) = []
 headsIn (control mt gid oid (more b)) = []
 headsIn (control mt gid oid (last b)) = pick (eqb mt 1) (named gid oid ∷ []) []
 headsIn junk = []
@@ -41,7 +41,7 @@ heads (p ∷ w) = headsIn (meaning p) ++ heads w
 
 -- the commands answered on the up wire
 abbrev pub repliesIn : Meaning → List Name
-repliesIn (datum c x) = []
+repliesIn (datum c n x) = []
 repliesIn (control mt gid oid x) = pick (eqb mt 2) (named gid oid ∷ []) []
 repliesIn junk = []
 
@@ -63,7 +63,7 @@ Which false A B = B
 
 -- a packet that is not data
 abbrev pub NoDatum : Meaning → Type 0
-NoDatum (datum c x) = ⊥
+NoDatum (datum c n x) = ⊥
 NoDatum (control mt gid oid x) = Unit {0}
 NoDatum junk = Unit {0}
 
@@ -79,7 +79,7 @@ Tidy (p ∷ w) = Which (needsTwo (meaning p)) (NoData w) (Tidy w)
 
 -- the segments of commands on the down wire
 abbrev pub ordersIn : Meaning → List Segment
-ordersIn (datum c x) = []
+ordersIn (datum c n x) = []
 ordersIn (control mt gid oid x) = pick (eqb mt 1) (x ∷ []) []
 ordersIn junk = []
 
@@ -99,7 +99,7 @@ Complete (last b ∷ ss) = Complete ss
 
 -- a packet of this command, or of none
 abbrev pub NamedIn : Name → Meaning → Type 0
-NamedIn n (datum c x) = Unit {0}
+NamedIn n (datum c m x) = Unit {0}
 NamedIn n (control mt gid oid x) = eqb mt 1 ≡ true → named gid oid ≡ n
 NamedIn n junk = Unit {0}
 

@@ -41,16 +41,19 @@ shared-slice-read-second c = search needs
 oid-of-requires : tie.Need-oid-of-requires
 oid-of-requires c κs = search needs
 
+carried-of-requires : tie.Need-carried-of-requires
+carried-of-requires c κs = search needs
+
 spare-of-requires : tie.Need-spare-of-requires
 spare-of-requires c κs = search needs
 
 returns-4 : tie.Need-returns-4
 unfolding headerOf
 returns-4 c =
-    let d = c .before .before .before in
+    let d = c .before .before .before .before in
     let b = d .before .before in
     let a = b .before .before in
-    rw (c .spare-of .ensures, c .before .oid-of .ensures)
+    rw (c .spare-of .ensures, c .before .carried-of .ensures, c .before .before .oid-of .ensures)
     (sym (read-whole (now (a .before .before .args .p)) (a .if1 .left) (b .if2 .left) (d .if3 .left)))
 
 pub read-spec : {M : Type 1} → statement M
@@ -66,5 +69,6 @@ read-spec =
     returns-3
     shared-slice-read-second
     oid-of-requires
+    carried-of-requires
     spare-of-requires
     returns-4)

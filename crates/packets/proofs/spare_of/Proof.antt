@@ -9,6 +9,9 @@ use Rattle.packets.proofs.spare_of.Tie as tie
 mul-result : tie.Need-mul-result
 mul-result c = search needs
 
+mul-result-2 : tie.Need-mul-result-2
+mul-result-2 c = search needs
+
 returns : tie.Need-returns
 unfolding spareOf
 returns c = rw (eq-eqb _ 0 (c .if1 .taken))
@@ -18,4 +21,4 @@ unfolding spareOf
 returns-2 c = rw (ne-eqb _ 0 (c .if1 .left))
 
 pub spare-of-spec : {M : Type 1} → statement M
-spare-of-spec = tie.close (tie.spec mul-result returns returns-2)
+spare-of-spec = tie.close (tie.spec mul-result mul-result-2 returns returns-2)
