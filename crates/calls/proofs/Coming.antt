@@ -13,6 +13,7 @@ use Rattle.calls.specs.Kinds.{Header, Reading, Record}
 use Rattle.calls.specs.Kinds.reading.{Packet, Drop}
 use Rattle.state.specs.Conn.{heldOpen}
 use Rattle.state.proofs.Conns.{held-place}
+use Rattle.dh.specs.Host.{above}
 use Rattle.area.specs.Map.{messageSize}
 use Rattle.record.specs.Reading.{decodeOf}
 use Rattle.record.specs.Small.{Small}
@@ -59,23 +60,23 @@ module _ (a out : Octets) (r : Record) (s : Sound a r) (small : Small r) (o : Oc
     abbrev x : Segment
     x = upSegment a r s h n e
 
-    data-does : Does (receivedUp r h n a out) (receiving (h .id) x (view a took))
+    data-does : above (hostSide r (h .id)) (h .credits) ≡ false → Does (receivedUp r h n a out) (receiving (h .id) (h .credits) x (view a took))
     unfolding receivedUp heldOpen
-    data-does = go (hostSide r (h .id) .opened) refl
+    data-does below = go (hostSide r (h .id) .opened) refl
       where
-        go : (b : Bool) → hostSide r (h .id) .opened ≡ b → Does (pick b (received r h n a out) (droppedUp r a out)) (receiving (h .id) x (view a took))
-        go true w = received-refines a r s h n e (held-place (r .ends .conns) (h .id) (s .shape .conns) w) q out room o small fd follows w
+        go : (b : Bool) → hostSide r (h .id) .opened ≡ b → Does (pick b (received r h n a out) (droppedUp r a out)) (receiving (h .id) (h .credits) x (view a took))
+        go true w = received-refines a r s h n e (held-place (r .ends .conns) (h .id) (s .shape .conns) w) q out room o small fd follows below w
         go false w =
-            subst (λ (b : Bool). Does (droppedUp r a out) (pick b (receivedBy (h .id) x (view a took)) (flaggedAs true (view a took)))) (sym w) drops
+            subst (λ (b : Bool). Does (droppedUp r a out) (pick b (receivedBy (h .id) (h .credits) x (view a took)) (flaggedAs true (view a took)))) (sym w) drops
 
     packet-does : tooMany (view a r) (meant h x) ≡ false → Does (comingUp r h n a out) (coming (meant h x) (view a took))
     unfolding comingUp
     packet-does below = go (eqb (h .mt) 0) (eqb (h .mt) 1) refl below
       where
-        go : (b c : Bool) → eqb (h .mt) 1 ≡ c → tooMany (view a r) (pick b (datum (h .id) x) (control (h .mt) (h .id) (h .oid) x)) ≡ false
+        go : (b c : Bool) → eqb (h .mt) 1 ≡ c → tooMany (view a r) (pick b (datum (h .id) (h .credits) x) (control (h .mt) (h .id) (h .oid) x)) ≡ false
             → Does (pick b (receivedUp r h n a out) (pick c (droppedUp r a out) (heardUp r h n a out)))
-            (coming (pick b (datum (h .id) x) (control (h .mt) (h .id) (h .oid) x)) (view a took))
-        go true c m w = data-does
+            (coming (pick b (datum (h .id) (h .credits) x) (control (h .mt) (h .id) (h .oid) x)) (view a took))
+        go true c m w = data-does w
         go false true m w =
             subst (λ (b : Bool). Does (droppedUp r a out) (pick b (flaggedAs true (view a took)) (heard (h .mt) (h .id) (h .oid) x (view a took)))) (sym m) drops
         go false false m w =

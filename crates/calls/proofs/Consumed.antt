@@ -25,7 +25,7 @@ use Rattle.model.specs.calls.Consume.{isLoop, consumeRules}
 use Rattle.model.proofs.Order.{need}
 use Rattle.calls.specs.Word.{wordOf}
 use Rattle.calls.specs.Outcome.{outcome}
-use Rattle.calls.specs.calls.Consume.{controllerSide, consumedSide, consumedConns, consumedRecord, echoedSlot, consumedOut, consumedAs, Consumable}
+use Rattle.calls.specs.calls.Consume.{controllerSide, consumedSide, echoedSide, consumedConns, consumedRecord, echoedSlot, consumedOut, consumedAs, Consumable}
 
 -- ---- the rules on numbers
 
@@ -84,7 +84,7 @@ consumed-parts r c j len size w b x out t word short area buffer i =
 
 module _ (r : Record) (c : ℕ) (p : Consumable r c) (shape : Shape r) (next : Progress) where
   abbrev pub new : Counts
-  new = record { host = countsOf (r .ends .conns) c .host; controller = consumedSide next (controllerSide r c) }
+  new = record { host = countsOf (r .ends .conns) c .host; controller = echoedSide (isLoop c) (consumedSide next (controllerSide r c)) }
 
   pub there : placeOf c < length (r .ends .conns)
   there = omega (arith, p .place, shape .conns)
@@ -104,7 +104,10 @@ module _ (r : Record) (c : ℕ) (p : Consumable r c) (shape : Shape r) (next : P
               payload = k .payload;
               hand = k .hand;
               host-run = k .host-run;
-              owed = on (λ (n : ℕ). n ≤ controllerSide r c .grant) (flows (controllerSide r c .grant)) (λ l. omega (arith, p .room l)) (λ _. k .owed);
+              owed =
+                  let w = consumedSide next (controllerSide r c) .owed in
+                  let one : w ≤ controllerSide r c .grant = on (λ (n : ℕ). n ≤ controllerSide r c .grant) (flows (controllerSide r c .grant)) (λ l. omega (arith, p .room l)) (λ _. k .owed) in
+                  on (λ (n : ℕ). n ≤ controllerSide r c .grant) (isLoop c) (λ _. omega (arith, one)) (λ _. one);
               store = record { head = omega arith; count = omega (arith, k .store .count) };
               controller-run = short;
             })
@@ -133,7 +136,10 @@ module _ (r : Record) (c : ℕ) (p : Consumable r c) (shape : Shape r) (next : P
               host-grant = k .host-grant;
               held = k .held;
               grant = k .grant;
-              owed = on (λ (n : ℕ). n ≤ 255) (flows (controllerSide r c .grant)) (λ _. omega arith) (λ _. k .owed);
+              owed =
+                  let w = consumedSide next (controllerSide r c) .owed in
+                  let one : w ≤ 255 = on (λ (n : ℕ). n ≤ 255) (flows (controllerSide r c .grant)) (λ _. omega arith) (λ _. k .owed) in
+                  on (λ (n : ℕ). n ≤ 255) (isLoop c) (λ _. omega (arith, one)) (λ _. one);
             })
             (s .conns);
       }

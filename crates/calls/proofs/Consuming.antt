@@ -13,9 +13,10 @@ use Rattle.octets.specs.Octets.{Octets, pick, cut, splice}
 use Rattle.octets.specs.Octal.{Octal}
 use Rattle.octets.proofs.Octets.{length-splice, length-cut}
 use Rattle.octets.proofs.Octal.{octal-cut, octal-splice}
-use Rattle.packets.specs.Packet.{payloadOf}
+use Rattle.packets.specs.Packet.{payloadOf, carrying}
 use Rattle.packets.specs.Segments.{Segment, segment, body, flag}
 use Rattle.packets.specs.Reassembly.{Run}
+use Rattle.packets.proofs.Packet.{octal-carrying}
 use Rattle.packets.proofs.Segments.{flag-segment, body-segment}
 use Rattle.wires.specs.Meaning.{datum, control, meaning}
 use Rattle.wires.proofs.Slots.{first-slot, meaning-junk, meaning-packet}
@@ -44,11 +45,11 @@ use Rattle.model.specs.State as bench
 use Rattle.model.specs.Effects.{Effect, consume, taken}
 use Rattle.model.specs.Refusals.{first}
 use Rattle.model.specs.calls.Consume as model
-use Rattle.model.specs.calls.Consume.{isLoop, segmentIn, joinedRun, joinedMessage, joinedFlag, consuming}
+use Rattle.model.specs.calls.Consume.{isLoop, echoed, segmentIn, joinedEnd, joinedMessage, joinedFlag, consuming}
 use Rattle.model.specs.Bench.{act, judged}
 use Rattle.calls.specs.Seen.{Puts}
 use Rattle.calls.specs.Refines.{Good, Follows, Along, RefinesTo, Refines}
-use Rattle.calls.specs.calls.Consume.{controllerSide, oldestAt, oldest, oldestRead, consumedConns, consumedRecord, consumedRun, echoedSlot, consumedOut, consumedAs, joinedBy, consumedBy, consumed, consumeCall, Consumable}
+use Rattle.calls.specs.calls.Consume.{controllerSide, oldestAt, oldest, oldestRead, consumedConns, consumedRecord, consumedRun, echoedCredits, echoedSlot, consumedOut, consumedAs, joinedBy, consumedBy, consumed, consumeCall, Consumable}
 use Rattle.calls.proofs.Called.{sound-area}
 use Rattle.calls.proofs.Refining.{at-const, at-twice, called-refines}
 use Rattle.calls.proofs.Handed.{handed-seen}
@@ -74,7 +75,7 @@ module _ (a : Octets) (r : Record) (c : ℕ) where
       let x : Segment = segment (h .pbf) (payloadOf (oldest r c a) n) in
       ap (λ (o : Octets). segmentIn (meaning o)) (sym packet-is) ∙ ap segmentIn (meaning-packet (oldest r c a) h n e) ∙ either (eqb (h .mt) 0) x
     where
-      either : (b : Bool) (x : Segment) → segmentIn (pick b (datum (h .id) x) (control (h .mt) (h .id) (h .oid) x)) ≡ x ∷ []
+      either : (b : Bool) (x : Segment) → segmentIn (pick b (datum (h .id) (h .credits) x) (control (h .mt) (h .id) (h .oid) x)) ≡ x ∷ []
       either true x = refl
       either false x = refl
 
@@ -90,7 +91,7 @@ module _ (a : Octets) (r : Record) (c : ℕ) (s : Sound a r) (p : Consumable r c
   abbrev base : ℕ
   base = controllerRunAt (placeOf c)
 
-  -- its packet taken and a credit owed, and the run still as it was
+  -- its packet taken and what is then owed, and the run still as it was
   abbrev between : Record
   between = consumedConns r c before
 
@@ -102,7 +103,7 @@ module _ (a : Octets) (r : Record) (c : ℕ) (s : Sound a r) (p : Consumable r c
 
   -- the model's connection after it, by the segments of the packet
   abbrev becomes : List Segment → Connection → Connection
-  becomes xs k = connection.withController (connection.consumed (rest a r c) (joinedRun (k .controller .run) xs) (k .controller)) k
+  becomes xs k = connection.withController (echoed (isLoop c) (joinedEnd xs (rest a r c) (k .controller))) k
 
   pub took-view : view a between ≡ bench.withConns (bench.at c (becomes []) (view a r .conns)) (view a r)
   took-view =
@@ -131,11 +132,11 @@ module _ (a : Octets) (r : Record) (c : ℕ) (s : Sound a r) (p : Consumable r c
 
 -- ---- on a loopback it goes up
 
-echo-view : (b : Octets) (n : Record) → Sound b n → (from : ℕ) → from + slotSize ≤ length b → (t : Bool) → (t ≡ true → n .up .count < wireSlots)
-    → view (pick t (splice b (freeAt upAt wireSlots (n .up)) (cut from slotSize b)) b) (withUp (pick t (putInto (n .up)) (n .up)) n)
-    ≡ bench.withUp (upOf b n ++ pick t (trim (cut from slotSize b) ∷ []) []) (view b n)
-echo-view b n s from room true free = moves b n s .echo-up from room (free refl)
-echo-view b n s from room false free = λ i. bench.withUp (sym (append-nil (upOf b n)) i) (view b n)
+echo-view : (b : Octets) (n : Record) → Sound b n → (from credits : ℕ) → from + slotSize ≤ length b → (t : Bool) → (t ≡ true → n .up .count < wireSlots)
+    → view (pick t (splice b (freeAt upAt wireSlots (n .up)) (carrying credits (cut from slotSize b))) b) (withUp (pick t (putInto (n .up)) (n .up)) n)
+    ≡ bench.withUp (upOf b n ++ pick t (carrying credits (trim (cut from slotSize b)) ∷ []) []) (view b n)
+echo-view b n s from credits room true free = moves b n s .echo-up from credits room (free refl)
+echo-view b n s from credits room false free = λ i. bench.withUp (sym (append-nil (upOf b n)) i) (view b n)
 
 echo-added : (q : ℕ) (k : Ring) (w : List Octets) (x : Octets) (t : Bool) → Follows q k
     → Added q (pick t 1 0) (pick t (putInto k) k) (w ++ pick t (x ∷ []) []) (pick t (x ∷ []) [])
@@ -177,15 +178,17 @@ module _ (a out : Octets) (r : Record) (c : ℕ) (s : Sound a r) (small : Small 
 
     next-view : view (echoedSlot r c b) (consumedRecord r c (j .next)) ≡ does .next
     next-view =
-        echo-view b (consumedConns r c (j .next)) sound (oldestAt r c) slot-room (isLoop c) (p .free)
-        ∙ (λ i. bench.withUp (k .next i .up ++ pick (isLoop c) ((ap trim (k .kept) ∙ packet-is a r c) i ∷ []) []) (k .next i))
+        echo-view b (consumedConns r c (j .next)) sound (oldestAt r c) (echoedCredits r c) slot-room (isLoop c) (p .free)
+        ∙ (λ i. bench.withUp (k .next i .up ++ pick (isLoop c) (carrying (echoedCredits r c) ((ap trim (k .kept) ∙ packet-is a r c) i) ∷ []) []) (k .next i))
 
     echoed-long : areaSize ≤ length (echoedSlot r c b)
     echoed-long =
-        on (λ (x : Octets). areaSize ≤ length x) (isLoop c) (λ _. omega (arith, k .long, length-splice b (freeAt upAt wireSlots (r .up)) (oldest r c b))) (λ _. k .long)
+        on (λ (x : Octets). areaSize ≤ length x) (isLoop c) (λ _. omega (arith, k .long, length-splice b (freeAt upAt wireSlots (r .up)) (carrying (echoedCredits r c) (oldest r c b)))) (λ _. k .long)
 
     echoed-octal : Octal (echoedSlot r c b)
-    echoed-octal = on Octal (isLoop c) (λ _. octal-splice (freeAt upAt wireSlots (r .up)) (k .octal) (octal-cut (oldestAt r c) slotSize (k .octal))) (λ _. k .octal)
+    echoed-octal =
+        on Octal (isLoop c)
+        (λ _. octal-splice (freeAt upAt wireSlots (r .up)) (k .octal) (octal-carrying (echoedCredits r c) (oldest r c b) (octal-cut (oldestAt r c) slotSize (k .octal)))) (λ _. k .octal)
 
     message-long : j .done ≡ true → length (cut (base a r c s p) len b) ≡ len
     message-long d = length-cut (base a r c s p) len b (omega (arith, k .long, k .few d, p .place))
@@ -206,7 +209,7 @@ module _ (a out : Octets) (r : Record) (c : ℕ) (s : Sound a r) (small : Small 
           message = handed-seen (j .done) (cut (base a r c s p) len b) out len message-long (λ d. omega (arith, k .few d, room)) ∙ k .message;
           next = next-view;
           toDown = added-none (q .down) (r .down) (view a r .down) down;
-          toUp = echo-added (q .up) (r .up) (upOf a r) (packet a r c) (isLoop c) up;
+          toUp = echo-added (q .up) (r .up) (upOf a r) (carrying (echoedCredits r c) (packet a r c)) (isLoop c) up;
         })
         refl)
 

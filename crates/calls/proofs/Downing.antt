@@ -98,7 +98,7 @@ needs-two h v = go (eqb (h .mt) 0) refl (h .pbf)
     yes-if true = refl
     yes-if false = refl
 
-    go : (b : Bool) → eqb (h .mt) 0 ≡ b → (f : Bool) → needsTwo (pick b (datum (h .id) (segment f v)) (control (h .mt) (h .id) (h .oid) (segment f v))) ≡ (eqb (h .mt) 1 && not f)
+    go : (b : Bool) → eqb (h .mt) 0 ≡ b → (f : Bool) → needsTwo (pick b (datum (h .id) (h .credits) (segment f v)) (control (h .mt) (h .id) (h .oid) (segment f v))) ≡ (eqb (h .mt) 1 && not f)
     go true e f = let z : eqb (h .mt) 1 ≡ false = ne-eqb (h .mt) 1 (λ q. let y = eqb-true (h .mt) 0 e in omega arith) in rw z
     go false e true = no (eqb (h .mt) 1)
     go false e false = yes-if (eqb (h .mt) 1)
@@ -126,7 +126,7 @@ module _ (a : Octets) (r : Record) where
       x : Segment
       x = segment (h .pbf) (payloadOf (cut (downSlot r) slotSize a) n)
 
-      go : (b : Bool) → storeFull (view a r) (pick b (datum (h .id) x) (control (h .mt) (h .id) (h .oid) x))
+      go : (b : Bool) → storeFull (view a r) (pick b (datum (h .id) (h .credits) x) (control (h .mt) (h .id) (h .oid) x))
           ≡ (b && controllerSide r (h .id) .opened && leb storeSlots (controllerSide r (h .id) .store .count))
       go true = λ i. controllerSide r (h .id) .opened && leb storeSlots (length-packets (storeAt (placeOf (h .id))) storeSlots a (controllerSide r (h .id) .store) i)
       go false = refl
@@ -350,7 +350,7 @@ module _ (a out : Octets) (r : Record) (s : Sound a r) (small : Small r) (o : Oc
 
         go : (b : Bool) → eqb (h .mt) 0 ≡ b
             → Does (pick b (dataDown t (downSlot r) (h .id) a out) (pick (eqb (h .mt) 1) (commandDown t (downSlot r) h n a out) (downDropped t a out)))
-            (arriving (pick b (datum (h .id) x) (control (h .mt) (h .id) (h .oid) x)) (packet a r) (view a t))
+            (arriving (pick b (datum (h .id) (h .credits) x) (control (h .mt) (h .id) (h .oid) x)) (packet a r) (view a t))
         go true w = does-data (eqb-true (h .mt) 0 w)
         go false w = asks
 

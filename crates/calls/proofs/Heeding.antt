@@ -43,13 +43,13 @@ changed-view p a closes h = refl
 changed-view p a (gives n) h = refl
 
 -- a change after which a connection is within row 1
-abbrev ChangeFits : Change → HostSide → Type 0
+abbrev pub ChangeFits : Change → HostSide → Type 0
 ChangeFits stays h = Unit {0}
 ChangeFits (opens t) h = TermsFit t
 ChangeFits closes h = Unit {0}
 ChangeFits (gives n) h = (h .opened && flows (h .grant)) ≡ true → h .held + n ≤ h .grant
 
-changed-fits : (x : Change) (k : Counts) → ChangeFits x (k .host) → FitCounts k → k .host .grant ≤ 255 → FitCounts (countsAtHost x k)
+pub changed-fits : (x : Change) (k : Counts) → ChangeFits x (k .host) → FitCounts k → k .host .grant ≤ 255 → FitCounts (countsAtHost x k)
 changed-fits stays k w f low = f
 changed-fits (opens t) k w f low =
     record {
@@ -82,7 +82,7 @@ changed-fits (gives n) k w f low =
       controller-run = f .controller-run;
     }
 
-changed-small : (x : Change) (k : Counts) → ChangeFits x (k .host) → SmallCounts k → SmallCounts (countsAtHost x k)
+pub changed-small : (x : Change) (k : Counts) → ChangeFits x (k .host) → SmallCounts k → SmallCounts (countsAtHost x k)
 changed-small stays k w s = s
 changed-small (opens t) k w s =
     let c = credits-small (t .credits) (w .credits-ok) in
@@ -98,7 +98,7 @@ changed-small (gives n) k w s =
     }
 
 -- credits that refusal 13 lets pass
-given-fits : (h : HostSide) (n : ℕ) → above h n ≡ false → ChangeFits (gives n) h
+pub given-fits : (h : HostSide) (n : ℕ) → above h n ≡ false → ChangeFits (gives n) h
 given-fits h n e w = ltb-false (h .grant) (h .held + n) (rw w at e)
 
 -- ---- all of them

@@ -208,7 +208,7 @@ module _ (a out : Octets) (r : Record) (c : ℕ) (s : Sound a r) (small : Small 
   next-view : viewOf area ≡ bench.withDown (downOf a r ++ (pushedPacket r c a ∷ [])) (bench.withConns (bench.at c becomes (view a r .conns)) (view a r))
   next-view =
       stored-view (pushedSlot r c a) (pushedRecord r c) moved-long fit shape
-      ∙ moves a between between-sound .put-down (marked (dataHeader c) (flag (pushedSegment r c a))) (body (pushedSegment r c a)) short (p .free)
+      ∙ moves a between between-sound .put-down (marked (dataHeader c 0) (flag (pushedSegment r c a))) (body (pushedSegment r c a)) short (p .free)
       ∙ (λ i. bench.withDown (downOf a r ++ (pushedPacket r c a ∷ [])) (next-between i))
 
   acts : act (push c) (view a r) ≡ pushing c (pushedSegment r c a ∷ rest) (view a r)
@@ -222,7 +222,7 @@ module _ (a out : Octets) (r : Record) (c : ℕ) (s : Sound a r) (small : Small 
       (octal-cut (hostSide r c .hand .at) (hostSide r c .payload) (octal-cut (handAt (placeOf c)) (hostSide r c .hand .len) o))
       in
       stored-octal (pushedSlot r c a) (pushedRecord r c)
-      (octal-splice (freeAt downAt wireSlots (r .down)) o (octal-packet (marked (dataHeader c) (flag (pushedSegment r c a))) (body (pushedSegment r c a)) short part))
+      (octal-splice (freeAt downAt wireSlots (r .down)) o (octal-packet (marked (dataHeader c 0) (flag (pushedSegment r c a))) (body (pushedSegment r c a)) short part))
       (push-small r c p (s .shape) small)
 
   module _ (q : Puts) (follows : Follows (q .down) (r .down)) (other : Follows (q .up) (r .up)) where

@@ -19,6 +19,7 @@ use Rattle.state.proofs.Chains.{or-left, or-right}
 use Rattle.state.proofs.Places.{each-conn}
 use Rattle.state.proofs.Progress.{control-within, control-base}
 use Rattle.dh.specs.Host.{anyAbove}
+use Rattle.dh.specs.Host as host
 use Rattle.ends.specs.Changes.{aboveBy}
 use Rattle.ends.specs.Steps.{heardIn}
 use Rattle.ends.proofs.Changes.{any-above}
@@ -45,6 +46,7 @@ use Rattle.model.specs.Bench.{act}
 use Rattle.model.specs.calls.Up.{coming, reading, above, anyOf, aboveIn, tooMany, firstTooMany, upRules}
 use Rattle.model.proofs.Order.{need}
 use Rattle.calls.specs.Outcome.{lowest}
+use Rattle.calls.specs.calls.Push.{hostSide}
 use Rattle.calls.specs.calls.Up.{upSlot, upRead, upPayload, upRecord, heardJoin, heardArea, heardMessage, Uppable}
 
 -- ---- the first packet
@@ -171,16 +173,16 @@ module _ (a : Octets) (r : Record) (s : Sound a r) (some : 0 < r .up .count) whe
 
     abbrev aboveBoth : Bool → Bool → Bool
     aboveBoth b c =
-        pick b false (not c && aboveIn (view a r) (h .mt) (h .id) (h .oid) (wholeBy (view a r .hearing) (h .mt) (h .id) (h .oid) x))
+        pick b (host.above (hostSide r (h .id)) (h .credits)) (not c && aboveIn (view a r) (h .mt) (h .id) (h .oid) (wholeBy (view a r .hearing) (h .mt) (h .id) (h .oid) x))
 
     many-read : many ≡ aboveBoth (eqb (h .mt) 0) (eqb (h .mt) 1)
     many-read = up-many a r s some ∙ ap (tooMany (view a r)) (packet-read a r h n e) ∙ go (eqb (h .mt) 0)
       where
-        go : (b : Bool) → tooMany (view a r) (pick b (datum (h .id) x) (control (h .mt) (h .id) (h .oid) x)) ≡ aboveBoth b (eqb (h .mt) 1)
+        go : (b : Bool) → tooMany (view a r) (pick b (datum (h .id) (h .credits) x) (control (h .mt) (h .id) (h .oid) x)) ≡ aboveBoth b (eqb (h .mt) 1)
         go true = refl
         go false = refl
 
-    pub many-data : h .mt ≡ 0 → false ≡ many
+    pub many-data : h .mt ≡ 0 → host.above (hostSide r (h .id)) (h .credits) ≡ many
     many-data m = sym (many-read ∙ ap (λ (b : Bool). aboveBoth b (eqb (h .mt) 1)) (eq-eqb (h .mt) 0 m))
 
     pub many-command : (h .mt ≡ 0 → ⊥) → h .mt ≡ 1 → false ≡ many

@@ -31,7 +31,7 @@ use Rattle.model.specs.Runs.{runAfter, wholeBy, flagBy}
 use Rattle.model.specs.Changes.{atHost}
 use Rattle.model.specs.calls.Push.{pushing}
 use Rattle.model.specs.calls.Down.{answering, arriving, taking}
-use Rattle.model.specs.calls.Consume.{segmentIn, echoed, joinedEnd, consuming}
+use Rattle.model.specs.calls.Consume.{isLoop, segmentIn, echoed, joinedEnd, consuming}
 use Rattle.model.specs.calls.Air.{airedConns, airing}
 use Rattle.model.specs.calls.Reply.{replying}
 use Rattle.model.specs.calls.Up.{coming, reading, heard}
@@ -124,7 +124,7 @@ down-aside (p ∷ w) s = arriving-aside (meaning p) p (withDown w s)
 consume-aside : (c : ℕ) (st : List Octets) (s : State) → Aside s (consuming c st s)
 consume-aside c [] s = (refl, λ d. refl)
 consume-aside c (p ∷ st) s =
-    (refl, host-kept c (λ k. withController (echoed c (joinedEnd (segmentIn (meaning p)) st (k .controller))) k) (s .conns) (λ k. refl))
+    (refl, host-kept c (λ k. withController (echoed (isLoop c) (joinedEnd (segmentIn (meaning p)) st (k .controller))) k) (s .conns) (λ k. refl))
 
 air-hosts : (s : State) (a : Aired) (m : Octets) (d : ℕ) → airedConns (termsOf (s .profile) 0) a m (s .conns) d .host ≡ s .conns d .host
 air-hosts s Refused m d = refl

@@ -31,7 +31,7 @@ use Rattle.model.specs.Refusals.{isNil, noConn}
 use Rattle.dh.specs.Host.{isClosing}
 use Rattle.ends.specs.Changes.{stays, gives, givenTo}
 use Rattle.model.specs.calls.Push.{pushing}
-use Rattle.model.specs.calls.Consume.{isLoop, consuming, consumedAs, segmentIn}
+use Rattle.model.specs.calls.Consume.{isLoop, echoed, consuming, consumedAs, segmentIn}
 use Rattle.model.specs.calls.Credit.{owedBy, allZero}
 use Rattle.model.specs.calls.Reply.{replying}
 use Rattle.model.specs.Bench.{rules}
@@ -153,7 +153,7 @@ module _ (s : State) (aim : ℕ) (l : ℕ → Ledger) (c : ℕ) (p : Octets) (st
   unfolding eaten back whole next returned counted
   consumed-fine = go (isLoop c) refl
     where
-      go : (b : Bool) → isLoop c ≡ b → Kept (next (λ k. pick b (paid (eaten k)) (eaten k)) (pick b (returned ∷ []) [])) (counted (pick b (returned ∷ []) []))
+      go : (b : Bool) → isLoop c ≡ b → Kept (next (λ k. echoed b (eaten k)) (pick b (returned ∷ []) [])) (counted (pick b (returned ∷ []) []))
       go true e = looped e
       go false e = plain e
 

@@ -24,7 +24,7 @@ use Rattle.dh.specs.Host.{hostAfter, hearOf}
 use Rattle.air.specs.Air.{eventOf, airMessage}
 use Rattle.state.proofs.Chains.{on, or-left, or-right}
 use Rattle.state.proofs.Credits.{carriable-few}
-use Rattle.model.specs.Connection.{ControllerEnd, Connection, withHost, withController, sent, pushed, heardData, credited, stored, owedOn, carriedOn, paid, noticed, spoken}
+use Rattle.model.specs.Connection.{Connection, withHost, withController, sent, pushed, heardData, credited, stored, owedOn, carriedOn, paid, noticed, spoken}
 use Rattle.packets.specs.Headers.{dataHeader}
 use Rattle.messages.specs.Packets.{noticePackets}
 use Rattle.wires.proofs.Slots.{meaning-carrying}
@@ -135,12 +135,6 @@ joined-within : (r : Run) (xs : List Segment) → RunWithin dataLimit r → RunW
 joined-within r [] h = h
 joined-within r (x ∷ xs) h = grown-within dataLimit r x
 
--- what is owed has no part in it
-echoed-small : (c : ℕ) (k : ControllerEnd) → ControllerSmall k → ControllerSmall (echoed c k)
-echoed-small c k m =
-    on (λ (j : ControllerEnd). ControllerSmall j) (isLoop c)
-    (λ e. record { stored = m .stored; speech = m .speech; reassembly = m .reassembly }) (λ e. m)
-
 consume-small : (s : State) (aim : ℕ) (l : ℕ → Ledger) (c : ℕ) → first (rules (consume c) s) ≡ taken → Fine s aim l → Small s → Small (act (consume c) s .next)
 unfolding Said
 consume-small s aim l c t f m = go (s .conns c .controller .store) refl
@@ -155,16 +149,14 @@ consume-small s aim l c t f m = go (s .conns c .controller .store) refl
     go : (st : List Octets) → s .conns c .controller .store ≡ st → Small (consuming c st s .next)
     go [] e = m
     go (p ∷ st) e =
-        let after = joinedEnd (segmentIn (meaning p)) st (s .conns c .controller) in
-        let n = carriedOn after in
-        put-small s c (λ k. withController (echoed c (joinedEnd (segmentIn (meaning p)) st (k .controller))) k) (echo c n p)
+        let n = carriedOn (joinedEnd (segmentIn (meaning p)) st (s .conns c .controller)) in
+        put-small s c (λ k. withController (echoed (isLoop c) (joinedEnd (segmentIn (meaning p)) st (k .controller))) k) (echo c n p)
         (need 3 (rules (consume c) s) t) (m .conns c .host)
-        (echoed-small c after
         (record {
           stored = omega (arith, rw e at (m .conns c .controller .stored));
           speech = m .conns c .controller .speech;
           reassembly = joined-within (s .conns c .controller .run) (segmentIn (meaning p)) (m .conns c .controller .reassembly);
-        }))
+        })
         (room n p)
         (on Said (isLoop c) (λ e′. stored-said c n p (meaning p) refl (rw e at (f .standing .stores c) .0)) (λ e′. tt))
         m

@@ -20,7 +20,7 @@ use Rattle.dh.specs.Host.{hearOf}
 use Rattle.air.specs.Air.{eventOf}
 use Rattle.state.proofs.Chains.{on, or-left, or-right}
 use Rattle.state.proofs.Credits.{carriable-few}
-use Rattle.model.specs.Connection.{ControllerEnd, Connection, withHost, withController, sent, pushed, heardData, credited, stored, owedOn, carriedOn, paid, spoken}
+use Rattle.model.specs.Connection.{Connection, withHost, withController, sent, pushed, heardData, credited, stored, owedOn, carriedOn, paid, spoken}
 use Rattle.packets.specs.Headers.{dataHeader, controlHeader}
 use Rattle.wires.proofs.Slots.{meaning-carrying}
 use Rattle.wires.specs.Meaning.{Meaning, datum, control, junk, meaning}
@@ -157,12 +157,6 @@ echo-up c n p (datum b m x) means h five f = (carrying-formed p b m x means f n,
 echo-up c n p (control mt gid oid x) means h five f = absurd h
 echo-up c n p junk means h five f = absurd h
 
--- what is owed has no part in it
-echoed-shaped : (c : ℕ) (k : Connection) (j : ControllerEnd) → ConnShaped (withController j k) → ConnShaped (withController (echoed c j) k)
-echoed-shaped c k j m =
-    on (λ (i : ControllerEnd). ConnShaped (withController i k)) (isLoop c)
-    (λ e. record { store = m .store; hand = m .hand; speech = m .speech }) (λ e. m)
-
 consume-shaped : (s : State) (aim : ℕ) (l : ℕ → Ledger) (c : ℕ) → first (rules (consume c) s) ≡ taken → Fine s aim l → Shaped s → Shaped (act (consume c) s .next)
 consume-shaped s aim l c t f m = go (s .conns c .controller .store) refl
   where
@@ -170,8 +164,7 @@ consume-shaped s aim l c t f m = go (s .conns c .controller .store) refl
     go [] e = m
     go (p ∷ st) e =
         let formed : Each (λ x. Formed x) (p ∷ st) = rw e at (m .conns c .store) in
-        let after = joinedEnd (segmentIn (meaning p)) st (s .conns c .controller) in
-        let n = carriedOn after in
+        let n = carriedOn (joinedEnd (segmentIn (meaning p)) st (s .conns c .controller)) in
         record {
           down = m .down;
           up =
@@ -179,8 +172,8 @@ consume-shaped s aim l c t f m = go (s .conns c .controller .store) refl
               (on (Each UpOk) (isLoop c)
               (λ y. (echo-up c n p (meaning p) refl (rw e at (f .standing .stores c) .0) (need 3 (rules (consume c) s) t) (formed .0), tt)) (λ y. tt));
           conns =
-              at-shaped c (λ k. withController (echoed c (joinedEnd (segmentIn (meaning p)) st (k .controller))) k) (s .conns)
-              (echoed-shaped c (s .conns c) after (record { store = formed .1; hand = m .conns c .hand; speech = m .conns c .speech })) (m .conns);
+              at-shaped c (λ k. withController (echoed (isLoop c) (joinedEnd (segmentIn (meaning p)) st (k .controller))) k) (s .conns)
+              (record { store = formed .1; hand = m .conns c .hand; speech = m .conns c .speech }) (m .conns);
         }
 
 credit-shaped : (s : State) → Shaped s → Shaped (act credit s .next)

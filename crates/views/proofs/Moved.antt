@@ -2,18 +2,18 @@
 -- Assumes nothing.
 use Prim.Native.Nat.{ℕ, _+_, _%_, _≤_, _<_}
 use native.Mathlib.Omega.{arith}
-use mathlib.Core.Path.{_≡_}
+use mathlib.Core.Path.{_≡_, _∙_}
 use mathlib.Core.Logic.{inl, inr}
 use mathlib.Core.List.{[], _∷_, _++_}
 use lib.ListN.{length}
 use Rattle.octets.specs.Octets.{Octets, cut, splice}
 use Rattle.octets.proofs.Octets.{length-cut}
 use Rattle.views.specs.Kinds.{Header, Record}
-use Rattle.packets.specs.Packet.{packetOf}
-use Rattle.packets.proofs.Packet.{length-packet}
+use Rattle.packets.specs.Packet.{packetOf, carrying}
+use Rattle.packets.proofs.Packet.{length-packet, length-carrying}
 use Rattle.area.specs.Map.{downAt, upAt, storeAt, handAt, endpointAt, hostRunAt, controllerRunAt, askingAt, hearingAt, payloadSize, slotSize, wireSlots, wireSize, storeSize, messageSize, controlSize, storesAt}
 use Rattle.area.specs.Ring.{slotPacket, trim, freeAt, tookFrom, putInto}
-use Rattle.area.proofs.Rings.{slot-written, slot-copied, wire, packets-put, packets-took}
+use Rattle.area.proofs.Rings.{slot-written, slot-copied, trim-carrying, wire, packets-put, packets-took}
 use Rattle.record.specs.Plan.{withDown, withUp}
 use Rattle.model.specs.State as bench
 use Rattle.views.specs.View.{handOf, controlRunOf, connsOf, downOf, upOf, view}
@@ -126,12 +126,14 @@ module _ (a : Octets) (r : Record) (s : Sound a r) where
       puts-up-as (packetOf h m) (packetOf h m) (omega (arith, length-packet h m)) l
       (slot-written upAt a ((r .up .head + r .up .count) % wireSlots) h m k (omega (arith, s .room)))
 
-  pub echo-up : (from : ℕ) → from + slotSize ≤ length a → r .up .count < wireSlots
-      → view (splice a (freeAt upAt wireSlots (r .up)) (cut from slotSize a)) (withUp (putInto (r .up)) r) ≡ bench.withUp (upOf a r ++ (trim (cut from slotSize a) ∷ [])) (view a r)
-  echo-up from k l =
-      let n : length (cut from slotSize a) ≡ slotSize = length-cut from slotSize a k in
-      puts-up-as (cut from slotSize a) (trim (cut from slotSize a)) (omega arith) l
-      (slot-copied upAt a ((r .up .head + r .up .count) % wireSlots) (cut from slotSize a) n (omega (arith, s .room)))
+  pub echo-up : (from n : ℕ) → from + slotSize ≤ length a → r .up .count < wireSlots
+      → view (splice a (freeAt upAt wireSlots (r .up)) (carrying n (cut from slotSize a))) (withUp (putInto (r .up)) r)
+      ≡ bench.withUp (upOf a r ++ (carrying n (trim (cut from slotSize a)) ∷ [])) (view a r)
+  echo-up from n k l =
+      let v : Octets = carrying n (cut from slotSize a) in
+      let long : length v ≡ slotSize = length-carrying n (cut from slotSize a) ∙ length-cut from slotSize a k in
+      puts-up-as v (carrying n (trim (cut from slotSize a))) (omega arith) l
+      (slot-copied upAt a ((r .up .head + r .up .count) % wireSlots) v long (omega (arith, s .room)) ∙ trim-carrying n (cut from slotSize a))
 
   pub took-up : 0 < r .up .count
       → view a r ≡ bench.withUp (slotPacket upAt a (r .up .head) ∷ upOf a (withUp (tookFrom wireSlots (r .up)) r)) (view a (withUp (tookFrom wireSlots (r .up)) r))

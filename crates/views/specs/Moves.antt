@@ -7,7 +7,7 @@ use mathlib.Core.List.{[], _∷_, _++_}
 use lib.ListN.{length, set}
 use Rattle.octets.specs.Octets.{Octets, cut, splice}
 use Rattle.views.specs.Kinds.{Header, Profile, Progress, Counts, Record, Joined}
-use Rattle.packets.specs.Packet.{packetOf}
+use Rattle.packets.specs.Packet.{packetOf, carrying}
 use Rattle.packets.specs.Segments.{Segment, body, flag, segments, segmentAt, packetsOf}
 use Rattle.packets.specs.Reassembly.{grown, finished, flagged}
 use Rattle.state.specs.Conn as conn
@@ -63,10 +63,10 @@ module _ (a : Octets) (r : Record) where
     pub put-up : (h : Header) (m : Octets) → length m ≤ payloadSize → r .up .count < wireSlots
         → view (splice a (freeAt upAt wireSlots (r .up)) (packetOf h m)) (withUp (putInto (r .up)) r)
         ≡ bench.withUp (upOf a r ++ (packetOf h m ∷ [])) (view a r)
-    -- a slot is copied there
-    pub echo-up : (from : ℕ) → from + slotSize ≤ length a → r .up .count < wireSlots
-        → view (splice a (freeAt upAt wireSlots (r .up)) (cut from slotSize a)) (withUp (putInto (r .up)) r)
-        ≡ bench.withUp (upOf a r ++ (trim (cut from slotSize a) ∷ [])) (view a r)
+    -- a slot is copied there, with n credits in its packet
+    pub echo-up : (from n : ℕ) → from + slotSize ≤ length a → r .up .count < wireSlots
+        → view (splice a (freeAt upAt wireSlots (r .up)) (carrying n (cut from slotSize a))) (withUp (putInto (r .up)) r)
+        ≡ bench.withUp (upOf a r ++ (carrying n (trim (cut from slotSize a)) ∷ [])) (view a r)
     -- the first packet of a wire is taken
     pub took-down : 0 < r .down .count
         → view a r ≡ bench.withDown (slotPacket downAt a (r .down .head) ∷ downOf a (withDown (tookFrom wireSlots (r .down)) r)) (view a (withDown (tookFrom wireSlots (r .down)) r))

@@ -1,15 +1,16 @@
 -- consume on octets: the controller takes the oldest stored packet of a connection, its payload joins the controller's run, and a
--- message that it finishes is handed out; on a loopback the packet also goes up, unchanged. A credit is owed if flow-controlled.
+-- message that it finishes is handed out. A credit is owed if flow-controlled; on a loopback the packet also goes up, unchanged but for
+-- the credits that it carries.
 -- Assumes nothing.
-use Prim.Native.Nat.{ℕ, _+_, _≤_, _<_}
+use Prim.Native.Nat.{ℕ, _+_, _-_, _≤_, _<_}
 use mathlib.Core.Path.{_≡_}
-use mathlib.Core.Bool.{true, false}
+use mathlib.Core.Bool.{Bool, true, false}
 use Rattle.octets.specs.Octets.{Octets, pick, cut, splice}
-use Rattle.packets.specs.Packet.{readOf, payloadOf}
+use Rattle.packets.specs.Packet.{readOf, payloadOf, carrying}
 use Rattle.calls.specs.Kinds.{Reading, Progress, Joined, ControllerSide, Record}
 use Rattle.calls.specs.Kinds.reading.{Packet, Drop}
 use Rattle.state.specs.Conn as conn
-use Rattle.state.specs.Conn.{placeOf, countsOf, flows, creditSum}
+use Rattle.state.specs.Conn.{placeOf, countsOf, flows, creditSum, carriedBy}
 use Rattle.state.specs.Runs.{joinedOf}
 use Rattle.area.specs.Map.{slotSize, wireSlots, storeSlots, messageSize, places, upAt, storeAt, controllerRunAt}
 use Rattle.area.specs.Ring.{firstAt, freeAt, tookFrom, putInto}
@@ -51,8 +52,19 @@ consumedSide next k =
       run = next;
     }
 
+-- and once the packet has gone up, if it goes: what it carries is no longer owed
+abbrev pub echoedSide : Bool → ControllerSide → ControllerSide
+echoedSide goes k =
+    record {
+      opened = k .opened;
+      grant = k .grant;
+      owed = pick goes (k .owed - carriedBy k) (k .owed);
+      store = k .store;
+      run = k .run;
+    }
+
 abbrev pub consumedConns : Record → ℕ → Progress → Record
-consumedConns r c next = withConns (conn.withController (r .ends .conns) c (consumedSide next (controllerSide r c))) r
+consumedConns r c next = withConns (conn.withController (r .ends .conns) c (echoedSide (isLoop c) (consumedSide next (controllerSide r c)))) r
 
 abbrev pub consumedRecord : Record → ℕ → Progress → Record
 consumedRecord r c next = withUp (pick (isLoop c) (putInto (r .up)) (r .up)) (consumedConns r c next)
@@ -62,8 +74,12 @@ consumedRecord r c next = withUp (pick (isLoop c) (putInto (r .up)) (r .up)) (co
 abbrev pub consumedRun : Record → ℕ → ℕ → Octets → Octets
 consumedRun r c n a = runArea messageSize (controllerRunAt (placeOf c)) a (controllerSide r c .run) (payloadOf (oldest r c a) n)
 
+-- the credits that it carries, its own among them: how far the run is makes no difference
+abbrev pub echoedCredits : Record → ℕ → ℕ
+echoedCredits r c = carriedBy (consumedSide (controllerSide r c .run) (controllerSide r c))
+
 abbrev pub echoedSlot : Record → ℕ → Octets → Octets
-echoedSlot r c a = pick (isLoop c) (splice a (freeAt upAt wireSlots (r .up)) (oldest r c a)) a
+echoedSlot r c a = pick (isLoop c) (splice a (freeAt upAt wireSlots (r .up)) (carrying (echoedCredits r c) (oldest r c a))) a
 
 -- ---- what it comes to, from the run after it: j, a message of len octets where it is done, and a, the area with it
 

@@ -47,7 +47,7 @@ abbrev pub pushedSegment : Record → ℕ → Octets → Segment
 pushedSegment r c a = segmentAt (hostSide r c .payload) (cut (handAt (placeOf c)) (hostSide r c .hand .len) a) (hostSide r c .hand .at)
 
 abbrev pub pushedPacket : Record → ℕ → Octets → Octets
-pushedPacket r c a = segmentPacket (dataHeader c) (pushedSegment r c a)
+pushedPacket r c a = segmentPacket (dataHeader c 0) (pushedSegment r c a)
 
 abbrev pub pushedSlot : Record → ℕ → Octets → Octets
 pushedSlot r c a = splice a (freeAt downAt wireSlots (r .down)) (pushedPacket r c a)

@@ -1,4 +1,4 @@
--- reply on octets: the next segment of the endpoint's message goes up on connection 0.
+-- reply on octets: the next segment of the endpoint's message goes up on connection 0, with the credits that it carries.
 -- Assumes nothing.
 use Prim.Native.Nat.{ℕ, _<_}
 use mathlib.Core.Path.{_≡_}
@@ -7,17 +7,19 @@ use Rattle.octets.specs.Octets.{Octets, cut, splice}
 use Rattle.packets.specs.Segments.{Segment, segmentAt, segmentPacket}
 use Rattle.packets.specs.Headers.{dataHeader}
 use Rattle.calls.specs.Kinds.{Hand, Record}
-use Rattle.state.specs.Conn.{handAfter}
+use Rattle.state.specs.Conn as conn
+use Rattle.state.specs.Conn.{handAfter, carriedBy, paidSide}
 use Rattle.area.specs.Map.{payloadSize, wireSlots, upAt, endpointAt}
 use Rattle.area.specs.Ring.{freeAt, putInto}
 use Rattle.record.specs.Reading.{decodeOf}
 use Rattle.record.specs.Claims.{stored}
 use Rattle.record.specs.Fit.{FitRing, FitHand}
-use Rattle.record.specs.Plan.{withUp, withEndpoint}
+use Rattle.record.specs.Plan.{withUp, withConns, withEndpoint}
 use Rattle.views.specs.View.{viewOf}
 use Rattle.model.specs.calls.Reply.{replyRules}
 use Rattle.calls.specs.Word.{wordOf}
 use Rattle.calls.specs.Outcome.{Outcome, outcome, called}
+use Rattle.calls.specs.calls.Consume.{controllerSide}
 
 -- the endpoint's message in hand
 abbrev pub endpointHand : Record → Hand
@@ -25,8 +27,12 @@ endpointHand r = r .ends .endpoint
 
 -- ---- the record after it
 
+-- what the packet carries is no longer owed
+abbrev pub repliedConns : Record → Record
+repliedConns r = withConns (conn.withController (r .ends .conns) 0 (paidSide (controllerSide r 0))) r
+
 abbrev pub repliedRecord : Record → Record
-repliedRecord r = withUp (putInto (r .up)) (withEndpoint (handAfter payloadSize (endpointHand r)) r)
+repliedRecord r = withUp (putInto (r .up)) (withEndpoint (handAfter payloadSize (endpointHand r)) (repliedConns r))
 
 -- ---- the area after it
 
@@ -35,7 +41,7 @@ abbrev pub repliedSegment : Record → Octets → Segment
 repliedSegment r a = segmentAt payloadSize (cut endpointAt (endpointHand r .len) a) (endpointHand r .at)
 
 abbrev pub repliedPacket : Record → Octets → Octets
-repliedPacket r a = segmentPacket (dataHeader 0) (repliedSegment r a)
+repliedPacket r a = segmentPacket (dataHeader 0 (carriedBy (controllerSide r 0))) (repliedSegment r a)
 
 abbrev pub repliedSlot : Record → Octets → Octets
 repliedSlot r a = splice a (freeAt upAt wireSlots (r .up)) (repliedPacket r a)

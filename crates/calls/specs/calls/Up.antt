@@ -8,11 +8,12 @@ use lib.ListN.{length}
 use lib.Dec.{eqb}
 use Rattle.octets.specs.Octets.{Octets, pick, cut, splice}
 use Rattle.packets.specs.Packet.{readOf, payloadOf}
-use Rattle.calls.specs.Kinds.{Header, Reading, Ends, Record, Joined, ControlJoined, Heeded}
+use Rattle.calls.specs.Kinds.{Header, Reading, HostSide, Ends, Record, Joined, ControlJoined, Heeded}
 use Rattle.calls.specs.Kinds.reading.{Packet, Drop}
 use Rattle.state.specs.Conn as conn
 use Rattle.state.specs.Conn.{placeOf}
 use Rattle.state.specs.Runs.{joinedOf, runFor, controlJoined}
+use Rattle.dh.specs.Host.{credited}
 use Rattle.ends.specs.Steps.{heeded}
 use Rattle.area.specs.Map.{slotSize, wireSlots, messageSize, controlSize, places, upAt, hostRunAt, hearingAt}
 use Rattle.area.specs.Ring.{firstAt, tookFrom}
@@ -47,13 +48,17 @@ upRecord r e = record { ends = e; down = r .down; up = tookFrom wireSlots (r .up
 abbrev pub droppedUp : Record → Octets → Octets → Outcome
 droppedUp r a out = outcome (wordOf true false 0 0 0) (stored a (upRecord r (r .ends))) out
 
--- ---- data: the segment joins the connection's run, and a message that it finishes is handed out
+-- ---- data: its credits are held, the segment joins the connection's run, and a message that it finishes is handed out
 
 abbrev pub receivedJoin : Record → Header → ℕ → Joined
 receivedJoin r h n = joinedOf messageSize (hostSide r (h .id) .run) (h .pbf) n
 
+-- the connection with the packet's credits
+abbrev pub receivedSide : Record → Header → HostSide
+receivedSide r h = credited (hostSide r (h .id)) (h .credits)
+
 abbrev pub receivedEnds : Record → Header → ℕ → Ends
-receivedEnds r h n = withConns (conn.withHost (r .ends .conns) (h .id) (withHostRun (receivedJoin r h n .next) (hostSide r (h .id)))) r .ends
+receivedEnds r h n = withConns (conn.withHost (r .ends .conns) (h .id) (withHostRun (receivedJoin r h n .next) (receivedSide r h))) r .ends
 
 abbrev pub receivedArea : Record → Header → ℕ → Octets → Octets
 receivedArea r h n a = runArea messageSize (hostRunAt (placeOf (h .id))) a (hostSide r (h .id) .run) (upPayload r n a)
@@ -77,7 +82,7 @@ abbrev pub received : Record → Header → ℕ → Octets → Octets → Outcom
 received r h n a out =
     outcome (receivedWord r h n) (stored (receivedArea r h n a) (upRecord r (receivedEnds r h n))) (receivedOut r h n a out)
 
--- data for a connection not open at the host is dropped
+-- data for a connection not open at the host is dropped, its credits with it
 unfoldable pub receivedUp : Record → Header → ℕ → Octets → Octets → Outcome
 receivedUp r h n a out = pick (hostSide r (h .id) .opened) (received r h n a out) (droppedUp r a out)
 

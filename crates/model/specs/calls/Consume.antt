@@ -1,7 +1,7 @@
 -- consume: the controller takes the oldest stored packet into reassembly; on a loopback it also goes up, unchanged but for the credits
 -- that it carries (003, 3.4.3).
 -- Assumes nothing.
-use Prim.Native.Nat.{ℕ}
+use Prim.Native.Nat.{ℕ, _-_}
 use mathlib.Core.Bool.{Bool, true, not, _&&_}
 use mathlib.Core.List.{List, [], _∷_}
 use lib.Dec.{eqb, leb}
@@ -11,7 +11,7 @@ use Rattle.packets.specs.Segments.{Segment}
 use Rattle.packets.specs.Reassembly.{Run, grown, finished, flagged}
 use Rattle.state.specs.Conn.{flows}
 use Rattle.state.specs.Runs.{dataLimit}
-use Rattle.model.specs.Connection.{ControllerEnd, withController, consumed, carriedOn, paid}
+use Rattle.model.specs.Connection.{ControllerEnd, withController, consumed, carriedOn}
 use Rattle.wires.specs.Meaning.{Meaning, datum, control, junk, meaning}
 use Rattle.model.specs.State.{State, isOpen, at, withConns}
 use Rattle.model.specs.Effects.{Effect, quiet, puttingUp}
@@ -25,9 +25,17 @@ isLoop c = not (eqb 0 c)
 abbrev pub echo : ℕ → ℕ → Octets → List Octets
 echo c n p = pick (isLoop c) (carrying n p ∷ []) []
 
--- connection c at the controller once the packet has gone up, if it goes
-abbrev pub echoed : ℕ → ControllerEnd → ControllerEnd
-echoed c k = pick (isLoop c) (paid k) k
+-- the connection once the packet has gone up, if it goes: what it carries is no longer owed
+abbrev pub echoed : Bool → ControllerEnd → ControllerEnd
+echoed goes k =
+    record {
+      opened = k .opened;
+      grant = k .grant;
+      owed = pick goes (k .owed - carriedOn k) (k .owed);
+      store = k .store;
+      run = k .run;
+      speech = k .speech;
+    }
 
 -- the segment of a stored packet; one that cannot be read has none, and is dropped
 abbrev pub segmentIn : Meaning → List Segment
@@ -54,7 +62,7 @@ joinedEnd xs rest k = consumed rest (joinedRun (k .run) xs) k
 abbrev pub consumedAs : ℕ → List Segment → Octets → List Octets → State → Effect
 consumedAs c xs p rest s =
     puttingUp (joinedFlag (s .conns c .controller .run) xs) (echo c (carriedOn (joinedEnd xs rest (s .conns c .controller))) p) (joinedMessage (s .conns c .controller .run) xs)
-    (withConns (at c (λ k. withController (echoed c (joinedEnd xs rest (k .controller))) k) (s .conns)) s)
+    (withConns (at c (λ k. withController (echoed (isLoop c) (joinedEnd xs rest (k .controller))) k) (s .conns)) s)
 
 abbrev pub consuming : ℕ → List Octets → State → Effect
 consuming c [] s = quiet s
