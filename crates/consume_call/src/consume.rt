@@ -1,5 +1,5 @@
 // consume: the controller takes the oldest stored packet of a connection into reassembly and hands out a finished message; on
-// a loopback the packet also goes up, unchanged.
+// a loopback the packet also goes up, unchanged but for the credits that it carries.
 use crate::word;
 use area::map;
 use area::movers;
@@ -28,7 +28,7 @@ ghost use Rattle.views.specs.View.{view};
 ghost use Rattle.model.specs.calls.Consume.{isLoop, consumeRules};
 ghost use Rattle.calls.specs.Word.{wordOf};
 ghost use Rattle.calls.specs.Outcome.{outcome, Lowest};
-ghost use Rattle.calls.specs.calls.Consume.{controllerSide, oldestAt, oldestRead, consumedSide, consumedRecord, consumedRun, echoedSlot, consumedWord, consumedAs, joinedBy, consumed, Consumable};
+ghost use Rattle.calls.specs.calls.Consume.{controllerSide, oldestAt, oldestRead, consumedSide, echoedSide, echoedCredits, consumedRecord, consumedRun, echoedSlot, consumedWord, consumedAs, joinedBy, consumed, Consumable};
 
 // ---- what refuses it
 
@@ -93,6 +93,17 @@ fn consumed_side(k: ControllerSide, next: Progress) -> ControllerSide
     }
 }
 
+// The connection once the packet has gone up, on a loopback: what it carries is no longer owed.
+fn echoed_side(k: ControllerSide, conn: u8) -> ControllerSide
+    ensures { λ x. ⌜ x ≡ echoedSide (isLoop conn) k ⌝ }
+{
+    let loops = 0 != conn;
+    if loops {
+        return conn::paid(k);
+    }
+    k
+}
+
 // The up wire after it: on a loopback it has one packet more.
 fn up_after(up: Ring, conn: u8) -> Ring
     requires { ⌜ (isLoop conn ≡ true → up .count < wireSlots) ⌝ }
@@ -115,7 +126,8 @@ fn plan(r: Record, conn: u8, next: Progress) -> Record
     let down = r.down;
     let up = r.up;
     let k = side_of(r, conn);
-    let side = consumed_side(k, next);
+    let consumed = consumed_side(k, next);
+    let side = echoed_side(consumed, conn);
     let after = conn::with_controller(conns, conn, side);
     let ring = up_after(up, conn);
     ends.conns = after;
@@ -149,7 +161,18 @@ fn read(area: &[u8], r: Record, conn: u8) -> Reading
     movers::read_slot(area, slot)
 }
 
-// On a loopback the slot is copied into the first free slot of the up wire.
+// The credits that the packet carries: its own is owed first.
+fn credits_back(r: Record, conn: u8) -> u8
+    requires { ⌜ Consumable r conn ⌝ }
+    ensures { λ x. ⌜ x ≡ echoedCredits r conn ⌝ }
+{
+    let k = side_of(r, conn);
+    let run = k.run;
+    let side = consumed_side(k, run);
+    conn::carried(side)
+}
+
+// On a loopback the slot is copied into the first free slot of the up wire, with the credits that the packet carries.
 fn echo(area: &mut [u8], r: Record, conn: u8)
     requires { ⌜ (areaSize ≤ length (now area)) × Consumable r conn ⌝ }
     ensures { λ _. ⌜ now (area .exit) ≡ echoedSlot r conn (now (area .entry)) ⌝ }
@@ -159,7 +182,8 @@ fn echo(area: &mut [u8], r: Record, conn: u8)
         let up = r.up;
         let from = oldest_at(r, conn);
         let to = ring::free_at(map::UP_AT, map::WIRE, up);
-        movers::copy_slot(area, from, to);
+        let credits = credits_back(r, conn);
+        movers::return_slot(area, from, to, credits);
     }
 }
 

@@ -96,6 +96,7 @@ fn put_notice(area: &mut [u8], slot: usize, p: Profile, m: &[u8])
         pbf: false,
         id: note.gid,
         oid: note.oid,
+        credits: 0,
         spare: 0,
     };
     movers::put_packet(area, slot, header, &buffer[0..len]);

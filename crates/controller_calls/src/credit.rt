@@ -84,6 +84,7 @@ fn put_notice(area: &mut [u8], slot: usize, conns: [Counts; 5])
         pbf: false,
         id: note.gid,
         oid: note.oid,
+        credits: 0,
         spare: 0,
     };
     movers::put_packet(area, slot, header, &buffer[0..len]);

@@ -1,4 +1,4 @@
-// reply: the next segment of the endpoint's message goes up on connection 0.
+// reply: the next segment of the endpoint's message goes up on connection 0, with the credits that it carries.
 use area::map;
 use area::movers;
 use area::ring;
@@ -6,6 +6,7 @@ use octets::choose;
 use packets::Header;
 use record::write;
 use state::conn;
+use state::kinds::ControllerSide;
 use state::kinds::Record;
 ghost use mathlib.Core.Path.{_≡_};
 ghost use Prim.Native.Nat.{_≤_};
@@ -15,6 +16,7 @@ ghost use Rattle.record.specs.Claims.{stored};
 ghost use Rattle.views.specs.View.{view};
 ghost use Rattle.model.specs.calls.Reply.{replyRules};
 ghost use Rattle.calls.specs.Outcome.{Lowest};
+ghost use Rattle.calls.specs.calls.Consume.{controllerSide};
 ghost use Rattle.calls.specs.calls.Reply.{repliedRecord, repliedSlot, repliedWord, Replyable};
 
 // The number for which a reply is not taken, 0 for none: the first of the model's rules, whatever the area's octets are.
@@ -28,16 +30,32 @@ pub fn refusal(r: Record) -> u8
     choose(map::WIRE <= count, 4, eight)
 }
 
-// The record after a reply.
+// Connection 0 at the controller.
+fn static_side(r: Record) -> ControllerSide
+    ensures { λ x. ⌜ x ≡ controllerSide r 0 ⌝ }
+{
+    let ends = r.ends;
+    let conns = ends.conns;
+    let k = conn::counts_of(conns, 0);
+    let side = k.controller;
+    side
+}
+
+// The record after a reply: what the packet carries is no longer owed.
 fn plan(r: Record) -> Record
     requires { ⌜ Replyable r ⌝ }
     ensures { λ x. ⌜ x ≡ repliedRecord r ⌝ }
 {
     let mut ends = r.ends;
+    let conns = ends.conns;
     let down = r.down;
     let up = r.up;
+    let k = static_side(r);
+    let side = conn::paid(k);
+    let after = conn::with_controller(conns, 0, side);
     let next = conn::hand_after(map::PAYLOAD, ends.endpoint);
     let ring = ring::put_into(up);
+    ends.conns = after;
     ends.endpoint = next;
     Record {
         ends: ends,
@@ -54,12 +72,15 @@ fn put(area: &mut [u8], r: Record)
     let ends = r.ends;
     let hand = ends.endpoint;
     let up = r.up;
+    let k = static_side(r);
+    let credits = conn::carried(k);
     let slot = ring::free_at(map::UP_AT, map::WIRE, up);
     let header = Header {
         mt: packets::DATA,
         pbf: false,
         id: 0,
         oid: 0,
+        credits: credits,
         spare: 0,
     };
     movers::put_segment(

@@ -21,7 +21,7 @@ fn exceeds(grant: u8, held: u8, n: usize) -> bool
 }
 
 // Whether n more credits would bring a connection, open and flow-controlled, above its grant.
-fn above(s: HostSide, n: usize) -> bool
+pub fn above(s: HostSide, n: usize) -> bool
     ensures { λ r. ⌜ r ≡ above s n ⌝ }
 {
     let over = exceeds(s.grant, s.held, n);

@@ -276,7 +276,7 @@ pub fn host_after(h: Host, x: Heard) -> Host
 }
 
 // Credits come to a connection: open and flow-controlled, it holds so many more; for any other they do nothing.
-fn credited(s: HostSide, n: usize) -> HostSide
+pub fn credited(s: HostSide, n: usize) -> HostSide
     ensures { λ r. ⌜ r ≡ credited s n ⌝ }
 {
     let mut next = s;

@@ -176,6 +176,7 @@ fn put_note(area: &mut [u8], up: Ring, mt: u8, note: Note, m: &[u8])
         pbf: false,
         id: note.gid,
         oid: note.oid,
+        credits: 0,
         spare: 0,
     };
     movers::put_packet(area, slot, h, octets::window(m, 0, len));

@@ -103,6 +103,7 @@ fn put(area: &mut [u8], r: Record, gid: u8, oid: u8, payload: &[u8]) -> usize
         pbf: false,
         id: gid,
         oid: oid,
+        credits: 0,
         spare: 0,
     };
     movers::put_all(area, map::DOWN_AT, down, header, size, payload)

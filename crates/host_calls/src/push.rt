@@ -115,6 +115,7 @@ fn put(area: &mut [u8], r: Record, conn: u8)
         pbf: false,
         id: conn,
         oid: 0,
+        credits: 0,
         spare: 0,
     };
     movers::put_segment(area, slot, header, size, from, hand.len, hand.at);

@@ -36,6 +36,7 @@ fn put_packet(
         pbf: false,
         id: note.gid,
         oid: note.oid,
+        credits: 0,
         spare: 0,
     };
     let wrote = packets::write(&mut slot, head, octets::window(message, 0, len));

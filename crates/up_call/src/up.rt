@@ -23,7 +23,7 @@ ghost use lib.ListN.{length};
 ghost use Rattle.octets.specs.Octets.{pick, cut, splice};
 ghost use Rattle.packets.specs.Segments.{segment};
 ghost use Rattle.state.specs.Conn.{placeOf};
-ghost use Rattle.dh.specs.Host.{anyAbove};
+ghost use Rattle.dh.specs.Host.{above as aboveGrant, anyAbove};
 ghost use Rattle.ends.specs.Steps.{heardIn, heeded};
 ghost use Rattle.area.specs.Map.{areaSize, payloadSize, messageSize, controlSize, places, hostRunAt, hearingAt};
 ghost use Rattle.record.specs.Claims.{stored};
@@ -33,6 +33,7 @@ ghost use Rattle.model.specs.Runs.{wholeBy};
 ghost use Rattle.model.specs.calls.Up.{aboveIn, firstTooMany, upRules};
 ghost use Rattle.calls.specs.Word.{wordOf};
 ghost use Rattle.calls.specs.Outcome.{outcome, lowest};
+ghost use Rattle.calls.specs.calls.Push.{hostSide};
 ghost use Rattle.calls.specs.calls.Up.{upRead, upPayload, upRecord, receivedJoin, receivedEnds, receivedArea, receivedLength, receivedWord, received, receivedUp, heardArea, heardEnds, heardWord, comingUp, upped, Uppable};
 
 // ---- refusals
@@ -81,6 +82,17 @@ fn above(area: &[u8], r: Record, h: Header, n: usize) -> bool
     passes(ends, h, &m[0..base + n])
 }
 
+// Whether the credits of a data packet would bring its connection above its grant.
+fn carries_above(r: Record, h: Header) -> bool
+    ensures { λ x. ⌜ x ≡ aboveGrant (hostSide r (h .id)) (h .credits) ⌝ }
+{
+    let ends = r.ends;
+    let conns = ends.conns;
+    let k = conn::counts_of(conns, h.id);
+    let side = k.host;
+    grants::above(side, h.credits as usize)
+}
+
 // Whether the first packet would bring a connection above its grant.
 fn too_many(area: &[u8], r: Record) -> bool
     requires { ⌜ Sound (now area) r × (0 < r .up .count) ⌝ }
@@ -93,7 +105,7 @@ fn too_many(area: &[u8], r: Record) -> bool
         return false;
     };
     if h.mt == packets::DATA {
-        return false;
+        return carries_above(r, h);
     }
     if h.mt == packets::COMMAND {
         return false;
@@ -143,17 +155,18 @@ fn discard(area: &mut [u8], r: Record) -> u64
 
 // ---- data
 
-// Both ends after a segment of data.
+// Both ends after a data packet: its credits are held, and its segment has joined the run.
 fn received_ends(r: Record, h: Header, n: usize) -> Ends
     ensures { λ x. ⌜ x ≡ receivedEnds r h n ⌝ }
 {
     let mut ends = r.ends;
     let conns = ends.conns;
     let k = conn::counts_of(conns, h.id);
-    let mut side = k.host;
-    let run = side.run;
+    let before = k.host;
+    let run = before.run;
     let j = runs::join(map::MESSAGE, run, h.pbf, n);
     let progress = j.next;
+    let mut side = host::credited(before, h.credits as usize);
     side.run = progress;
     let next = conn::with_host(conns, h.id, side);
     ends.conns = next;

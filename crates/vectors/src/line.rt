@@ -17,6 +17,7 @@ fn put_header(out: &mut [u8], at: usize, h: packets::Header, len: usize) -> usiz
     n = text::put_flag(out, n, b" pbf=", h.pbf);
     n = text::put_small(out, n, b" id=", h.id);
     n = text::put_octets(out, n, b" oid=", &[h.oid]);
+    n = text::put_octets(out, n, b" credits=", &[h.credits]);
     n = text::put_octets(out, n, b" spare=", &[h.spare]);
     text::put_number(out, n, b" len=", len)
 }

@@ -1,12 +1,21 @@
 -- `controller_calls::reply::put` meets its contract: the segment of the endpoint's message is put into the first free slot.
 -- Assumes nothing.
-use Rattle.calls.specs.calls.Reply.{repliedPacket}
+use Rattle.calls.specs.calls.Reply.{repliedSegment}
 use Rattle.octets.specs.Octets.{splice}
+use Rattle.packets.specs.Segments.{segmentPacket}
+use Rattle.packets.specs.Headers.{dataHeader}
+use Rattle.state.specs.Conn.{carriedBy}
 use denote.Ref.{now}
-use mathlib.Core.Path.{_∙_}
+use mathlib.Core.Path.{ap, _∙_}
 use borrow.Author.Needs.{needs}
 use Rattle.controller_calls.proofs.reply.put.Statement.{statement}
 use Rattle.controller_calls.proofs.reply.put.Tie as tie
+
+static-side-requires : tie.Need-static-side-requires
+static-side-requires c κs = search needs
+
+carried-requires : tie.Need-carried-requires
+carried-requires c κs = search needs
 
 free-at-requires : tie.Need-free-at-requires
 free-at-requires c κs = search needs
@@ -19,9 +28,14 @@ same-length c = search needs
 
 returns : tie.Need-returns
 returns c =
-    let s = c .before .before .before .before .before .before .before .before .before in
+    let s = c .before .before .before .before .before .before .before .before .before .before .before in
+    let carried = c .before .before .before .before .before .carried .ensures ∙ ap carriedBy (c .before .before .before .before .before .before .static-side .ensures) in
     c .before .before .put-segment .ensures
-    ∙ (λ i. splice (now (s .args .area)) (c .before .before .before .before .free-at .ensures i) (repliedPacket (s .args .r) (now (s .args .area))))
+    ∙ (λ i.
+    splice (now (s .args .area)) (c .before .before .before .before .free-at .ensures i)
+    (segmentPacket (dataHeader 0 (carried i)) (repliedSegment (s .args .r) (now (s .args .area)))))
 
 pub put-spec : {M : Type 1} → statement M
-put-spec = tie.close (tie.spec free-at-requires put-segment-requires same-length returns)
+put-spec =
+    tie.close
+    (tie.spec static-side-requires carried-requires free-at-requires put-segment-requires same-length returns)

@@ -48,7 +48,7 @@ returns c =
     c .before .before .put-segment .ensures
     ∙ (λ i.
     splice a (c .before .before .before .before .free-at .ensures i)
-    (segmentPacket (dataHeader (s .args .conn))
+    (segmentPacket (dataHeader (s .args .conn) 0)
     (segmentAt (k i .host .payload) (cut ((c .before .before .before .before .before .hand-at .ensures ∙ ap handAt (c .before .before .before .before .before .before .place-of .ensures)) i) (k i .host .hand .len) a) (k i .host .hand .at))))
 
 pub put-spec : {M : Type 1} → statement M

@@ -31,16 +31,20 @@ returns c =
     let e = (λ i. readOf (cut (sym at i) slotSize a)) ∙ sym (c .before .before .read-slot .ensures) ∙ c .enum-told .given .1 in
     many-dropped a r (s .pre .0) (s .pre .1) e
 
+carries-above-requires : tie.Need-carries-above-requires
+carries-above-requires c κs = search needs
+
 returns-2 : tie.Need-returns-2
 returns-2 c =
-    let s = c .before .before .before .before .before .before .before .before .before in
+    let g = c .before in
+    let s = g .before .before .before .before .before .before .before .before .before in
     let a = now (s .args .area) in
     let r = s .args .r in
-    let at = c .before .before .before .before .before .before .first-at .ensures in
-    let e = (λ i. readOf (cut (sym at i) slotSize a)) ∙ sym (c .before .before .before .before .before .read-slot .ensures) ∙ c .before .before .before .got .given .1 in
-    let h = c .before .before .before .got .given .0 .0 in
-    let n = c .before .before .before .got .given .0 .1 .0 in
-    many-data a r (s .pre .0) (s .pre .1) h n e (c .if1 .taken)
+    let at = g .before .before .before .before .before .before .first-at .ensures in
+    let e = (λ i. readOf (cut (sym at i) slotSize a)) ∙ sym (g .before .before .before .before .before .read-slot .ensures) ∙ g .before .before .before .got .given .1 in
+    let h = g .before .before .before .got .given .0 .0 in
+    let n = g .before .before .before .got .given .0 .1 .0 in
+    c .carries-above .ensures ∙ many-data a r (s .pre .0) (s .pre .1) h n e (g .if1 .taken)
 
 returns-3 : tie.Need-returns-3
 returns-3 c =
@@ -82,6 +86,7 @@ too-many-spec =
     enum-known-got
     enum-told
     returns
+    carries-above-requires
     returns-2
     returns-3
     above-requires
