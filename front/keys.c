@@ -138,7 +138,7 @@ static void say_down(struct bench *b, uint64_t word) {
     say_packet(&p);
 }
 
-/* A stored packet cannot be looked at; on a loopback it goes up as it is. */
+/* A stored packet cannot be looked at; on a loopback it goes up as it is, with credits. */
 static void say_consume(struct bench *b, unsigned conn, uint64_t word) {
     if (nci_word_put_up(word) > 0) {
         printf("looped back ");

@@ -5,13 +5,14 @@
 #include "nci_bench.h"
 
 struct packet read_packet(const uint8_t *octets, size_t length) {
-    struct packet p = {MT_DATA, false, 0, 0, octets, 0};
+    struct packet p = {MT_DATA, false, 0, 0, 0, octets, 0};
     if (length < 3)
         return p;
     p.mt = octets[0] >> 5;
     p.more = (octets[0] >> 4 & 1) != 0;
     p.id = octets[0] & 0x0F;
     p.oid = octets[1] & 0x3F;
+    p.credits = octets[1] & 0x03;
     p.payload = octets + 3;
     p.length = octets[2] < length - 3 ? octets[2] : length - 3;
     return p;
@@ -164,5 +165,7 @@ void say_packet(const struct packet *p) {
     } else {
         printf("data on connection %u", p->id);
         say_segment(p);
+        if (p->credits > 0)
+            printf(", %u credit%s", p->credits, p->credits == 1 ? "" : "s");
     }
 }

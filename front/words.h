@@ -13,6 +13,7 @@ struct packet {
     bool more;              /* PBF: more segments follow */
     unsigned id;            /* GID, or the Conn ID of data */
     unsigned oid;           /* of a control packet */
+    unsigned credits;       /* of data: those that it returns, going up */
     const uint8_t *payload; /* a part of the octets that were read */
     size_t length;
 };
@@ -23,7 +24,8 @@ struct packet read_packet(const uint8_t *octets, size_t length);
 bool is_credit_notice(const struct packet *p);
 
 /* Its name and what its payload says, as "CORE_CONN_CREATE_RSP ok, connection 2, payload 4,
- * credits 2" or "data on connection 2, 4 octets, more follows". */
+ * credits 2" or "data on connection 2, 4 octets, more follows". Data that carries credits
+ * says so at its end, as ", 1 credit". */
 void say_packet(const struct packet *p);
 
 /* "1 octet", "2 octets" */

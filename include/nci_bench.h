@@ -59,6 +59,7 @@ extern "C" {
 #define NCI_PROFILE_SIZE 5u       /* a profile */
 #define NCI_REPORT_SIZE 5u        /* the message of nci_report */
 #define NCI_PARAMETERS_MAX 32u    /* most parameter octets of an air event */
+#define NCI_PACKET_CREDITS_MAX 3u /* most credits that a data packet returns, going up */
 #define NCI_WIRE_SLOTS 16u        /* packets that a wire holds */
 #define NCI_STORE_SLOTS 8u        /* packets that the controller stores for a connection */
 #define NCI_GID_MAX 15u           /* greatest group identifier */
@@ -186,10 +187,11 @@ uint64_t nci_send(uint8_t *area, size_t area_len, uint8_t *out, size_t out_len, 
  * is left; 10, if a RESET or a CONN_CLOSE is unanswered. */
 uint64_t nci_push(uint8_t *area, size_t area_len, uint8_t *out, size_t out_len, uint8_t conn);
 
-/* The host takes the first packet of the up wire. Hands out a data message that it
- * finishes. The drop flag is up if the packet, or an entry of a credit notice, is dropped.
- * Refusals in order: 8, if the up wire is empty; 13, if credits held would pass the
- * grant. */
+/* The host takes the first packet of the up wire, and the credits that a notice or a data
+ * packet returns. Hands out a data message that it finishes. The drop flag is up if the
+ * packet, or an entry of a credit notice, is dropped.
+ * Refusals in order: 8, if the up wire is empty; 13, if credits held would pass the grant,
+ * by a notice or by a data packet. */
 uint64_t nci_up(uint8_t *area, size_t area_len, uint8_t *out, size_t out_len);
 
 /* ---- the controller's keys */
@@ -202,18 +204,22 @@ uint64_t nci_up(uint8_t *area, size_t area_len, uint8_t *out, size_t out_len);
  * its connection is full. */
 uint64_t nci_down(uint8_t *area, size_t area_len, uint8_t *out, size_t out_len);
 
-/* The controller takes the oldest stored packet of a connection. Hands out a message that
- * it finishes. On connections 2 to 5 the packet also goes on the up wire, unchanged.
+/* The controller takes the oldest stored packet of a connection, and owes one credit more
+ * there if it is flow-controlled. Hands out a message that it finishes. On connections 2 to
+ * 5 the packet also goes on the up wire, unchanged but for the two low bits of its second
+ * octet: it returns so many credits of those owed, at most 3, which are then owed no longer.
  * Refusals in order: 3, if the Conn ID is not 0 or 2 to 5; 4, for 2 to 5, if the up wire is
  * full; 6, if the connection is not open at the controller; 8, if nothing is stored; 13,
- * if credits owed would pass the grant. */
+ * if credits owed would pass the grant, before any are returned. */
 uint64_t nci_consume(uint8_t *area, size_t area_len, uint8_t *out, size_t out_len, uint8_t conn);
 
-/* One CORE_CONN_CREDITS_NTF with all that is owed goes on the up wire.
+/* One CORE_CONN_CREDITS_NTF with all that is owed goes on the up wire. Credits that a data
+ * packet returned are owed no longer.
  * Refusals in order: 4, if the up wire is full; 8, if nothing is owed. */
 uint64_t nci_credit(uint8_t *area, size_t area_len, uint8_t *out, size_t out_len);
 
-/* The next segment of the endpoint's message goes on the up wire, on connection 0.
+/* The next segment of the endpoint's message goes on the up wire, on connection 0. The two
+ * low bits of its second octet return credits of those owed there, at most 3.
  * Refusals in order: 4, if the up wire is full; 8, if the endpoint has no message in
  * hand. */
 uint64_t nci_reply(uint8_t *area, size_t area_len, uint8_t *out, size_t out_len);
@@ -239,7 +245,8 @@ uint64_t nci_air(uint8_t *area, size_t area_len, uint8_t *out, size_t out_len, c
 
 /* Five numbers of a connection, handed out as a message of five octets: credits held by
  * the host, its packets on the down wire, packets stored, credits owed, credits on the up
- * wire. Without flow control the first is 255 and the last two are 0.
+ * wire, those inside data packets too. Without flow control the first is 255 and the last
+ * two are 0.
  * Refusals in order: 3, if the Conn ID is not 0 or 2 to 5; 6, if the connection is not open
  * at the controller. */
 uint64_t nci_report(uint8_t *area, size_t area_len, uint8_t *out, size_t out_len, uint8_t conn);

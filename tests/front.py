@@ -194,13 +194,19 @@ NAMES = {
 }
 
 
+def data_said(conn, more, credits, length):
+    """All that is said of a data packet; of credits where it carries some."""
+    said = f"data on connection {conn}, {plural(length, 'octet')}, {'more follows' if more else 'last'}"
+    return f"{said}, {plural(credits, 'credit')}" if credits else said
+
+
 def named(octets):
-    """What is said first of each packet in a field pkt."""
+    """What is said first of each packet in a field pkt, and of data all."""
     while octets:
         mt, low, oid, length = octets[0] >> 5, octets[0] & 15, octets[1], octets[2]
         kind = ["data", "CMD", "RSP", "NTF"][mt]
         if mt == 0:
-            yield f"data on connection {low}, {length} octet"
+            yield data_said(low, octets[0] & 16, octets[1] & 3, length)
         elif (low, oid) in NAMES:
             yield f"{NAMES[low, oid]}_{kind}"
         else:
@@ -208,8 +214,16 @@ def named(octets):
         octets = octets[3 + length:]
 
 
+def plural(count, word):
+    return f"{count} {word}{'' if count == 1 else 's'}"
+
+
 def counted(length):
-    return f"message of {length} octet{'' if length == 1 else 's'}" if length else "empty message"
+    return f"message of {plural(length, 'octet')}" if length else "empty message"
+
+
+def says_packet(part, name):
+    return part == name if name.startswith("data ") else part.startswith(name)
 
 
 def says_right(line, card):
@@ -226,7 +240,7 @@ def says_right(line, card):
         return says == names[0] + (f" in {len(names)} packets" if len(names) > 1 else "")
     parts = says.removeprefix("looped back ").split("; ")
     handed = [f"{counted(len(message.strip('-')) // 2)} handed out"] if message and event != "report" else []
-    in_order = len(parts) >= len(names) and all(part.startswith(name) for part, name in zip(parts, names))
+    in_order = len(parts) >= len(names) and all(map(says_packet, parts, names))
     tells_handed = [part for part in parts if part.endswith("handed out")] == handed
     return in_order and tells_handed and (dropped == "1") == ("dropped" in says)
 

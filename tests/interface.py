@@ -147,12 +147,16 @@ def lists():
     met = program("lists", LIST_CALLS)
     same((met["difference"], met["never"], met["gaps"]), ("none", "13", "none"))
     assert int(met["calls"]) >= LIST_CALLS
+    # most credits come back inside data packets, and some in notices
+    assert int(met["carried"]) > int(met["noticed"]) > 0
 
 
 def damaged():
     met = program("damaged", DAMAGED_CALLS)
     same((met["difference"], met["never"], met["gaps"]), ("none", "none", "none"))
     assert int(met["made"]) >= DAMAGED_CALLS
+    # data whose credits would pass the grant, and stored packets in which other credits stood
+    assert int(met["pastgrant"]) > 0 and int(met["replaced"]) > 0
 
 
 def every_octet():

@@ -6,7 +6,7 @@
     lists.py --write    writes the answers and the statements
 
 Each paper becomes the statement that the model gives the same answers; `rt check opinions` proves it by computing. Together
-they meet every call and every refusal."""
+they meet every call and every refusal, and every number of credits inside a data packet."""
 import re
 import sys
 import textwrap
@@ -89,10 +89,13 @@ def load():
 
 
 def missing(papers):
-    """Calls never taken, and refusals that a call never met."""
-    met = Counter((call.name, call.answer) for paper in papers for call in paper.calls)
+    """Calls never taken, refusals that a call never met, and numbers of credits that no data packet carried up."""
+    calls = [call for paper in papers for call in paper.calls]
+    met = Counter((call.name, call.answer) for call in calls)
     due = [(name, answer) for name, (_, _, refusals) in CALLS.items() for answer in [0, *refusals]]
-    return [f"no paper has {name} with answer {answer}" for name, answer in due if not met[name, answer]]
+    carried = {call.packets[1] for call in calls if call.name in ("consume", "reply") and call.packets}
+    lacking = [f"no paper has {name} with answer {answer}" for name, answer in due if not met[name, answer]]
+    return lacking + [f"no paper has data that carries {n} credits" for n in range(4) if n not in carried]
 
 
 # ---- statements

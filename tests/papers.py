@@ -22,6 +22,8 @@ BAD = b"ev=bad ans=3"
 # every call is taken and meets each of its refusals; 13 is met by no list of calls from fresh. Close and reset responses
 # discard messages in hand.
 COVERED = re.compile(r"seed=\d+ .* bad=(\d+) .* discards=[1-9].* never=13 gaps=none")
+# the calls that bring credits back, each with the one packet that it put up
+RETURNS = re.compile(rb"^ev=(?:consume|reply|credit) ans=0 drop=[01] pkt=([0-9A-F]+) ", re.M)
 
 
 def arguments():
@@ -49,15 +51,22 @@ def timed(program, paper, seconds):
     return told
 
 
+def credits_in(answers):
+    """The credits that came back: inside data packets, and in notices."""
+    packets = [bytes.fromhex(digits.decode()) for digits in RETURNS.findall(answers)]
+    carried = sum(packet[1] % 4 for packet in packets if packet[0] < 0x20)
+    return Counter(carried=carried, noticed=sum(sum(packet[5::2]) for packet in packets if packet[:2] == b"\x60\x06"))
+
+
 def wrong_in(paper, program, play, lines, seconds):
-    """What is wrong with a paper's answers, and how many of its lines are bad."""
+    """What is wrong with a paper's answers, and the answers."""
     (ours, ended), (theirs, _) = timed(program, paper, seconds), timed(play, paper, seconds)
     wrong = list(differences(paper, ours, theirs)) if ours != theirs else []
     if ended != 0:
         wrong.append(f"ended with status {ended}")
     if ours.count(b"\n") != lines:
         wrong.append(f"{ours.count(10)} answers to {lines} lines")
-    return wrong, ours.split(b"\n").count(BAD)
+    return wrong, ours
 
 
 def check_examples(suite, program, play):
@@ -75,17 +84,21 @@ def main():
         numbers = [str(n) for n in (given.papers, given.lines, given.seed)]
         made = subprocess.run([second("papers"), directory, *numbers], capture_output=True, text=True)
         print(made.stdout + made.stderr, end="")
-        covered, bad, seconds = COVERED.match(made.stdout), 0, Counter()
+        covered, bad, seconds, returned = COVERED.match(made.stdout), 0, Counter(), Counter()
         suite.check("the papers", [] if covered else ["a call or a refusal is not met, or no message is discarded"])
         for path in sorted(Path(directory).iterdir()):
-            wrong, more = wrong_in(path.read_bytes(), program, play, given.lines, seconds)
+            wrong, answers = wrong_in(path.read_bytes(), program, play, given.lines, seconds)
             suite.check(f"paper {path.name} of seed {given.seed}", wrong)
-            bad += more
+            bad += answers.split(b"\n").count(BAD)
+            returned.update(credits_in(answers))
     for name, taken in seconds.items():
         print(f"{name.name}: {given.papers * given.lines / taken:,.0f} lines a second")
     check_examples(suite, program, play)
     due = int(covered[1]) if covered else None
     suite.check("bad lines", [] if bad == due else [f"{bad} answered as bad, {due} made"])
+    told = "{carried} inside data packets, {noticed} in notices".format(**returned)
+    most = returned["carried"] > returned["noticed"] > 0
+    suite.check("credits that came back", [] if most else ["not most of them inside data packets, or none in notices"], told)
     return suite.end()
 
 

@@ -5,6 +5,8 @@ set -u
 cd "$(dirname "$0")/../second" || exit 1
 export CARGO_NET_OFFLINE=true
 calls=1000000
+# the least notices of credits in them
+notices=1000
 passed=0
 failed=0
 log=$(mktemp)
@@ -37,6 +39,15 @@ fi
 cargo run --release --locked --quiet --bin demand3 -- "$calls" | tee "$log"
 [ "${PIPESTATUS[0]}" -eq 0 ] && grep -q "^mismatch=none .* discards=[1-9].* never=13 gaps=none$" "$log"
 result demand3 $?
+
+# field NAME: its number in the line that demand3 wrote
+field() {
+    sed -nE "s/^mismatch=none .* $1=([0-9]+) .*/\1/p" "$log"
+}
+
+# most credits come back inside data packets; notices are rare, and there are some all the same
+[ "$(field carried)" -gt "$(field noticed)" ] && [ "$(field credit)" -ge "$notices" ]
+result "credits inside data packets" $?
 
 echo "second: $passed passed, $failed failed"
 [ "$failed" -eq 0 ]

@@ -5,10 +5,11 @@
                           every form, and compares the fields of each packet with what its explanation says of it
     vectors.py --write    writes crates/vectors/stdin and stdout, some of these lines
 
-The reading and writing here come from the standard (003, 3.4) and from document 01, "Packets", and share nothing with
-the program."""
+The reading and writing here come from the standard (003, 3.4), from document 01, "Packets", and from document 02, "Credits
+inside data packets", and share nothing with the program."""
 import re
 import sys
+from itertools import product
 
 from programs import ROOT, Suite, built, check_stored, run_group, spaced, stored, write_stored
 
@@ -50,15 +51,17 @@ def read(octets):
     packet["payload"] = octets[3 : 3 + octets[2]]
     if packet["mt"] > 3 or len(packet["payload"]) != octets[2]:
         return None
-    oid = 0b00111111 if packet["mt"] else 0
-    packet["oid"], packet["spare"] = octets[1] & oid, octets[1] & ~oid & 0xFF
+    # of a control packet the OID, of data the credits (CR); the rest is spare
+    oid, credits = (0b00111111, 0) if packet["mt"] else (0, 0b00000011)
+    packet["oid"], packet["credits"], packet["spare"] = octets[1] & oid, octets[1] & credits, octets[1] & ~(oid | credits)
     return packet
 
 
 def write(packet):
     """The octets of a packet: spare bits are written 0."""
     first = f"{packet['mt']:03b}{packet['pbf']:b}{packet['id']:04b}"
-    return bytes([int(first, 2), packet["oid"], len(packet["payload"])]) + packet["payload"]
+    second = packet["oid"] if packet["mt"] else packet["credits"]
+    return bytes([int(first, 2), second, len(packet["payload"])]) + packet["payload"]
 
 
 # ---- lines
@@ -77,11 +80,14 @@ def damaged(name, octets):
 
 
 def packets(vectors):
-    """The vectors' packets, and those at the limits of a header."""
+    """The vectors' packets, those at the limits of a header, and second octets of data and of control packets: each number
+    of credits, without and with spare bits."""
     payload = bytes(range(255))
     yield from ((v.number, v.octets) for v in vectors)
     yield from (("spare-data", b"\x02\xff\x00"), ("spare-control", b"\x2f\xff\x00"), ("none", b""), ("one", b"\x02"))
-    yield from (("full-data", b"\x1f\x00\xff" + payload), ("full-control", b"\x7f\x3f\xff" + payload))
+    yield from (("full-data", b"\x1f\x03\xff" + payload), ("full-control", b"\x7f\x3f\xff" + payload))
+    for first, spare, credits in product((0x02, 0x10, 0x22, 0x60), (0x00, 0x04, 0x40, 0xA8, 0xFC), range(4)):
+        yield f"second-{first:02X}-{spare | credits:02X}", bytes([first, spare | credits, 1, 0xAA])
 
 
 def lines_of_form():
@@ -103,7 +109,7 @@ def line_out(line):
         return f"no={form[1]} read=drop"
     again = write(packet)
     same = int(again == octets[: 3 + packet["len"]])
-    header = "mt={mt} pbf={pbf} id={id} oid={oid:02X} spare={spare:02X} len={len}".format(**packet)
+    header = "mt={mt} pbf={pbf} id={id} oid={oid:02X} credits={credits:02X} spare={spare:02X} len={len}".format(**packet)
     payload = packet["payload"].hex().upper()
     return f"no={form[1]} read=packet {header} payload={payload} again={again.hex().upper()} same={same}"
 
@@ -211,15 +217,16 @@ def kinds(v):
 
 
 def headers(v):
-    """The other fields of the header. A packet that is not said to be a segment holds a whole message, with PBF 0; one
-    with no credits has no spare bit set, and is written again as it was."""
+    """The other fields of the header. A packet that is not said to be a segment holds a whole message, with PBF 0. None has
+    a spare bit set, and each is written again as it was."""
     m = v.meaning
     for flag in re.findall(r"\bPBF ([01])", m):
         yield "pbf", [int(flag)]
     yield "pbf", [int(bool(re.search(r"not the last|first segment", m)))]
     credits = re.search(r"CR = (\d)", m)
-    yield "spare", [int(credits[1]) if credits else 0]
-    yield "same", [0 if credits else 1]
+    yield "credits", [int(credits[1]) if credits else 0]
+    yield "spare", [0]
+    yield "same", [1]
     if v.heading == "Packet layer":
         for conn in re.findall(r"Conn ID (\d+)", m):
             yield "id", [int(conn)]
@@ -262,7 +269,7 @@ def payloads(v, before):
 # a line that the program wrote
 WRITTEN = re.compile(
     r"no=(?P<no>[^ ]+) read=(?P<read>drop|packet(?= ))(?: mt=(?P<mt>\d+) pbf=(?P<pbf>\d+) id=(?P<id>\d+)"
-    r" oid=(?P<oid>[0-9A-F]+) spare=(?P<spare>[0-9A-F]+) len=(?P<len>\d+)"
+    r" oid=(?P<oid>[0-9A-F]+) credits=(?P<credits>[0-9A-F]+) spare=(?P<spare>[0-9A-F]+) len=(?P<len>\d+)"
     r" payload=(?P<payload>[0-9A-F]*) again=(?P<again>[0-9A-F]*) same=(?P<same>\d+))?"
 )
 
@@ -272,9 +279,9 @@ def fields(lines):
     told = {}
     for form in filter(None, map(WRITTEN.fullmatch, lines)):
         found = {name: value for name, value in form.groupdict().items() if value is not None}
-        for name, base in [("mt", 10), ("pbf", 10), ("id", 10), ("len", 10), ("same", 10), ("oid", 16), ("spare", 16)]:
-            if name in found:
-                found[name] = int(found[name], base)
+        bases = {**dict.fromkeys(("mt", "pbf", "id", "len", "same"), 10), **dict.fromkeys(("oid", "credits", "spare"), 16)}
+        for name in found.keys() & bases.keys():
+            found[name] = int(found[name], bases[name])
         if found.get("payload"):
             found["first"], found["last"] = int(found["payload"][:2], 16), int(found["payload"][-2:], 16)
         told[found.pop("no")] = found

@@ -33,6 +33,10 @@ pub struct Both {
     pub damaged: u64,
     pub short: u64,
     pub looks: u64,
+    /// Data that up refused for the credits in it, and packets that a loopback returned
+    /// with other credits than stood in them. Only damaged benches have any.
+    pub past_grant: u64,
+    pub replaced: u64,
     room: Room,
 }
 
@@ -45,6 +49,8 @@ impl Default for Both {
             damaged: 0,
             short: 0,
             looks: 0,
+            past_grant: 0,
+            replaced: 0,
             room: Room::EXACT,
         }
     }
@@ -96,13 +102,15 @@ impl Both {
     /// Makes a call on both.
     pub fn step(&mut self, call: &Call) -> Result<(), String> {
         let seen = self.lent.call(call, self.room).map_err(|fault| format!("{}: {fault}", call.name()))?;
+        let first = self.first_packet(call);
         let Some(outcome) = self.expected(call) else {
             self.damaged += 1;
             return check(seen.word == RECORD_DAMAGED, || {
                 format!("{} on a damaged record: word {:#x}", call.name(), seen.word)
             });
         };
-        self.count(call, &outcome);
+        self.tally.count(call, &outcome);
+        self.count_credits(call, first, &outcome);
         let due = word::of(&outcome);
         check(seen.word == due, || format!("{}: word {:#x} for {due:#x}", call.name(), seen.word))?;
         check(seen.message == outcome.message, || {
@@ -124,15 +132,27 @@ impl Both {
         self.second.as_mut().map(|bench| bench.play(call))
     }
 
-    fn count(&mut self, call: &Call, outcome: &Outcome) {
-        self.tally.calls += 1;
-        if outcome.taken() {
-            self.tally.taken[call.index()] += 1;
-        } else {
-            self.tally.refused[call.index()][usize::from(outcome.answer)] += 1;
+    /// The packet that up or consume is about to take.
+    fn first_packet(&self, call: &Call) -> Option<Vec<u8>> {
+        let second = self.second.as_ref()?;
+        match call {
+            Call::Up => second.up_wire.front().cloned(),
+            Call::Consume(conn) => second.controller.connection(*conn)?.store.front().cloned(),
+            _ => None,
         }
-        self.tally.messages += u64::from(outcome.message.is_some() && !matches!(call, Call::Report(_)));
-        self.tally.drops += u64::from(outcome.drop);
+    }
+
+    fn count_credits(&mut self, call: &Call, first: Option<Vec<u8>>, outcome: &Outcome) {
+        let Some(first) = first else {
+            return;
+        };
+        let (is_data, stood) = (first[0] < 0x20, first[1] % 4);
+        if matches!(call, Call::Up) {
+            self.past_grant += u64::from(is_data && outcome.answer == 13);
+        } else {
+            let others = |put: &Vec<u8>| stood != 0 && stood != put[1] % 4;
+            self.replaced += u64::from(outcome.up.first().is_some_and(others));
+        }
     }
 
     /// The packets that the call put, the bench that it left and the five numbers of

@@ -19,8 +19,8 @@ const GOING_ON: usize = 20;
 /// Slots of both wires and all stores, which lie at the front of the area.
 const SLOTS: usize = 2 * WIRE_SLOTS + 5 * STORE_SLOTS;
 
-/// Packets near those that are written here.
-const PACKETS: [&[u8]; 24] = [
+/// Packets near those that are written here, data with credits among them.
+const PACKETS: [&[u8]; 30] = [
     &[0x20, 0x00, 1, 0],
     &[0x20, 0x01, 2, 0, 0],
     &[0x20, 0x04, 2, 1, 0],
@@ -44,6 +44,12 @@ const PACKETS: [&[u8]; 24] = [
     &[0x00, 0x00, 1, 0xAA],
     &[0x12, 0x00, 2, 0xAA, 0xBB],
     &[0x03, 0x00, 0],
+    &[0x00, 0x01, 1, 0xAA],
+    &[0x10, 0xFF, 1, 0xAA],
+    &[0x02, 0x03, 0],
+    &[0x12, 0x02, 2, 0xAA, 0xBB],
+    &[0x03, 0xFD, 1, 0xAA],
+    &[0x04, 0x01, 1, 0xAA],
     &[0x80, 0x00, 0],
 ];
 

@@ -92,6 +92,8 @@ pub fn cases() -> Vec<(&'static str, Vec<Call>, Call)> {
     let pushed = vec![short.clone(), Call::Push(2)];
     let stored = [pushed.clone(), vec![Call::Down]].concat();
     let consumed = [stored.clone(), vec![Call::Consume(2)]].concat();
+    // on a loopback every credit comes back inside a packet: a notice is of connection 0
+    let owed = vec![Call::Send { conn: 0, message: vec![7; 9] }, Call::Push(0), Call::Down, Call::Consume(0)];
     let endpoint = Call::Air([vec![8], vec![7; 1024]].concat());
     let from = |calls: Vec<Call>| [opening(), calls].concat();
     vec![
@@ -105,12 +107,12 @@ pub fn cases() -> Vec<(&'static str, Vec<Call>, Call)> {
         ("down, data", from(pushed), Call::Down),
         ("down, a command", from(vec![command(0, 4, &[1, 0])]), Call::Down),
         ("consume", from(stored), Call::Consume(2)),
-        ("credit", from(consumed.clone()), Call::Credit),
+        ("credit", from(owed.clone()), Call::Credit),
         ("air, activation", opening()[..17].to_vec(), Call::Air(vec![2, 1, 4, 0])),
         ("air, 1024 octets", from(vec![]), endpoint.clone()),
         ("reply", from(vec![endpoint]), Call::Reply),
         ("up, data", from(consumed.clone()), Call::Up),
-        ("up, a notice", from([consumed.clone(), vec![Call::Up, Call::Credit]].concat()), Call::Up),
+        ("up, a notice", from([owed, vec![Call::Credit]].concat()), Call::Up),
         ("report", from(consumed), Call::Report(2)),
         ("a refusal", from(vec![]), Call::Push(2)),
     ]

@@ -54,10 +54,14 @@ fn each_export_once() {
     taken(&mut lent, Call::Consume(2));
     let seen = taken(&mut lent, Call::Consume(2));
     assert_eq!((seen.word, seen.message), (1 << 9 | 5 << 16 | 1 << 40, Some(vec![1, 2, 3, 4, 5])));
-    assert_eq!(taken(&mut lent, Call::Report(2)).message, Some(vec![0, 0, 0, 2, 0]));
+    assert_eq!(taken(&mut lent, Call::Report(2)).message, Some(vec![0, 0, 0, 0, 2]));
+    assert_eq!(packet(&mut lent, UP, 1), [0x12, 1, 4, 1, 2, 3, 4]);
+    taken(&mut lent, Call::Send { conn: 0, message: vec![6] });
+    taken(&mut lent, Call::Push(0));
+    taken(&mut lent, Call::Down);
+    assert_eq!(taken(&mut lent, Call::Consume(0)).message, Some(vec![6]));
     taken(&mut lent, Call::Credit);
-    assert_eq!(packet(&mut lent, UP, 0), [0x60, 6, 3, 1, 2, 2]);
-    assert_eq!(packet(&mut lent, UP, 2), [0x12, 0, 4, 1, 2, 3, 4]);
+    assert_eq!(packet(&mut lent, UP, 0), [0x60, 6, 3, 1, 0, 1]);
     taken(&mut lent, Call::Air(vec![8, 9]));
     taken(&mut lent, Call::Reply);
     assert_eq!(packet(&mut lent, UP, 0), [0, 0, 1, 9]);

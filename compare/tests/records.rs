@@ -1,13 +1,16 @@
 //! Benches that no list of calls makes, by hand.
 
 use compare::both::Both;
-use compare::record::{RECORD_AT, SLOT, UP_AT};
+use compare::record::{RECORD_AT, SLOT, STORES_AT, STORE_SLOTS, UP_AT};
 use exam_bench::call::Call;
 
 const PROFILE: [u8; 5] = [0x20, 4, 2, 4, 1];
 /// Where the record says how many packets are on the up wire, and which slot is first.
 const UP_HEAD: usize = RECORD_AT + 158;
 const UP_COUNT: usize = RECORD_AT + 159;
+
+/// Which slot of connection 2's store is first; its count follows.
+const STORE_HEAD_2: usize = RECORD_AT + 56 + 20 + 15;
 
 /// Where it has the RF state, and the pairs with their count.
 const RF: usize = RECORD_AT + 24;
@@ -46,6 +49,15 @@ fn forge_up(both: &mut Both, packet: &[u8]) {
     both.put(&octets);
 }
 
+/// Puts a packet that nobody wrote into the empty store of connection 2.
+fn store(both: &mut Both, packet: &[u8]) {
+    let mut octets = both.lent.octets().to_vec();
+    let slot = usize::from(octets[STORE_HEAD_2]);
+    octets[STORES_AT + (STORE_SLOTS + slot) * SLOT..][..packet.len()].copy_from_slice(packet);
+    octets[STORE_HEAD_2 + 1] = 1;
+    both.put(&octets);
+}
+
 /// Only on a damaged bench: a sound controller answers a CONN_CLOSE without octets by 05.
 #[test]
 fn a_close_that_names_no_connection_closes_none() {
@@ -64,13 +76,48 @@ fn a_close_that_names_0_closes_it() {
     assert!(both.second.is_some_and(|bench| bench.host.connection(0).is_none()));
 }
 
-/// A notice that would bring a connection past its grant: no list of calls meets 13.
+/// A notice, or data, that would bring a connection past its grant: no list of calls
+/// meets 13.
 #[test]
 fn credits_past_the_grant_are_refused() {
-    let mut both = active();
-    forge_up(&mut both, &[0x60, 0x06, 0x03, 0x01, 0x00, 0x01]);
-    both.step(&Call::Up).unwrap();
-    assert_eq!(both.tally.refusals(13), 1);
+    for packet in [&[0x60, 0x06, 0x03, 0x01, 0x00, 0x01][..], &[0x00, 0x01, 0x00], &[0x10, 0xFF, 0x01, 0x07]]
+    {
+        let mut both = active();
+        forge_up(&mut both, packet);
+        both.step(&Call::Up).unwrap();
+        assert_eq!(both.tally.refusals(13), 1);
+    }
+}
+
+/// Data that carries credits for a connection that spent one, for one that is not open,
+/// and for an ID that no connection has.
+#[test]
+fn credits_inside_data_count_where_the_connection_is_open() {
+    for (first, held) in [(0x00, 1), (0x10, 1), (0x02, 0), (0x01, 0)] {
+        let mut both = active();
+        step(&mut both, Call::Send { conn: 0, message: vec![7] });
+        step(&mut both, Call::Push(0));
+        forge_up(&mut both, &[first, 0xFD, 0x01, 0x07]);
+        step(&mut both, Call::Up);
+        assert!(both.second.is_some_and(|bench| bench.report(0).message.unwrap()[0] == held));
+    }
+}
+
+/// The two low bits of a stored packet's second octet are replaced, whatever it is.
+#[test]
+fn a_loopback_replaces_the_credits_of_any_packet() {
+    for first in [0x02, 0x13, 0x22, 0x62, 0x82] {
+        for second in [0x00, 0x03, 0x40, 0xFF] {
+            let mut both = active();
+            step(&mut both, Call::Command { gid: 0, oid: 4, payload: vec![1, 0] });
+            step(&mut both, Call::Down);
+            step(&mut both, Call::Up);
+            store(&mut both, &[first, second, 0x01, 0x07]);
+            step(&mut both, Call::Consume(2));
+            let put = [first, second / 4 * 4 + 1, 0x01, 0x07];
+            assert!(both.second.is_some_and(|bench| bench.up_wire.back().unwrap()[..] == put));
+        }
+    }
 }
 
 /// A packet that states 255 octets of payload fills its slot, whatever stood there.

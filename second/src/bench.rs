@@ -213,6 +213,8 @@ impl Bench {
         self.conclude(result)
     }
 
+    /// 13 is judged on the credit that the packet adds, before a returned packet
+    /// carries any of what is owed.
     fn try_consume(&mut self, conn: u8) -> Result<Outcome, Refusal> {
         check_conn(conn)?;
         refuse_if(is_dynamic(conn) && self.up_slots() < 1, Refusal::TooFewSlots)?;

@@ -1,6 +1,6 @@
 //! The controller: its answers to commands, the RF states and the air, its store
 //! and the credits it owes (document 01, "What the controller answers" and "The
-//! air"; 003, chapters 4, 5.2 and 7).
+//! air", and document 02, "Credits inside data packets"; 003, chapters 4, 5.2 and 7).
 
 use std::collections::VecDeque;
 
@@ -9,7 +9,9 @@ use crate::connection::{
     dynamic_after, is_dynamic, place_of, CONN_IDS, FIRST_DYNAMIC, LAST_DYNAMIC, STATIC_RF,
 };
 use crate::layout::*;
-use crate::packet::{self, ControlRun, InHand, Joined, MessageType, Packet, Reading, Run, MOST_PAYLOAD};
+use crate::packet::{
+    self, ControlRun, InHand, Joined, MessageType, Packet, Reading, Run, MOST_CARRIED, MOST_PAYLOAD,
+};
 use crate::profile::{Profile, Terms};
 
 /// Packets that the controller stores for a connection.
@@ -25,8 +27,9 @@ const MOST_DISCOVER_ENTRIES: usize = 8;
 pub struct Connection {
     pub terms: Terms,
     pub store: VecDeque<Vec<u8>>,
-    /// Packets consumed since the opening less credits put in notices since, as
-    /// an octet counts: modulo 256. Without flow control it is not looked at.
+    /// Packets consumed since the opening less credits put up since, in notices and
+    /// inside data packets, as an octet counts: modulo 256. Without flow control it
+    /// is not looked at.
     pub owed: u8,
     pub run: Run,
 }
@@ -60,6 +63,14 @@ impl Connection {
     /// Refusal 13 of consume: one credit more owed than was ever granted.
     pub fn owes_whole_grant(&self) -> bool {
         self.flow_controlled() && self.owed >= self.terms.credits
+    }
+
+    /// The credits that a data packet going up returns: what is owed, at most three.
+    /// They are owed no longer; where nothing is owed the count stays as it is.
+    fn carry(&mut self) -> u8 {
+        let carried = self.owed().min(MOST_CARRIED);
+        self.owed -= carried;
+        carried
     }
 }
 
@@ -388,11 +399,12 @@ impl Controller {
     // The calls consume and credit.
 
     /// Takes the oldest stored packet into reassembly; on a loopback it also goes
-    /// up, octet for octet. A stored packet that the reader drops counts as
-    /// consumed and adds nothing to reassembly (decision on stored packets).
+    /// up, octet for octet but for the credits that it now carries. A stored packet
+    /// that the reader drops counts as consumed and adds nothing to reassembly
+    /// (decision on stored packets).
     pub fn consume(&mut self, conn: u8) -> Option<Consumed> {
         let open = self.connection_mut(conn)?;
-        let octets = open.store.pop_front()?;
+        let mut octets = open.store.pop_front()?;
         if open.flow_controlled() {
             open.owed = open.owed.wrapping_add(1);
         }
@@ -400,6 +412,9 @@ impl Controller {
             Reading::Packet(packet) => open.run.join(packet.payload, packet.more),
             Reading::Drop => Joined::Dropped,
         };
+        if is_dynamic(conn) {
+            packet::set_credits(&mut octets, open.carry());
+        }
         Some(Consumed {
             drop: joined == Joined::Dropped,
             message: match joined {
@@ -524,13 +539,15 @@ impl Controller {
         write_deactivate_ntf(deactivation_type, reason)
     }
 
-    /// The next segment of the endpoint's message, on connection 0.
+    /// The next segment of the endpoint's message, on connection 0, with credits of
+    /// those owed there.
     pub fn reply(&mut self) -> Option<Vec<u8>> {
         let segment = self.endpoint_message.as_mut()?.cut(MOST_PAYLOAD);
         if !segment.more {
             self.endpoint_message = None;
         }
-        Some(packet::write_data(STATIC_RF, &segment))
+        let credits = self.connection_mut(STATIC_RF).map_or(0, Connection::carry);
+        Some(packet::write_data(STATIC_RF, credits, &segment))
     }
 
     // For tests: what no list of calls makes.

@@ -1,5 +1,6 @@
 //! The host: its commands, the messages it has in hand, the credits it holds and
-//! what it makes of packets coming up (document 01, "Calls").
+//! what it makes of packets coming up (document 01, "Calls", and document 02,
+//! "Credits inside data packets").
 
 use crate::connection::{place_of, CONN_IDS, STATIC_RF};
 use crate::layout::{self, Notification, Response, CORE, CORE_CONN_CLOSE, CORE_RESET};
@@ -155,30 +156,38 @@ impl Host {
             open.in_hand = None;
         }
         open.spend_credit();
-        Some(packet::write_data(conn, &segment))
+        Some(packet::write_data(conn, 0, &segment))
     }
 
     // Coming up.
 
-    /// Refusal 13: the packet ends a credit notice that would bring a connection
-    /// above its grant. The control run itself is left alone.
+    /// Refusal 13: the packet brings credits that would take a connection above its
+    /// grant.
     pub fn would_pass_grant(&self, octets: &[u8]) -> bool {
         let Reading::Packet(packet) = packet::read(octets) else {
             return false;
         };
-        if packet.message_type != MessageType::Notification {
-            return false;
+        let passes =
+            |conn: u8, credits: u8| self.connection(conn).is_some_and(|open| open.would_pass_grant(credits));
+        match packet.message_type {
+            MessageType::Data => passes(packet.id, packet.credits),
+            MessageType::Notification => {
+                self.credits_noticed(&packet).iter().any(|(conn, credits)| passes(*conn, *credits))
+            }
+            MessageType::Command | MessageType::Response => false,
         }
-        let Joined::Whole(payload) = self.control_run.clone().join(&packet) else {
-            return false;
+    }
+
+    /// The entries of the credit notice that this notification ends, if it ends one.
+    /// The control run itself is left alone.
+    fn credits_noticed(&self, packet: &Packet) -> Vec<(u8, u8)> {
+        let Joined::Whole(payload) = self.control_run.clone().join(packet) else {
+            return Vec::new();
         };
-        let Some(Notification::Credits(entries)) = layout::read_notification(packet.id, packet.oid, &payload)
-        else {
-            return false;
-        };
-        entries
-            .iter()
-            .any(|(conn, credits)| self.connection(*conn).is_some_and(|open| open.would_pass_grant(*credits)))
+        match layout::read_notification(packet.id, packet.oid, &payload) {
+            Some(Notification::Credits(entries)) => entries,
+            _ => Vec::new(),
+        }
     }
 
     /// Takes a packet off the up wire. A command is dropped by its MT and neither
@@ -194,10 +203,13 @@ impl Host {
         }
     }
 
+    /// The packet's credits count as it is read, also where its run is lost; for a
+    /// connection not open they are dropped with it.
     fn take_data(&mut self, packet: &Packet) -> Taken {
         let Some(open) = self.connection_mut(packet.id) else {
             return Taken::dropped();
         };
+        open.add_credits(packet.credits);
         match open.run.join(packet.payload, packet.more) {
             Joined::Partly => Taken::default(),
             Joined::Whole(message) => Taken { drop: false, message: Some(message) },

@@ -249,20 +249,18 @@ fn is_written_deactivation(payload: &[u8]) -> bool {
     )
 }
 
-/// Credits for `conn` that a packet on the up wire carries: entries of a credit
-/// notice and the grant of an opening (document 01, "report"). Only packets with
-/// written contents count (decision on the fifth number), and the controller
-/// writes each of these in one packet.
+/// Credits for `conn` that a packet on the up wire carries: those of data, entries of
+/// a credit notice and the grant of an opening (document 01, "report"). Of control
+/// packets only those with written contents count (decision on the fifth number), and
+/// the controller writes each of these in one packet.
 pub fn credits_carried(octets: &[u8], conn: u8) -> u32 {
     let Reading::Packet(packet) = packet::read(octets) else {
         return 0;
     };
-    if packet.more {
-        return 0;
-    }
     match packet.message_type {
-        MessageType::Response => granted_by_response(&packet, conn),
-        MessageType::Notification => carried_by_notification(&packet, conn),
+        MessageType::Data if packet.id == conn => u32::from(packet.credits),
+        MessageType::Response if !packet.more => granted_by_response(&packet, conn),
+        MessageType::Notification if !packet.more => carried_by_notification(&packet, conn),
         _ => 0,
     }
 }
@@ -432,6 +430,13 @@ mod tests {
         assert_eq!(credits_carried(&[0x60, 0x06, 0x05, 2, 0, 1, 5, 8], 5), 8);
         assert_eq!(credits_carried(&[0x70, 0x06, 0x05, 2, 0, 1, 5, 8], 5), 0);
         assert_eq!(credits_carried(&[0x60, 0x06, 0x05, 2, 0, 1, 5, 9], 0), 0);
+        for first in [0x03, 0x13] {
+            assert_eq!(credits_carried(&[first, 0x02, 0x01, 9], 3), 2);
+            assert_eq!(credits_carried(&[first, 0xFF, 0x01, 9], 3), 3);
+            assert_eq!(credits_carried(&[first, 0xFC, 0x01, 9], 3), 0);
+            assert_eq!(credits_carried(&[first, 0x02, 0x01, 9], 2), 0);
+            assert_eq!(credits_carried(&[first, 0x02, 0x01], 3), 0);
+        }
         let endpoint = Endpoint { id: 1, protocol: 4, mode: 0, parameters: &[] };
         assert_eq!(credits_carried(&write_activated_ntf(&endpoint, TERMS), 0), 2);
         assert_eq!(credits_carried(&write_activated_ntf(&endpoint, TERMS), 2), 0);

@@ -3,8 +3,9 @@
 //!
 //! It keeps the wires as document 01 says: a wire holds the packets put on it
 //! since the last fresh or power and not yet taken by down or up. From that it
-//! counts, in document 01's words, what each report must say. It reads octets on
-//! its own, so that a fault of the packet layer does not excuse itself.
+//! counts, in document 01's words, what each report must say; credits inside data
+//! packets going up count as those of notices do. It reads octets on its own, so that
+//! a fault of the packet layer does not excuse itself.
 //!
 //! It also numbers the calls, and knows from sends and pushes what the host has in
 //! hand: what a close or reset response discards was sent before its command.
@@ -34,7 +35,8 @@ struct Seen<'a> {
     more: bool,
     /// GID or Conn ID.
     id: u8,
-    oid: u8,
+    /// Of a control packet the OID, of data the credits.
+    second: u8,
     payload: &'a [u8],
 }
 
@@ -44,7 +46,7 @@ fn see_packet(octets: &[u8]) -> Result<Seen<'_>, String> {
         && octets.len() == 3 + usize::from(octets[2])
         && octets[0] < 0x80
         && octets[1] < 0x40
-        && (octets[0] >= 0x20 || octets[1] == 0);
+        && (octets[0] >= 0x20 || octets[1] < 4);
     if !well_formed {
         return Err(format!("malformed packet {octets:02X?}"));
     }
@@ -52,7 +54,7 @@ fn see_packet(octets: &[u8]) -> Result<Seen<'_>, String> {
         message_type: octets[0] >> 5,
         more: octets[0] & 0x10 != 0,
         id: octets[0] & 0x0F,
-        oid: octets[1],
+        second: octets[1],
         payload: &octets[3..],
     })
 }
@@ -73,14 +75,15 @@ enum Meaning {
     Credits(Vec<(u8, u8)>),
     Data {
         conn: u8,
+        credits: u8,
     },
     Other,
 }
 
 fn meaning(octets: &[u8]) -> Result<Meaning, String> {
     let seen = see_packet(octets)?;
-    let meaning = match (seen.message_type, seen.id, seen.oid) {
-        (0, conn, _) => Meaning::Data { conn },
+    let meaning = match (seen.message_type, seen.id, seen.second) {
+        (0, conn, credits) => Meaning::Data { conn, credits },
         (2, 0, 0x00) if seen.payload == [0] => Meaning::ClosesAll,
         (2, 0, 0x04) if seen.payload.len() == 4 && seen.payload[0] == 0 => {
             Meaning::Opens { conn: seen.payload[3], payload: seen.payload[1], credits: seen.payload[2] }
@@ -117,6 +120,7 @@ struct ControllerSide {
     grant: u8,
     taken_by_down: i64,
     consumed: i64,
+    /// In notices and inside data packets.
     credits_put: i64,
     /// Messages taken by air 8.
     taken: Vec<Vec<u8>>,
@@ -262,8 +266,11 @@ impl Observer {
                     }
                 }
             }
-            Meaning::Data { conn } => match self.account(conn).filter(|account| account.host.open) {
-                Some(_) => expected.reader = Some(conn),
+            Meaning::Data { conn, credits } => match self.account(conn).filter(|account| account.host.open) {
+                Some(account) => {
+                    account.host.credits_read += i64::from(credits);
+                    expected.reader = Some(conn);
+                }
                 None => expected.drop = true,
             },
             Meaning::Other => {}
@@ -299,7 +306,10 @@ impl Observer {
 
     fn put_packets(&mut self, outcome: &Outcome) -> Result<(), String> {
         for octets in &outcome.down {
-            see_packet(octets)?;
+            let seen = see_packet(octets)?;
+            if seen.message_type == 0 && seen.second > 0 {
+                return Err(format!("credits going down in {octets:02X?}"));
+            }
             self.down_wire.push_back(octets.clone());
         }
         for octets in &outcome.up {
@@ -329,8 +339,19 @@ impl Observer {
                     self.require_account(conn)?.controller.credits_put += i64::from(credits);
                 }
             }
-            Meaning::Data { .. } | Meaning::Other => {}
+            Meaning::Data { conn, credits } => self.controller_returns(conn, credits)?,
+            Meaning::Other => {}
         }
+        Ok(())
+    }
+
+    /// Credits inside a data packet: only where flow control asks for any.
+    fn controller_returns(&mut self, conn: u8, credits: u8) -> Result<(), String> {
+        let controller = &mut self.require_account(conn)?.controller;
+        if credits > 0 && (!controller.open || controller.grant == UNLIMITED) {
+            return Err(format!("{credits} credits in data of {conn}, where nothing is owed"));
+        }
+        controller.credits_put += i64::from(credits);
         Ok(())
     }
 
@@ -426,10 +447,11 @@ impl Observer {
         self.down_wire.iter().filter(|octets| octets[0] & 0xEF == conn).count() as i64
     }
 
-    /// Credits in notices and grants of openings not yet read.
+    /// Credits in notices and in data, and grants of openings, not yet read.
     fn credits_on_up_wire(&self, conn: u8) -> i64 {
         let carried = |octets: &Vec<u8>| match meaning(octets) {
             Ok(Meaning::Opens { conn: opened, credits, .. }) if opened == conn => i64::from(credits),
+            Ok(Meaning::Data { conn: of, credits }) if of == conn => i64::from(credits),
             Ok(Meaning::Credits(entries)) => {
                 entries.iter().filter(|entry| entry.0 == conn).map(|entry| i64::from(entry.1)).sum()
             }

@@ -1,5 +1,5 @@
-//! Packets: header, segments and reassembly (document 01, "Packets"; 003, 3.4
-//! and 3.5).
+//! Packets: header, segments and reassembly (document 01, "Packets", and document
+//! 02, "Credits inside data packets"; 003, 3.4 and 3.5).
 
 /// Octets before the payload.
 pub const HEADER_OCTETS: usize = 3;
@@ -9,8 +9,12 @@ pub const MOST_PAYLOAD: usize = 255;
 pub const MOST_DATA_MESSAGE: usize = 1024;
 /// A control run past this is dropped whole.
 pub const MOST_CONTROL_MESSAGE: usize = 255;
+/// Most credits that a data packet returns: CR has two bits.
+pub const MOST_CARRIED: u8 = 3;
 
 const PACKET_BOUNDARY_FLAG: u8 = 0x10;
+/// CR, bits 1-0 of a data packet's octet 1.
+const CREDITS: u8 = 0x03;
 
 /// MT, bits 7-5 of octet 0. The other four values are RFU and have no case:
 /// reading one is a drop.
@@ -45,6 +49,8 @@ pub struct Packet<'a> {
     pub id: u8,
     /// 0 for data.
     pub oid: u8,
+    /// CR: credits that data going up returns on its connection; 0 for control.
+    pub credits: u8,
     pub payload: &'a [u8],
 }
 
@@ -79,28 +85,29 @@ pub fn read(octets: &[u8]) -> Reading<'_> {
     let Some(payload) = rest.get(..usize::from(*length)) else {
         return Reading::Drop;
     };
-    let oid = match message_type {
-        MessageType::Data => 0,
-        _ => second & 0x3F,
+    let (oid, credits) = match message_type {
+        MessageType::Data => (0, second & CREDITS),
+        _ => (second & 0x3F, 0),
     };
     Reading::Packet(Packet {
         message_type,
         more: first & PACKET_BOUNDARY_FLAG != 0,
         id: first & 0x0F,
         oid,
+        credits,
         payload,
     })
 }
 
-/// The octets of a packet, reserved bits 0. `id` and `oid` are inside their four
-/// and six bits and the payload is at most 255 octets.
+/// The octets of a packet, reserved bits 0. `id`, `oid` and `credits` are inside
+/// their four, six and two bits and the payload is at most 255 octets.
 pub fn write(packet: &Packet) -> Vec<u8> {
-    debug_assert!(packet.id <= 0x0F && packet.oid <= 0x3F);
+    debug_assert!(packet.id <= 0x0F && packet.oid <= 0x3F && packet.credits <= MOST_CARRIED);
     let length = u8::try_from(packet.payload.len()).expect("a segment is at most 255 octets");
     let flag = if packet.more { PACKET_BOUNDARY_FLAG } else { 0 };
     let mut octets = Vec::with_capacity(packet.octets());
     octets.push((packet.message_type as u8) << 5 | flag | packet.id);
-    octets.push(packet.oid);
+    octets.push(if packet.message_type == MessageType::Data { packet.credits } else { packet.oid });
     octets.push(length);
     octets.extend_from_slice(packet.payload);
     octets
@@ -108,18 +115,27 @@ pub fn write(packet: &Packet) -> Vec<u8> {
 
 /// A control message in one packet: controllers cut theirs no smaller.
 pub fn write_control(message_type: MessageType, gid: u8, oid: u8, payload: &[u8]) -> Vec<u8> {
-    write(&Packet { message_type, more: false, id: gid, oid, payload })
+    write(&Packet { message_type, more: false, id: gid, oid, credits: 0, payload })
 }
 
-/// A data segment.
-pub fn write_data(conn: u8, segment: &Segment) -> Vec<u8> {
+/// A data segment, with the credits that it returns: going down none.
+pub fn write_data(conn: u8, credits: u8, segment: &Segment) -> Vec<u8> {
     write(&Packet {
         message_type: MessageType::Data,
         more: segment.more,
         id: conn,
         oid: 0,
+        credits,
         payload: &segment.octets,
     })
+}
+
+/// Puts credits into a packet that goes up again: the two bits are replaced whatever
+/// the packet is, the other octets and bits stay.
+pub fn set_credits(octets: &mut [u8], credits: u8) {
+    if let Some(second) = octets.get_mut(1) {
+        *second = *second & !CREDITS | credits & CREDITS;
+    }
 }
 
 /// One part of a message and whether more follow.
@@ -176,6 +192,7 @@ pub fn command_packets(gid: u8, oid: u8, payload: &[u8], size: usize) -> Vec<Vec
             more: segment.more,
             id: gid,
             oid,
+            credits: 0,
             payload: &segment.octets,
         }));
         if !segment.more {
@@ -274,14 +291,18 @@ mod tests {
         let payload: Vec<u8> = (0..=254).collect();
         for length in [0, 1, 31, 32, 254, 255] {
             for more in [false, true] {
-                for (message_type, oid) in [
-                    (MessageType::Data, 0),
-                    (MessageType::Command, 0x3F),
-                    (MessageType::Response, 1),
-                    (MessageType::Notification, 0x20),
+                for (message_type, oid, credits) in [
+                    (MessageType::Data, 0, 0),
+                    (MessageType::Data, 0, 1),
+                    (MessageType::Data, 0, 2),
+                    (MessageType::Data, 0, 3),
+                    (MessageType::Command, 0x3F, 0),
+                    (MessageType::Response, 1, 0),
+                    (MessageType::Notification, 0x20, 0),
                 ] {
                     for id in 0..16 {
-                        let written = Packet { message_type, more, id, oid, payload: &payload[..length] };
+                        let payload = &payload[..length];
+                        let written = Packet { message_type, more, id, oid, credits, payload };
                         assert_eq!(packet(&write(&written)), written);
                     }
                 }
@@ -313,6 +334,34 @@ mod tests {
     fn reserved_bits_of_octet_1_are_ignored() {
         assert_eq!(packet(&[0x20, 0xC4, 0x00]).oid, 0x04);
         assert_eq!(packet(&[0x02, 0xFF, 0x00]).oid, 0x00);
+    }
+
+    #[test]
+    fn credits_are_the_two_low_bits_of_octet_1_of_data_alone() {
+        for second in 0..=255u8 {
+            assert_eq!(packet(&[0x02, second, 0x00]).credits, second % 4);
+            for first in [0x20, 0x40, 0x60] {
+                assert_eq!(packet(&[first, second, 0x00]).credits, 0);
+            }
+        }
+    }
+
+    #[test]
+    fn credits_are_replaced_and_the_rest_stays() {
+        for first in 0..=255u8 {
+            for second in 0..=255u8 {
+                for credits in 0..=MOST_CARRIED {
+                    let mut octets = [first, second, 0x02, 0xFF, 0xFF];
+                    set_credits(&mut octets, credits);
+                    assert_eq!(octets, [first, second / 4 * 4 + credits, 0x02, 0xFF, 0xFF]);
+                }
+            }
+        }
+        for short in [vec![], vec![0x02]] {
+            let mut octets = short.clone();
+            set_credits(&mut octets, 3);
+            assert_eq!(octets, short);
+        }
     }
 
     #[test]

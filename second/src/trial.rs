@@ -3,7 +3,9 @@
 
 use crate::bench::Bench;
 use crate::call::{Call, Outcome, ANSWERS, FIRST_REFUSAL, LAST_REFUSAL};
+use crate::layout::{self, Notification};
 use crate::observer::{Event, Observer};
+use crate::packet::{self, MessageType, Reading, MOST_CARRIED};
 use crate::sheet;
 
 /// The refusals that each call knows here, 1 and 2 left out (decision on
@@ -38,6 +40,10 @@ pub struct Tally {
     pub refused: [[u64; ANSWERS]; 12],
     pub messages: u64,
     pub drops: u64,
+    /// Data packets put up, by the credits that each carries.
+    pub carriers: [u64; MOST_CARRIED as usize + 1],
+    /// Credits in notices put up.
+    pub noticed: u64,
     /// Messages that a close or reset response discarded from hand at the host.
     pub discards: u64,
     /// Lists brought to rest.
@@ -45,7 +51,7 @@ pub struct Tally {
 }
 
 impl Tally {
-    fn count(&mut self, call: &Call, outcome: &Outcome) {
+    pub fn count(&mut self, call: &Call, outcome: &Outcome) {
         self.calls += 1;
         if outcome.taken() {
             self.taken[call.index()] += 1;
@@ -55,6 +61,28 @@ impl Tally {
         let handed_out = outcome.message.is_some() && !matches!(call, Call::Report(_));
         self.messages += u64::from(handed_out);
         self.drops += u64::from(outcome.drop);
+        outcome.up.iter().for_each(|octets| self.count_credits(octets));
+    }
+
+    fn count_credits(&mut self, octets: &[u8]) {
+        let Reading::Packet(packet) = packet::read(octets) else {
+            return;
+        };
+        match packet.message_type {
+            MessageType::Data => self.carriers[usize::from(packet.credits)] += 1,
+            MessageType::Notification => {
+                let read = layout::read_notification(packet.id, packet.oid, packet.payload);
+                if let Some(Notification::Credits(entries)) = read {
+                    self.noticed += entries.iter().map(|entry| u64::from(entry.1)).sum::<u64>();
+                }
+            }
+            MessageType::Command | MessageType::Response => {}
+        }
+    }
+
+    /// Credits that came back inside data packets.
+    pub fn carried(&self) -> u64 {
+        self.carriers.iter().zip(0..).map(|(packets, credits)| packets * credits).sum()
     }
 
     pub fn refusals(&self, number: u8) -> u64 {
@@ -67,7 +95,8 @@ impl Tally {
     }
 
     /// Calls never taken, and pairs of call and refusal never met, as `call` and
-    /// `call:number`; those of 13 are left out.
+    /// `call:number`, those of 13 left out; then numbers of credits that no data packet
+    /// carried, as `carried:number`.
     pub fn gaps(&self) -> Vec<String> {
         let mut gaps = Vec::new();
         for (index, name) in Call::NAMES.iter().enumerate() {
@@ -80,6 +109,8 @@ impl Tally {
                 }
             }
         }
+        let uncarried = self.carriers.iter().enumerate().filter(|(_, packets)| **packets == 0);
+        gaps.extend(uncarried.map(|(credits, _)| format!("carried:{credits}")));
         gaps
     }
 
@@ -94,6 +125,7 @@ impl Tally {
         }
         let never: Vec<String> = self.never().iter().map(u8::to_string).collect();
         fields += &format!(" messages={} drops={}", self.messages, self.drops);
+        fields += &format!(" carried={} noticed={}", self.carried(), self.noticed);
         fields += &format!(" discards={} rests={}", self.discards, self.rests);
         fields + &format!(" never={} gaps={}", list_or_none(&never), list_or_none(&self.gaps()))
     }

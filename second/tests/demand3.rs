@@ -34,6 +34,8 @@ fn random_lists_keep_the_account_and_meet_every_call_and_refusal() {
     assert_eq!(tally.never(), [13]);
     assert_eq!(tally.gaps(), Vec::<String>::new());
     assert!(tally.discards > 0);
+    // Most credits come back inside data packets, and yet some in notices.
+    assert!(tally.carried() > tally.noticed && tally.noticed > 0);
 }
 
 /// Where the send would be taken, 6 and 7, each before the close is answered and after.
@@ -118,10 +120,12 @@ fn every_call_of_short_lists_fits_a_sheet_line() {
 
 // Faults that the observer must notice.
 
-/// A course on a loopback: a message of two packets there and back, its credits
-/// still on the up wire at the end.
+/// A course with a message of two packets to a loopback and back, one to the endpoint,
+/// and one to the loopback: at the end a packet with a credit and a notice are on the
+/// up wire.
 fn course() -> (Vec<Event>, Bench) {
     let mut bench = fresh(PROFILE);
+    let active = [asked(1, 3, &[1, 0, 1]), Call::Down, Call::Up, Call::Air(vec![2, 1, 4, 0]), Call::Up];
     let traffic = [
         Call::Send { conn: 2, message: vec![1, 2, 3, 4, 5] },
         Call::Push(2),
@@ -132,10 +136,18 @@ fn course() -> (Vec<Event>, Bench) {
         Call::Consume(2),
         Call::Up,
         Call::Up,
+        Call::Send { conn: 0, message: vec![9] },
+        Call::Push(0),
+        Call::Down,
+        Call::Consume(0),
+        Call::Send { conn: 2, message: vec![7] },
+        Call::Push(2),
+        Call::Down,
+        Call::Consume(2),
         Call::Report(2),
         Call::Credit,
     ];
-    let events = played(&mut bench, &[&opening(1)[..], &traffic].concat());
+    let events = played(&mut bench, &[&opening(1)[..], &active, &traffic].concat());
     (events, bench)
 }
 
@@ -180,7 +192,7 @@ fn a_wrong_drop_flag_is_noticed() {
 
 #[test]
 fn a_credit_too_many_or_too_few_is_noticed() {
-    for credits in [1, 3] {
+    for credits in [0, 2] {
         let fault = verdict(|events| {
             let place = place_of(events, "credit");
             events[place].outcome.up[0][5] = credits;
@@ -188,6 +200,36 @@ fn a_credit_too_many_or_too_few_is_noticed() {
         assert!(fault.is_err());
     }
     assert!(verdict(|events| events.truncate(events.len() - 1)).is_err());
+}
+
+#[test]
+fn a_credit_too_many_or_too_few_inside_data_is_noticed() {
+    for credits in [0, 2, 3] {
+        let fault = verdict(|events| {
+            let place = place_of(events, "consume");
+            assert_eq!(std::mem::replace(&mut events[place].outcome.up[0][1], credits), 1);
+        });
+        assert!(fault.is_err());
+    }
+}
+
+#[test]
+fn credits_going_down_are_noticed() {
+    let fault = verdict(|events| {
+        let place = place_of(events, "push");
+        events[place].outcome.down[0][1] = 1;
+    });
+    assert!(fault.unwrap_err().contains("credits going down"));
+}
+
+#[test]
+fn credits_without_flow_control_are_noticed() {
+    let traffic = [Call::Send { conn: 2, message: vec![] }, Call::Push(2), Call::Down, Call::Consume(2)];
+    let mut events = played(&mut fresh(UNLIMITED), &[&opening(1)[..], &traffic].concat());
+    observed(&events).unwrap();
+    let place = place_of(&events, "consume");
+    events[place].outcome.up[0][1] = 1;
+    assert!(observed(&events).unwrap_err().contains("nothing is owed"));
 }
 
 #[test]

@@ -4,38 +4,43 @@
 mod common;
 use common::*;
 use exam_bench::bench::{Bench, WIRE_SLOTS};
-use exam_bench::call::ANSWERS;
+use exam_bench::call::{Call, ANSWERS};
 use exam_bench::controller::STORE_PACKETS;
 use exam_bench::player::{Lengths, Player, Random};
+
+/// Packets as they are written here, and some that are dropped.
+const WRITTEN: [&str; 25] = [
+    "20 00 01 00",
+    "20 01 02 00 00",
+    "20 04 02 01 00",
+    "30 04 01 01",
+    "20 04 01 00",
+    "21 03 03 01 00 01",
+    "21 06 01 00",
+    "40 00 01 00",
+    "40 01 10 00 00 00 00 00 04 00 00 40 00 00 00 00 01 01 00",
+    "40 04 04 00 04 02 02",
+    "50 04 02 00 04",
+    "40 05 01 00",
+    "60 06 03 01 02 02",
+    "60 06 07 03 00 01 03 08 05 01",
+    "70 06 02 01 02",
+    "61 05 0B 01 01 04 00 04 01 00 00 00 00 00",
+    "61 06 02 00 00",
+    "00 00 01 AA",
+    "00 02 01 AA",
+    "02 00 02 AA BB",
+    "02 01 02 AA BB",
+    "12 00 02 AA BB",
+    "12 03 01 AA",
+    "13 00 00",
+    "80 00 00",
+];
 
 /// A packet near those that are written here: one of them with an octet changed,
 /// cut or lengthened, or noise.
 fn forged(random: &mut Random) -> Vec<u8> {
-    let written = [
-        "20 00 01 00",
-        "20 01 02 00 00",
-        "20 04 02 01 00",
-        "30 04 01 01",
-        "20 04 01 00",
-        "21 03 03 01 00 01",
-        "21 06 01 00",
-        "40 00 01 00",
-        "40 01 10 00 00 00 00 00 04 00 00 40 00 00 00 00 01 01 00",
-        "40 04 04 00 04 02 02",
-        "50 04 02 00 04",
-        "40 05 01 00",
-        "60 06 03 01 02 02",
-        "60 06 07 03 00 01 03 08 05 01",
-        "70 06 02 01 02",
-        "61 05 0B 01 01 04 00 04 01 00 00 00 00 00",
-        "61 06 02 00 00",
-        "00 00 01 AA",
-        "02 00 02 AA BB",
-        "12 00 02 AA BB",
-        "13 00 00",
-        "80 00 00",
-    ];
-    let mut octets = octets(random.pick(&written));
+    let mut octets = octets(random.pick(&WRITTEN));
     let place = random.below(octets.len());
     match random.below(8) {
         0 => octets[place] = random.octet(),
@@ -67,6 +72,8 @@ fn any_octets_on_the_wires() {
     let mut random = Random::new(5);
     let mut player = Player::new(6, Lengths::Any);
     let mut refusals = [0u32; ANSWERS];
+    // 13 by credits in a notice, and by those inside data.
+    let mut past_grant = [0u32; 2];
     for _ in 0..300 {
         let mut bench = fresh(player.begin());
         for _ in 0..200 {
@@ -77,15 +84,20 @@ fn any_octets_on_the_wires() {
                 bench.forge_down(&forged(&mut random));
             }
             let before = bench.clone();
-            let outcome = bench.play(&player.next_call(&before));
+            let call = player.next_call(&before);
+            let outcome = bench.play(&call);
             refusals[usize::from(outcome.answer)] += 1;
             if !outcome.taken() {
                 assert_eq!(bench, before);
+            }
+            if let (Call::Up, 13) = (&call, outcome.answer) {
+                past_grant[usize::from(bench.up_wire()[0][0] < 0x20)] += 1;
             }
             check_limits(&bench);
         }
     }
     assert!(refusals[13] > 0, "forged wires reach refusal 13");
+    assert!(!past_grant.contains(&0), "by notices and by data");
 }
 
 // Openings that the host reads twice: the later one begins the connection anew.

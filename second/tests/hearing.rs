@@ -148,7 +148,7 @@ fn data_for_a_connection_not_open_at_the_host_is_dropped() {
         bench.forge_up(&[first, 0, 1, 7]);
         assert!(taken(bench.up()).drop);
     }
-    bench.forge_up(&[0x02, 0xFF, 1, 7]);
+    bench.forge_up(&[0x02, 0xFC, 1, 7]);
     let up = taken(bench.up());
     assert_eq!((up.drop, up.message), (false, Some(vec![7])));
 }
@@ -264,9 +264,11 @@ fn a_run_past_255_is_dropped_at_the_host() {
 
 // Data runs
 
+/// The credits that its packets carry count all the same.
 #[test]
 fn a_data_run_past_1024_is_dropped_at_both_ends() {
     let mut bench = loopbacks([0x20, 4, 8, 4, 1], 1);
+    bench.forge_holding(2, 8, 0);
     let part = |first: u8, length: usize| [&[first, 0, length as u8][..], &vec![1; length]].concat();
     for (forged, drop) in [
         (part(0x12, 255), false),
@@ -280,11 +282,11 @@ fn a_data_run_past_1024_is_dropped_at_both_ends() {
         taken(bench.down());
         let consumed = taken(bench.consume(2));
         assert_eq!((consumed.drop, consumed.message), (drop, None));
-        assert_eq!(consumed.up, [forged]);
+        assert_eq!(consumed.up, [[&[forged[0], 1][..], &forged[2..]].concat()]);
         let up = taken(bench.up());
         assert_eq!((up.drop, up.message), (drop, None));
     }
-    assert_eq!(report(&bench, 2)[3], 6);
+    assert_eq!(report(&bench, 2), [6, 0, 0, 0, 0]);
     bench.forge_down(&part(0x02, 1));
     taken(bench.down());
     assert_eq!(taken(bench.consume(2)).message, Some(vec![1]));
@@ -306,7 +308,7 @@ fn runs_of_connections_are_separate() {
 #[test]
 fn a_loopback_returns_reserved_bits_as_they_came() {
     let mut bench = loopbacks(PROFILE, 1);
-    bench.forge_down(&octets("02 A5 02 11 22"));
+    bench.forge_down(&octets("02 A7 02 11 22"));
     taken(bench.down());
     assert_eq!(taken(bench.consume(2)).up, packets("02 A5 02 11 22"));
 }
@@ -322,8 +324,8 @@ fn a_stored_packet_that_the_reader_drops_counts_as_consumed() {
         taken(bench.consume(2));
         let consumed = taken(bench.consume(2));
         assert_eq!((consumed.drop, consumed.message), (true, None));
-        assert_eq!(report(&bench, 2)[2..4], [0, 2]);
-        taken(bench.credit());
+        // Its credit is no longer owed, and counts nowhere on the up wire.
+        assert_eq!(report(&bench, 2), [2, 0, 0, 0, 1]);
         bench.forge_stored(2, &octets("02 00 01 BB"));
         assert_eq!(taken(bench.consume(2)).message, Some(vec![0xAA, 0xBB]));
     }

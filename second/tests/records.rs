@@ -196,6 +196,10 @@ fn credits_that_the_host_reads_are_added_modulo_256() {
             let sum = (u16::from(held) + u16::from(credits)) % 256;
             assert_eq!(u16::from(host.connection(2).unwrap().held()), sum);
             assert_eq!(host.connection(3).unwrap().held(), held);
+            let mut host = bench.host().clone();
+            host.take(&[0x02, credits % 4, 0]);
+            let sum = (u16::from(held) + u16::from(credits % 4)) % 256;
+            assert_eq!(u16::from(host.connection(2).unwrap().held()), sum);
         }
     }
 }
@@ -204,12 +208,12 @@ fn credits_that_the_host_reads_are_added_modulo_256() {
 fn a_packet_consumed_is_added_modulo_256() {
     for owed in 0..=255u8 {
         let mut bench = ready(PROFILE);
-        bench.forge_owing(2, 254, owed);
-        bench.forge_stored(2, &[2, 0, 0]);
+        bench.forge_owing(0, 254, owed);
+        bench.forge_stored(0, &[0, 0, 0]);
         let mut controller = bench.controller().clone();
-        assert!(controller.consume(2).is_some());
+        assert!(controller.consume(0).is_some());
         let sum = (u16::from(owed) + 1) % 256;
-        assert_eq!(u16::from(controller.connection(2).unwrap().owed()), sum);
+        assert_eq!(u16::from(controller.connection(0).unwrap().owed()), sum);
     }
 }
 

@@ -369,15 +369,15 @@ fn consume_at_the_controller_does_not_wait_for_the_host_to_open() {
 
 #[test]
 fn order_of_credit() {
-    let mut bench = loopbacks(PROFILE, 1);
+    let mut bench = active(PROFILE, 0);
     refuses(&bench, 8, |bench| bench.credit());
     fill_up(&mut bench, 16);
     refuses(&bench, 4, |bench| bench.credit());
     read_up(&mut bench);
-    taken(bench.send(2, &[1]));
-    taken(bench.push(2));
+    taken(bench.send(0, &[1]));
+    taken(bench.push(0));
     taken(bench.down());
-    taken(bench.consume(2));
+    taken(bench.consume(0));
     fill_up(&mut bench, 15);
     takes(&bench, |bench| bench.credit());
     fill_up(&mut bench, 16);
@@ -386,12 +386,13 @@ fn order_of_credit() {
 
 #[test]
 fn credits_of_a_connection_closed_since_are_not_owed() {
-    let mut bench = loopbacks(PROFILE, 1);
-    taken(bench.send(2, &[1]));
-    taken(bench.push(2));
+    let mut bench = active(PROFILE, 0);
+    taken(bench.send(0, &[1]));
+    taken(bench.push(0));
     taken(bench.down());
-    taken(bench.consume(2));
-    command(&mut bench, 0, 5, &[2]);
+    taken(bench.consume(0));
+    takes(&bench, |bench| bench.credit());
+    command(&mut bench, 1, 6, &[0]);
     refuses(&bench, 8, |bench| bench.credit());
 }
 
@@ -483,9 +484,9 @@ fn report_is_of_the_controller_s_opening() {
 // 13, which no list of calls reaches
 
 fn three_stored_of_two_granted() -> Bench {
-    let mut bench = loopbacks(PROFILE, 1);
+    let mut bench = active([0x20, 4, 2, 4, 2], 0);
     for _ in 0..3 {
-        bench.forge_down(&[2, 0, 0]);
+        bench.forge_down(&[0, 0, 0]);
         taken(bench.down());
     }
     bench
@@ -494,11 +495,11 @@ fn three_stored_of_two_granted() -> Bench {
 #[test]
 fn consume_refuses_to_owe_more_than_the_grant() {
     let mut bench = three_stored_of_two_granted();
-    taken(bench.consume(2));
-    taken(bench.consume(2));
-    refuses(&bench, 13, |bench| bench.consume(2));
+    taken(bench.consume(0));
+    taken(bench.consume(0));
+    refuses(&bench, 13, |bench| bench.consume(0));
     taken(bench.credit());
-    taken(bench.consume(2));
+    taken(bench.consume(0));
 }
 
 #[test]

@@ -49,9 +49,9 @@ fn an_empty_message_is_a_dash_and_report_shows_its_octets() {
         ("ev=send arg=02", "ev=send ans=0 drop=0 pkt= msg="),
         ("ev=push arg=02", "ev=push ans=0 drop=0 pkt=020000 msg="),
         ("ev=down arg=", "ev=down ans=0 drop=0 pkt= msg="),
-        ("ev=consume arg=02", "ev=consume ans=0 drop=0 pkt=020000 msg=-"),
+        ("ev=consume arg=02", "ev=consume ans=0 drop=0 pkt=020100 msg=-"),
         ("ev=up arg=", "ev=up ans=0 drop=0 pkt= msg=-"),
-        ("ev=credit arg=", "ev=credit ans=0 drop=0 pkt=600603010201 msg="),
+        ("ev=credit arg=", "ev=credit ans=8 drop=0 pkt= msg="),
         ("ev=air arg=08", "ev=air ans=11 drop=0 pkt= msg="),
     ];
     let input: String = lines.iter().map(|line| format!("{}\n", line.0)).collect();

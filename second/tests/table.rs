@@ -29,8 +29,8 @@ fn with_two_credits_the_third_packet_waits_for_a_credit() {
     refuses(&bench, 9, |bench| bench.push(2));
     taken(bench.down());
     taken(bench.consume(2));
-    taken(bench.credit());
-    read_up(&mut bench);
+    refuses(&bench, 9, |bench| bench.push(2));
+    taken(bench.up());
     assert_eq!(taken(bench.push(2)).down, packets("02 00 01 09"));
 }
 
@@ -50,15 +50,12 @@ fn create_response() {
     assert_eq!(taken(bench.down()).up, packets("40 04 04 00 04 02 02"));
 }
 
+/// A loopback returns each credit with its packet, so none is owed there without a
+/// forged record.
 #[test]
 fn two_credits_to_2() {
     let mut bench = loopbacks(PROFILE, 1);
-    taken(bench.send(2, &[7; 8]));
-    for _ in 0..2 {
-        taken(bench.push(2));
-        taken(bench.down());
-        taken(bench.consume(2));
-    }
+    bench.forge_owing(2, 2, 2);
     assert_eq!(taken(bench.credit()).up, packets("60 06 03 01 02 02"));
     refuses(&bench, 8, |bench| bench.credit());
 }
@@ -87,16 +84,8 @@ fn closing_0() {
 #[test]
 fn all_owed_in_one_notice_ascending() {
     let mut bench = loopbacks([0x20, 4, 8, 4, 1], 4);
-    command(&mut bench, 1, 3, &[0]);
-    taken(bench.air(&[3, 1, 4, 0x80]));
-    read_up(&mut bench);
-    for (conn, count) in [(5, 3), (0, 1), (3, 2)] {
-        for _ in 0..count {
-            taken(bench.send(conn, &[conn]));
-            taken(bench.push(conn));
-            taken(bench.down());
-            taken(bench.consume(conn));
-        }
+    for (conn, owed) in [(5, 3), (0, 1), (3, 2)] {
+        bench.forge_owing(conn, 8, owed);
     }
     assert_eq!(taken(bench.credit()).up, packets("60 06 07 03 00 01 03 02 05 03"));
 }
@@ -114,15 +103,15 @@ fn a_loopback_message_comes_back_and_credits_with_it() {
     taken(bench.down());
     assert_eq!(report(&bench, 2), [0, 0, 2, 0, 0]);
     let first = taken(bench.consume(2));
-    assert_eq!((first.up, first.message), (packets("12 00 04 01 02 03 04"), None));
+    assert_eq!((first.up, first.message), (packets("12 01 04 01 02 03 04"), None));
+    assert_eq!(report(&bench, 2), [0, 0, 1, 0, 1]);
     let second = taken(bench.consume(2));
-    assert_eq!((second.up, second.message), (packets("02 00 01 05"), Some(vec![1, 2, 3, 4, 5])));
-    assert_eq!(report(&bench, 2), [0, 0, 0, 2, 0]);
-    taken(bench.credit());
+    assert_eq!((second.up, second.message), (packets("02 01 01 05"), Some(vec![1, 2, 3, 4, 5])));
     assert_eq!(report(&bench, 2), [0, 0, 0, 0, 2]);
+    refuses(&bench, 8, |bench| bench.credit());
     assert_eq!(taken(bench.up()).message, None);
+    assert_eq!(report(&bench, 2), [1, 0, 0, 0, 1]);
     assert_eq!(taken(bench.up()).message, Some(vec![1, 2, 3, 4, 5]));
-    taken(bench.up());
     assert_eq!(report(&bench, 2), [2, 0, 0, 0, 0]);
 }
 

@@ -53,32 +53,45 @@ static int bring_up(void) {
     return 0;
 }
 
-/* A loopback: create, send, push, down, consume, credit and both packets read. */
+/* A loopback: create, send, push, down, consume, and the packet read; it returns its
+ * credit. */
 static int loop_back(void) {
     static const uint8_t create[] = {1, 0}, created[] = {0x40, 4, 4, 0, 4, 2, 2};
     static const uint8_t message[] = {0xAA, 0xBB}, data[] = {2, 0, 2, 0xAA, 0xBB};
-    static const uint8_t numbers[] = {1, 0, 0, 1, 0}, notice[] = {0x60, 6, 3, 1, 2, 1};
+    static const uint8_t back[] = {2, 1, 2, 0xAA, 0xBB}, numbers[] = {1, 0, 0, 0, 1};
     HOLDS(put(nci_command(BENCH, 0, 4, create, sizeof create), 1, 0) && put(nci_down(BENCH), 0, 1));
     HOLDS(is_packet(NCI_WIRE_UP, 0, created, sizeof created) && put(nci_up(BENCH), 0, 0));
     HOLDS(put(nci_send(BENCH, 2, message, sizeof message), 0, 0));
     HOLDS(put(nci_push(BENCH, 2), 1, 0) && is_packet(NCI_WIRE_DOWN, 0, data, sizeof data));
     HOLDS(put(nci_down(BENCH), 0, 0));
     HOLDS(handed(nci_consume(BENCH, 2), message, sizeof message));
-    HOLDS(is_packet(NCI_WIRE_UP, 0, data, sizeof data));
+    HOLDS(is_packet(NCI_WIRE_UP, 0, back, sizeof back));
     HOLDS(handed(nci_report(BENCH, 2), numbers, sizeof numbers));
-    HOLDS(put(nci_credit(BENCH), 0, 1) && is_packet(NCI_WIRE_UP, 0, notice, sizeof notice));
-    HOLDS(handed(nci_up(BENCH), message, sizeof message) && put(nci_up(BENCH), 0, 0));
+    HOLDS(nci_credit(BENCH) == NCI_NOTHING_TO_MOVE);
+    HOLDS(handed(nci_up(BENCH), message, sizeof message));
     return 0;
 }
 
-/* The air: discovery, a poll activation, the endpoint's empty message. */
+/* A message to the endpoint, for which one credit is owed. */
+static int tell(void) {
+    static const uint8_t message[] = {0xCC}, numbers[] = {0, 0, 0, 1, 0};
+    HOLDS(put(nci_send(BENCH, 0, message, sizeof message), 0, 0) && put(nci_push(BENCH, 0), 1, 0));
+    HOLDS(put(nci_down(BENCH), 0, 0) && handed(nci_consume(BENCH, 0), message, sizeof message));
+    HOLDS(handed(nci_report(BENCH, 0), numbers, sizeof numbers));
+    return 0;
+}
+
+/* The air: discovery, a poll activation, the endpoint's empty message. What is owed there
+ * is returned by a notice first, then by the reply. */
 static int speak(void) {
     static const uint8_t modes[] = {1, 0, 1}, poll[] = {NCI_AIR_POLL, 1, 4, 0}, says[] = {NCI_AIR_MESSAGE};
-    static const uint8_t bare[] = {0, 0, 0};
+    static const uint8_t bare[] = {0, 1, 0}, notice[] = {0x60, 6, 3, 1, 0, 1};
     HOLDS(put(nci_command(BENCH, 1, 3, modes, sizeof modes), 1, 0));
     HOLDS(put(nci_down(BENCH), 0, 1) && put(nci_up(BENCH), 0, 0));
     HOLDS(put(nci_air(BENCH, poll, sizeof poll), 0, 1) && put(nci_up(BENCH), 0, 0));
-    HOLDS(put(nci_air(BENCH, says, sizeof says), 0, 0));
+    HOLDS(tell() == 0 && put(nci_credit(BENCH), 0, 1));
+    HOLDS(is_packet(NCI_WIRE_UP, 0, notice, sizeof notice) && put(nci_up(BENCH), 0, 0));
+    HOLDS(tell() == 0 && put(nci_air(BENCH, says, sizeof says), 0, 0));
     HOLDS(put(nci_reply(BENCH), 0, 1) && is_packet(NCI_WIRE_UP, 0, bare, sizeof bare));
     HOLDS(handed(nci_up(BENCH), bare, 0));
     return 0;

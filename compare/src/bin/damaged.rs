@@ -23,13 +23,15 @@ fn main() -> ExitCode {
     }
     let both = &damage.after.both;
     println!(
-        "difference=none seed={seed} made={} benches={} passed={} refusal1={} short={} looks={} {}",
+        "difference=none seed={seed} made={} benches={} passed={} refusal1={} short={} looks={} pastgrant={} replaced={} {}",
         damage.calls(),
         damage.benches,
         damage.passed,
         both.damaged,
         both.short,
         both.looks,
+        both.past_grant,
+        both.replaced,
         both.tally.fields()
     );
     ExitCode::SUCCESS

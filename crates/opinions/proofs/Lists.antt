@@ -7,26 +7,26 @@ use mathlib.Core.List.{[], _∷_}
 use Rattle.model.specs.Effects.{fresh, power, command, send, push, down, consume, credit, air, reply, up, report}
 use Rattle.opinions.specs.Shown.{hex, line, refusal, done, puts, hands, start, lines}
 
--- Payload 4 and two credits: a message of three packets waits for a notice; after it the five numbers of report still
--- come to the grant.
+-- Payload 4 and two credits on connection 0: consume returns no packet there, so that a message of three packets waits
+-- for a notice; before and after it the five numbers of report come to the grant.
 last-credit :
     lines
-    (fresh (hex 5 0x2004020401) ∷ command 0 0 (hex 1 0x01) ∷ down ∷ up ∷ up ∷ command 0 1 (hex 2 0x0000) ∷ down ∷ up
-    ∷ command 0 4 (hex 2 0x0100) ∷ down ∷ up ∷ report 2 ∷ credit ∷ push 2 ∷ send 2 (hex 9 0x010203040506070809)
-    ∷ send 2 (hex 1 0xAA) ∷ push 2 ∷ push 2 ∷ push 2 ∷ report 2 ∷ consume 2 ∷ down ∷ report 2 ∷ consume 2 ∷ report 2
-    ∷ credit ∷ report 2 ∷ down ∷ up ∷ report 2 ∷ up ∷ report 2 ∷ push 2 ∷ push 2 ∷ down ∷ consume 2 ∷ consume 2
-    ∷ report 2 ∷ up ∷ up ∷ credit ∷ report 2 ∷ up ∷ report 2 ∷ up ∷ credit ∷ [])
+    (fresh (hex 5 0x2004020402) ∷ command 0 0 (hex 1 0x01) ∷ down ∷ up ∷ up ∷ command 0 1 (hex 2 0x0000) ∷ down ∷ up
+    ∷ command 1 3 (hex 3 0x010001) ∷ down ∷ up ∷ air (hex 4 0x02010400) ∷ up ∷ report 0 ∷ credit ∷ push 0
+    ∷ send 0 (hex 9 0x010203040506070809) ∷ send 0 (hex 1 0xAA) ∷ push 0 ∷ push 0 ∷ push 0 ∷ report 0 ∷ consume 0 ∷ down
+    ∷ report 0 ∷ consume 0 ∷ report 0 ∷ credit ∷ report 0 ∷ push 0 ∷ down ∷ report 0 ∷ up ∷ report 0 ∷ push 0 ∷ push 0
+    ∷ down ∷ consume 0 ∷ consume 0 ∷ report 0 ∷ credit ∷ report 0 ∷ up ∷ report 0 ∷ up ∷ credit ∷ [])
     start
     ≡ done ∷ puts (hex 4 0x20000101) ∷ puts (hex 12 0x400001006000050201200000) ∷ done ∷ done
     ∷ puts (hex 5 0x2001020000) ∷ puts (hex 19 0x40011000000000000400002000000000010100) ∷ done
-    ∷ puts (hex 5 0x2004020100) ∷ puts (hex 7 0x40040400040202) ∷ done ∷ hands (hex 5 0x0200000000) ∷ refusal 8
-    ∷ refusal 8 ∷ done ∷ refusal 7 ∷ puts (hex 7 0x12000401020304) ∷ puts (hex 7 0x12000405060708) ∷ refusal 9
-    ∷ hands (hex 5 0x0002000000) ∷ refusal 8 ∷ done ∷ hands (hex 5 0x0001010000) ∷ puts (hex 7 0x12000401020304)
-    ∷ hands (hex 5 0x0001000100) ∷ puts (hex 6 0x600603010201) ∷ hands (hex 5 0x0001000001) ∷ done ∷ done
-    ∷ hands (hex 5 0x0000010001) ∷ done ∷ hands (hex 5 0x0100010000) ∷ puts (hex 4 0x02000109) ∷ refusal 8 ∷ done
-    ∷ puts (hex 7 0x12000405060708) ∷ line 0 false (hex 4 0x02000109) ((hex 9 0x010203040506070809) ∷ [])
-    ∷ hands (hex 5 0x0000000200) ∷ done ∷ hands (hex 9 0x010203040506070809) ∷ puts (hex 6 0x600603010202)
-    ∷ hands (hex 5 0x0000000002) ∷ done ∷ hands (hex 5 0x0200000000) ∷ refusal 8 ∷ refusal 8 ∷ []
+    ∷ puts (hex 6 0x210303010001) ∷ puts (hex 4 0x41030100) ∷ done ∷ puts (hex 14 0x61050B0101040004020000000000) ∷ done
+    ∷ hands (hex 5 0x0200000000) ∷ refusal 8 ∷ refusal 8 ∷ done ∷ refusal 7 ∷ puts (hex 7 0x10000401020304)
+    ∷ puts (hex 7 0x10000405060708) ∷ refusal 9 ∷ hands (hex 5 0x0002000000) ∷ refusal 8 ∷ done
+    ∷ hands (hex 5 0x0001010000) ∷ done ∷ hands (hex 5 0x0001000100) ∷ puts (hex 6 0x600603010001)
+    ∷ hands (hex 5 0x0001000001) ∷ refusal 9 ∷ done ∷ hands (hex 5 0x0000010001) ∷ done ∷ hands (hex 5 0x0100010000)
+    ∷ puts (hex 4 0x00000109) ∷ refusal 8 ∷ done ∷ done ∷ hands (hex 9 0x010203040506070809)
+    ∷ hands (hex 5 0x0000000200) ∷ puts (hex 6 0x600603010002) ∷ hands (hex 5 0x0000000002) ∷ done
+    ∷ hands (hex 5 0x0200000000) ∷ refusal 8 ∷ refusal 8 ∷ []
 unfolding lines
 last-credit = refl
 
@@ -35,18 +35,64 @@ empty-message :
     lines
     (fresh (hex 5 0x2004020401) ∷ command 0 0 (hex 1 0x01) ∷ down ∷ up ∷ up ∷ command 0 1 (hex 2 0x0000) ∷ down ∷ up
     ∷ command 0 4 (hex 2 0x0100) ∷ down ∷ up ∷ send 2 [] ∷ push 2 ∷ down ∷ consume 2 ∷ up
-    ∷ send 2 (hex 8 0x0102030405060708) ∷ push 2 ∷ credit ∷ up ∷ push 2 ∷ push 2 ∷ down ∷ down ∷ consume 2 ∷ consume 2
-    ∷ up ∷ up ∷ report 2 ∷ [])
+    ∷ send 2 (hex 8 0x0102030405060708) ∷ push 2 ∷ push 2 ∷ push 2 ∷ down ∷ down ∷ consume 2 ∷ consume 2 ∷ up ∷ up
+    ∷ report 2 ∷ [])
     start
     ≡ done ∷ puts (hex 4 0x20000101) ∷ puts (hex 12 0x400001006000050201200000) ∷ done ∷ done
     ∷ puts (hex 5 0x2001020000) ∷ puts (hex 19 0x40011000000000000400002000000000010100) ∷ done
     ∷ puts (hex 5 0x2004020100) ∷ puts (hex 7 0x40040400040202) ∷ done ∷ done ∷ puts (hex 3 0x020000) ∷ done
-    ∷ line 0 false (hex 3 0x020000) ([] ∷ []) ∷ hands [] ∷ done ∷ puts (hex 7 0x12000401020304)
-    ∷ puts (hex 6 0x600603010201) ∷ done ∷ puts (hex 7 0x02000405060708) ∷ refusal 8 ∷ done ∷ done
-    ∷ puts (hex 7 0x12000401020304) ∷ line 0 false (hex 7 0x02000405060708) ((hex 8 0x0102030405060708) ∷ []) ∷ done
-    ∷ hands (hex 8 0x0102030405060708) ∷ hands (hex 5 0x0000000200) ∷ []
+    ∷ line 0 false (hex 3 0x020100) ([] ∷ []) ∷ hands [] ∷ done ∷ puts (hex 7 0x12000401020304)
+    ∷ puts (hex 7 0x02000405060708) ∷ refusal 8 ∷ done ∷ done ∷ puts (hex 7 0x12010401020304)
+    ∷ line 0 false (hex 7 0x02010405060708) ((hex 8 0x0102030405060708) ∷ []) ∷ done ∷ hands (hex 8 0x0102030405060708)
+    ∷ hands (hex 5 0x0200000000) ∷ []
 unfolding lines
 empty-message = refl
+
+-- Payload 4 and two credits: a message of five packets goes to a loopback and comes back without a notice, since each
+-- packet that comes up carries the credit for itself.
+credits-in-data :
+    lines
+    (fresh (hex 5 0x2004020401) ∷ command 0 0 (hex 1 0x01) ∷ down ∷ up ∷ up ∷ command 0 1 (hex 2 0x0000) ∷ down ∷ up
+    ∷ command 0 4 (hex 2 0x0100) ∷ down ∷ up ∷ send 2 (hex 17 0x0102030405060708090A0B0C0D0E0F1011) ∷ push 2 ∷ push 2
+    ∷ push 2 ∷ report 2 ∷ down ∷ consume 2 ∷ report 2 ∷ credit ∷ push 2 ∷ up ∷ report 2 ∷ push 2 ∷ down ∷ down
+    ∷ consume 2 ∷ consume 2 ∷ report 2 ∷ up ∷ up ∷ report 2 ∷ push 2 ∷ push 2 ∷ push 2 ∷ report 2 ∷ down ∷ down
+    ∷ consume 2 ∷ consume 2 ∷ report 2 ∷ credit ∷ up ∷ up ∷ report 2 ∷ [])
+    start
+    ≡ done ∷ puts (hex 4 0x20000101) ∷ puts (hex 12 0x400001006000050201200000) ∷ done ∷ done
+    ∷ puts (hex 5 0x2001020000) ∷ puts (hex 19 0x40011000000000000400002000000000010100) ∷ done
+    ∷ puts (hex 5 0x2004020100) ∷ puts (hex 7 0x40040400040202) ∷ done ∷ done ∷ puts (hex 7 0x12000401020304)
+    ∷ puts (hex 7 0x12000405060708) ∷ refusal 9 ∷ hands (hex 5 0x0002000000) ∷ done ∷ puts (hex 7 0x12010401020304)
+    ∷ hands (hex 5 0x0001000001) ∷ refusal 8 ∷ refusal 9 ∷ done ∷ hands (hex 5 0x0101000000)
+    ∷ puts (hex 7 0x120004090A0B0C) ∷ done ∷ done ∷ puts (hex 7 0x12010405060708) ∷ puts (hex 7 0x120104090A0B0C)
+    ∷ hands (hex 5 0x0000000002) ∷ done ∷ done ∷ hands (hex 5 0x0200000000) ∷ puts (hex 7 0x1200040D0E0F10)
+    ∷ puts (hex 4 0x02000111) ∷ refusal 8 ∷ hands (hex 5 0x0002000000) ∷ done ∷ done ∷ puts (hex 7 0x1201040D0E0F10)
+    ∷ line 0 false (hex 4 0x02010111) ((hex 17 0x0102030405060708090A0B0C0D0E0F1011) ∷ []) ∷ hands (hex 5 0x0000000002)
+    ∷ refusal 8 ∷ done ∷ hands (hex 17 0x0102030405060708090A0B0C0D0E0F1011) ∷ hands (hex 5 0x0200000000) ∷ []
+unfolding lines
+credits-in-data = refl
+
+-- Five credits are owed on connection 0: the first reply carries three of them, the second the other two, the third
+-- none; the host holds them as it reads the replies.
+credits-in-replies :
+    lines
+    (fresh (hex 5 0x2004020105) ∷ command 0 0 (hex 1 0x01) ∷ down ∷ up ∷ up ∷ command 0 1 (hex 2 0x0000) ∷ down ∷ up
+    ∷ command 1 3 (hex 3 0x010001) ∷ down ∷ up ∷ air (hex 4 0x02010400) ∷ up ∷ send 0 (hex 5 0x0102030405) ∷ push 0
+    ∷ push 0 ∷ push 0 ∷ push 0 ∷ push 0 ∷ report 0 ∷ down ∷ down ∷ down ∷ down ∷ down ∷ consume 0 ∷ consume 0 ∷ report 0
+    ∷ consume 0 ∷ consume 0 ∷ consume 0 ∷ report 0 ∷ air (hex 2 0x08A1) ∷ reply ∷ report 0 ∷ air (hex 2 0x08A2) ∷ reply
+    ∷ report 0 ∷ air (hex 2 0x08A3) ∷ reply ∷ report 0 ∷ credit ∷ up ∷ report 0 ∷ up ∷ report 0 ∷ up ∷ report 0 ∷ [])
+    start
+    ≡ done ∷ puts (hex 4 0x20000101) ∷ puts (hex 12 0x400001006000050201200000) ∷ done ∷ done
+    ∷ puts (hex 5 0x2001020000) ∷ puts (hex 19 0x40011000000000000400002000000000010100) ∷ done
+    ∷ puts (hex 6 0x210303010001) ∷ puts (hex 4 0x41030100) ∷ done ∷ puts (hex 14 0x61050B0101040001050000000000) ∷ done
+    ∷ done ∷ puts (hex 4 0x10000101) ∷ puts (hex 4 0x10000102) ∷ puts (hex 4 0x10000103) ∷ puts (hex 4 0x10000104)
+    ∷ puts (hex 4 0x00000105) ∷ hands (hex 5 0x0005000000) ∷ done ∷ done ∷ done ∷ done ∷ done ∷ done ∷ done
+    ∷ hands (hex 5 0x0000030200) ∷ done ∷ done ∷ hands (hex 5 0x0102030405) ∷ hands (hex 5 0x0000000500) ∷ done
+    ∷ puts (hex 4 0x000301A1) ∷ hands (hex 5 0x0000000203) ∷ done ∷ puts (hex 4 0x000201A2) ∷ hands (hex 5 0x0000000005)
+    ∷ done ∷ puts (hex 4 0x000001A3) ∷ hands (hex 5 0x0000000005) ∷ refusal 8 ∷ hands (hex 1 0xA1)
+    ∷ hands (hex 5 0x0300000002) ∷ hands (hex 1 0xA2) ∷ hands (hex 5 0x0500000000) ∷ hands (hex 1 0xA3)
+    ∷ hands (hex 5 0x0500000000) ∷ []
+unfolding lines
+credits-in-replies = refl
 
 -- Without flow control nothing but the store's eight places holds the host back.
 full-store :
@@ -187,10 +233,31 @@ close :
     ∷ refusal 6 ∷ refusal 6 ∷ refusal 6 ∷ puts (hex 5 0x2004020100) ∷ puts (hex 7 0x40040400040204) ∷ done
     ∷ puts (hex 5 0x2004020100) ∷ puts (hex 7 0x40040400040205) ∷ done ∷ puts (hex 5 0x2004020100)
     ∷ puts (hex 7 0x40040400040202) ∷ done ∷ done ∷ puts (hex 4 0x020001AA) ∷ done
-    ∷ line 0 false (hex 4 0x020001AA) ((hex 1 0xAA) ∷ []) ∷ hands (hex 1 0xAA) ∷ hands (hex 5 0x0100000100)
+    ∷ line 0 false (hex 4 0x020101AA) ((hex 1 0xAA) ∷ []) ∷ hands (hex 1 0xAA) ∷ hands (hex 5 0x0200000000)
     ∷ puts (hex 4 0x20050100) ∷ puts (hex 4 0x40050101) ∷ done ∷ []
 unfolding lines
 close = refl
+
+-- A loopback closes with credits on their way: the host reads them with the packets that came before the response, and
+-- cannot spend them any more; the next connection starts with its own.
+credits-during-close :
+    lines
+    (fresh (hex 5 0x2004020401) ∷ command 0 0 (hex 1 0x01) ∷ down ∷ up ∷ up ∷ command 0 1 (hex 2 0x0000) ∷ down ∷ up
+    ∷ command 0 4 (hex 2 0x0100) ∷ down ∷ up ∷ send 2 (hex 9 0x010203040506070809) ∷ push 2 ∷ push 2 ∷ push 2 ∷ down
+    ∷ down ∷ consume 2 ∷ report 2 ∷ command 0 5 (hex 1 0x02) ∷ consume 2 ∷ report 2 ∷ down ∷ report 2 ∷ consume 2
+    ∷ push 2 ∷ up ∷ push 2 ∷ up ∷ push 2 ∷ up ∷ push 2 ∷ credit ∷ command 0 4 (hex 2 0x0100) ∷ down ∷ up ∷ report 3
+    ∷ [])
+    start
+    ≡ done ∷ puts (hex 4 0x20000101) ∷ puts (hex 12 0x400001006000050201200000) ∷ done ∷ done
+    ∷ puts (hex 5 0x2001020000) ∷ puts (hex 19 0x40011000000000000400002000000000010100) ∷ done
+    ∷ puts (hex 5 0x2004020100) ∷ puts (hex 7 0x40040400040202) ∷ done ∷ done ∷ puts (hex 7 0x12000401020304)
+    ∷ puts (hex 7 0x12000405060708) ∷ refusal 9 ∷ done ∷ done ∷ puts (hex 7 0x12010401020304)
+    ∷ hands (hex 5 0x0000010001) ∷ puts (hex 4 0x20050102) ∷ puts (hex 7 0x12010405060708) ∷ hands (hex 5 0x0000000002)
+    ∷ puts (hex 4 0x40050100) ∷ refusal 6 ∷ refusal 6 ∷ refusal 9 ∷ done ∷ refusal 10 ∷ done ∷ refusal 10 ∷ done
+    ∷ refusal 6 ∷ refusal 8 ∷ puts (hex 5 0x2004020100) ∷ puts (hex 7 0x40040400040203) ∷ done
+    ∷ hands (hex 5 0x0200000000) ∷ []
+unfolding lines
+credits-during-close = refl
 
 -- While a close or a reset is under way every send is turned away, on any connection; what the response discards was in
 -- hand before the command.

@@ -37,16 +37,13 @@ paper =
     ∷ consume 2
     ∷ report 2
     ∷ credit
+    ∷ up
     ∷ report 2
-    ∷ up
-    ∷ up
     ∷ push 2
     ∷ down
     ∷ consume 2
     ∷ consume 2
     ∷ up
-    ∷ up
-    ∷ credit
     ∷ up
     ∷ send 2 (hex 1 0x0A)
     ∷ push 2
@@ -78,11 +75,11 @@ paper =
     ∷ up
     ∷ send 0 (hex 1 0x31)
     ∷ push 0
-    ∷ credit
-    ∷ up
-    ∷ push 0
     ∷ down
     ∷ consume 0
+    ∷ report 0
+    ∷ credit
+    ∷ up
     ∷ report 0
     ∷ command 1 6 (hex 1 0x00)
     ∷ down
@@ -119,30 +116,27 @@ paperShows =
     ∷ done
     ∷ done
     ∷ hands (hex 5 0x0000020000)
-    ∷ puts (hex 7 0x12000401020304)
-    ∷ hands (hex 5 0x0000010100)
-    ∷ puts (hex 6 0x600603010201)
+    ∷ puts (hex 7 0x12010401020304)
     ∷ hands (hex 5 0x0000010001)
+    ∷ refusal 8
     ∷ done
-    ∷ done
+    ∷ hands (hex 5 0x0100010000)
     ∷ puts (hex 4 0x02000109)
     ∷ done
-    ∷ puts (hex 7 0x12000405060708)
-    ∷ line 0 false (hex 4 0x02000109) ((hex 9 0x010203040506070809) ∷ [])
+    ∷ puts (hex 7 0x12010405060708)
+    ∷ line 0 false (hex 4 0x02010109) ((hex 9 0x010203040506070809) ∷ [])
     ∷ done
     ∷ hands (hex 9 0x010203040506070809)
-    ∷ puts (hex 6 0x600603010202)
-    ∷ done
     ∷ done
     ∷ puts (hex 4 0x0200010A)
     ∷ done
-    ∷ line 0 false (hex 4 0x0200010A) ((hex 1 0x0A) ∷ [])
+    ∷ line 0 false (hex 4 0x0201010A) ((hex 1 0x0A) ∷ [])
     ∷ hands (hex 1 0x0A)
-    ∷ hands (hex 5 0x0100000100)
+    ∷ hands (hex 5 0x0200000000)
     ∷ done
     ∷ puts (hex 5 0x030002AABB)
     ∷ done
-    ∷ line 0 false (hex 5 0x030002AABB) ((hex 2 0xAABB) ∷ [])
+    ∷ line 0 false (hex 5 0x030102AABB) ((hex 2 0xAABB) ∷ [])
     ∷ hands (hex 2 0xAABB)
     ∷ puts (hex 5 0x2103020100)
     ∷ refusal 5
@@ -159,16 +153,16 @@ paperShows =
     ∷ done
     ∷ hands (hex 2 0x3000)
     ∷ done
-    ∷ puts (hex 7 0x00000411223344)
+    ∷ puts (hex 7 0x00010411223344)
     ∷ hands (hex 4 0x11223344)
-    ∷ done
-    ∷ refusal 9
-    ∷ puts (hex 10 0x60060703000102010301)
     ∷ done
     ∷ puts (hex 4 0x00000131)
     ∷ done
     ∷ hands (hex 1 0x31)
     ∷ hands (hex 5 0x0000000100)
+    ∷ puts (hex 6 0x600603010001)
+    ∷ done
+    ∷ hands (hex 5 0x0100000000)
     ∷ puts (hex 4 0x21060100)
     ∷ puts (hex 9 0x410601006106020000)
     ∷ done

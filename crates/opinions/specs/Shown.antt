@@ -4,9 +4,9 @@ use Prim.Native.Nat.{ℕ, zero, suc, _/_, _%_}
 use mathlib.Core.Bool.{Bool, false}
 use mathlib.Core.List.{List, [], _∷_, _++_}
 use Rattle.octets.specs.Octets.{Octets, cut}
-use Rattle.packets.specs.Packet.{octet0, octet1, packetOf, oidOf, spareOf, headerOf, readOf}
+use Rattle.packets.specs.Packet.{octet0, octet1, packetOf, oidOf, carriedOf, spareOf, headerOf, readOf, carrying}
 use Rattle.packets.specs.Segments.{segmentsWithin, segments}
-use Rattle.state.specs.Conn.{placeOf, connOf, termsOf}
+use Rattle.state.specs.Conn.{placeOf, connOf, termsOf, carriable}
 use Rattle.state.specs.Radio.{listedIn, addedTo}
 use Rattle.state.specs.Commands.{commandOf}
 use Rattle.state.specs.Profile.{profileIn}
@@ -82,6 +82,6 @@ start = cold (profileIn profile)
 
 -- each call's line. What is named below unfolds wherever `lines` does, so that a list of calls computes.
 unfoldable pub lines : List Call → State → List Line
-unfolding cut octet0 octet1 packetOf oidOf spareOf headerOf readOf segmentsWithin segments placeOf connOf termsOf listedIn addedTo commandOf shortest allowed resetBy after seek nextId createBy closeBy configsOk discoverBy deactivateBy judgeOf controllerAfter entriesFrom entryCount responseOf noticeMessage foundIn pollIn listenIn eventOf foundBy pollBy listenBy failedBy airedBy airMessage controllerAired noticeOf zeros initWritten createWritten entriesOk creditsWritten discoverWritten activatedWritten deactivateWritten written answerOf heardAlone hearOf creditsIn namesClosed hostAfter dropHeard meaning dataCount creditsUp first allZero anyOf step
+unfolding cut octet0 octet1 packetOf oidOf carriedOf spareOf headerOf readOf carrying segmentsWithin segments placeOf connOf termsOf carriable listedIn addedTo commandOf shortest allowed resetBy after seek nextId createBy closeBy configsOk discoverBy deactivateBy judgeOf controllerAfter entriesFrom entryCount responseOf noticeMessage foundIn pollIn listenIn eventOf foundBy pollBy listenBy failedBy airedBy airMessage controllerAired noticeOf zeros initWritten createWritten entriesOk creditsWritten discoverWritten activatedWritten deactivateWritten written answerOf heardAlone hearOf creditsIn namesClosed hostAfter dropHeard meaning dataCount creditsUp first allZero anyOf step
 lines [] s = []
 lines (c ∷ cs) s = lineOf (step c s) ∷ lines cs (step c s .effect .next)

@@ -2,9 +2,9 @@
 -- Assumes nothing.
 use mathlib.Core.Path.{_≡_, refl, _∙_}
 use Rattle.octets.specs.Octets.{cut}
-use Rattle.packets.specs.Packet.{octet0, octet1, packetOf, oidOf, spareOf, headerOf, readOf}
+use Rattle.packets.specs.Packet.{octet0, octet1, packetOf, oidOf, carriedOf, spareOf, headerOf, readOf, carrying}
 use Rattle.packets.specs.Segments.{segmentsWithin, segments}
-use Rattle.state.specs.Conn.{placeOf, connOf, termsOf}
+use Rattle.state.specs.Conn.{placeOf, connOf, termsOf, carriable}
 use Rattle.state.specs.Commands.{commandOf}
 use Rattle.state.specs.Profile.{profileIn}
 use Rattle.nfcc.specs.Controller.{shortest, allowed, resetBy, after, seek, nextId, createBy, judgeOf, controllerAfter}
@@ -29,11 +29,11 @@ use Rattle.sheet.specs.FirstPapers.{threeLines, threeAnswers, firstPaper
 use Rattle.sheet.proofs.Playing.{papers}
 
 three-lines : modelled threeLines (cold (profileIn firstProfile)) ≡ threeAnswers
-unfolding threeLines threeAnswers modelled asks argsOf formed among joined digitOf valueOf hexOf allDigits isHex octetsIn decimalOf sameAs startsWith upTo bit cut octet0 octet1 packetOf oidOf spareOf headerOf readOf segmentsWithin segments placeOf connOf termsOf commandOf shortest allowed resetBy judgeOf controllerAfter responseOf noticeMessage meaning first step
+unfolding threeLines threeAnswers modelled asks argsOf formed among joined digitOf valueOf hexOf allDigits isHex octetsIn decimalOf sameAs startsWith upTo bit cut octet0 octet1 packetOf oidOf carriedOf spareOf headerOf readOf segmentsWithin segments placeOf connOf termsOf commandOf shortest allowed resetBy judgeOf controllerAfter responseOf noticeMessage meaning first step
 three-lines = refl
 
 first-paper : modelled firstPaper (cold (profileIn firstProfile)) ≡ firstAnswers
-unfolding firstPaper firstAnswers modelled asks argsOf formed among joined digitOf valueOf hexOf allDigits isHex octetsIn decimalOf sameAs startsWith upTo bit cut octet0 octet1 packetOf oidOf spareOf headerOf readOf segmentsWithin segments placeOf connOf termsOf commandOf shortest allowed resetBy after seek nextId createBy judgeOf controllerAfter entriesFrom entryCount responseOf noticeMessage noticeOf zeros initWritten createWritten entriesOk creditsWritten written answerOf heardAlone hearOf creditsIn namesClosed hostAfter dropHeard meaning dataCount creditsUp first allZero anyOf step
+unfolding firstPaper firstAnswers modelled asks argsOf formed among joined digitOf valueOf hexOf allDigits isHex octetsIn decimalOf sameAs startsWith upTo bit cut octet0 octet1 packetOf oidOf carriedOf spareOf headerOf readOf carrying segmentsWithin segments placeOf connOf termsOf carriable commandOf shortest allowed resetBy after seek nextId createBy judgeOf controllerAfter entriesFrom entryCount responseOf noticeMessage noticeOf zeros initWritten createWritten entriesOk creditsWritten written answerOf heardAlone hearOf creditsIn namesClosed hostAfter dropHeard meaning dataCount creditsUp first allZero anyOf step
 first-paper = refl
 
 pub first-papers : FirstPapers

@@ -3,7 +3,7 @@
 use super::{Goal, Player, Step};
 use crate::bench::Bench;
 use crate::call::Call;
-use crate::connection::CONN_IDS;
+use crate::connection::{CONN_IDS, STATIC_RF};
 use crate::controller::{Pair, Phase, Rf};
 use crate::layout::*;
 
@@ -115,18 +115,46 @@ impl Player {
         self.then_command(create);
     }
 
-    /// Sends and moves a message some way.
+    /// Sends and moves a message some way. A loopback's packets bring its credits
+    /// back, so that a notice is asked for only now and then.
     fn plan_traffic(&mut self, bench: &Bench) {
         let conn = self.open_conn(bench);
+        if conn == STATIC_RF && self.random.chance(70) {
+            return self.plan_dialogue(bench);
+        }
         let message = self.message();
         self.then(Call::Send { conn, message });
         for _ in 0..1 + self.random.below(12) {
-            let moves = [Call::Push(conn), Call::Down, Call::Consume(conn), Call::Credit, Call::Up];
+            let moves = [Call::Push(conn), Call::Down, Call::Consume(conn), Call::Up];
             for call in moves {
                 if self.random.chance(85) {
                     self.then(call);
                 }
             }
+            if self.random.chance(10) {
+                self.then(Call::Credit);
+            }
+        }
+    }
+
+    /// Host and endpoint speak in turn on connection 0: what is owed for the packets
+    /// consumed comes back inside the replies, mostly.
+    fn plan_dialogue(&mut self, bench: &Bench) {
+        let segments = 1 + self.random.below(8);
+        let message = self.message_of_segments(bench, STATIC_RF, segments);
+        self.then(Call::Send { conn: STATIC_RF, message });
+        for call in [Call::Push(STATIC_RF), Call::Down, Call::Consume(STATIC_RF)] {
+            self.then_times(call, segments);
+        }
+        if self.random.chance(15) {
+            self.then(Call::Credit);
+        }
+        let replies = self.random.pick(&[1, 2, 3, 5]);
+        let answer = self.random.octets(255 * (replies - 1) + 4);
+        self.then(Call::Air([&[8][..], &answer].concat()));
+        for _ in 0..replies {
+            self.then(Call::Reply);
+            self.then_perhaps(Call::Up);
         }
     }
 
