@@ -4,8 +4,9 @@ use Prim.Native.Nat.{ℕ}
 use mathlib.Core.Path.{_≡_, refl, sym, ap, _∙_}
 use mathlib.Core.List.{List, [], _∷_}
 use Rattle.octets.specs.Octets.{Octets}
+use Rattle.octets.specs.Octal.{octal-nil}
 use Rattle.views.specs.View.{viewOf}
-use Rattle.model.specs.Effects.{Call}
+use Rattle.model.specs.Effects.{Call, credit}
 use Rattle.model.specs.Observer.{Event, events}
 use Rattle.model.specs.Table.{Plays, Gives, Table}
 use Rattle.model.specs.Limits.{Limits}
@@ -17,7 +18,7 @@ use Rattle.calls.specs.Seen.{Puts, noPuts, putsAfter}
 use Rattle.calls.specs.Refines.{Good, Along, Refines}
 use Rattle.calls.specs.calls.Fresh.{freshCall}
 use Rattle.calls.specs.Demand.{Key, pressed, AllOctal, areaAfter, seenIn}
-use Rattle.calls.specs.Played.{callsIn, AllRoom, AsModel, OctetPlays, ShortArea}
+use Rattle.calls.specs.Played.{callsIn, AllRoom, AsModel, OctetPlays, TwoCredits, ShortArea}
 use Rattle.calls.proofs.Starting.{fresh-view}
 use Rattle.calls.proofs.Demanding.{all-refine, short-area, started, run-stands, starts-standing}
 
@@ -65,6 +66,9 @@ octet-table =
       close-closed = gives _ _ _ _ _ _ (table .close-closed);
       close-open = gives _ _ _ _ _ _ (table .close-open);
     }
+
+pub two-credits : TwoCredits
+two-credits a out p g al room owed free = all-refine credit p a out octal-nil g room al .event ∙ table .credits (viewOf a) owed free
 
 pub octet-limits : Limits OctetPlays
 octet-limits =

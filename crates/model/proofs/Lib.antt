@@ -13,6 +13,7 @@ pub mod Order
 pub mod Closing
 pub mod Fine
 pub mod Keeping
+pub mod Returning
 pub mod Deciding
 pub mod Arriving
 pub mod Airing
@@ -27,6 +28,7 @@ pub mod Sizes
 pub mod Shaped
 pub mod WellFormed
 pub mod DataOpen
+pub mod Paid
 pub mod Discards
 pub mod Whole
 pub mod Limits

@@ -28,7 +28,8 @@ use Rattle.model.proofs.Link.{held-counted, held-shown, stored-counted,
 use Rattle.model.proofs.Meanings.{dataCount-segs, creditsUp-items}
 use Rattle.model.proofs.Messages.{profile-limits}
 use Rattle.model.proofs.Fine.{kept, cold-fine}
-use Rattle.model.proofs.Keeping.{fresh-keeps, power-keeps, command-keeps, send-keeps, push-keeps, consume-keeps, credit-keeps, reply-keeps, report-keeps}
+use Rattle.model.proofs.Keeping.{fresh-keeps, power-keeps, command-keeps, send-keeps, push-keeps, report-keeps}
+use Rattle.model.proofs.Returning.{consume-keeps, credit-keeps, reply-keeps}
 use Rattle.model.proofs.Arriving.{down-keeps}
 use Rattle.model.proofs.Airing.{air-keeps}
 use Rattle.model.proofs.Hearing.{up-keeps}

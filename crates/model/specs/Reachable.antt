@@ -19,6 +19,7 @@ use Rattle.wires.specs.Meaning.{Meaning, datum, control, junk, meaning}
 use Rattle.model.specs.State.{State, cold}
 use Rattle.model.specs.Effects.{Call, refused}
 use Rattle.model.specs.Refusals.{noConn}
+use Rattle.model.specs.calls.Consume.{isLoop}
 use Rattle.ends.specs.Changes.{Change, stays, opens, closes, gives}
 use Rattle.model.specs.Bench.{step}
 use Rattle.model.specs.Observer.{after, changeIn}
@@ -32,6 +33,12 @@ Always P = (profile : Octets) → profileOctetsOk profile ≡ true → (calls : 
 -- no call is refused with 13
 abbrev pub Never13 : State → Type 0
 Never13 s = (c : Call) → step c s .answer ≡ refused 13 → ⊥
+
+-- ---- credits owed
+
+-- a loopback owes nothing between calls, since what is consumed goes up with its credit; so a notice is for connection 0 alone
+abbrev pub LoopbacksPaid : State → Type 0
+LoopbacksPaid s = (d : ℕ) → isLoop d ≡ true → s .conns d .controller .owed ≡ 0
 
 -- ---- sizes
 

@@ -153,8 +153,8 @@ pub record Table (P : List Event → Type 0) : Type 0 where
       ∷ [])
   -- "20 04 02 01 00 gives 40 04 04 00 04 02 02"
   pub create : Gives P ready 0x0 0x04 (0x01 ∷ 0x00 ∷ []) (0x20 ∷ 0x04 ∷ 0x02 ∷ 0x01 ∷ 0x00 ∷ []) (0x40 ∷ 0x04 ∷ 0x04 ∷ 0x00 ∷ 0x04 ∷ 0x02 ∷ 0x02 ∷ [])
-  -- "Two credits to 2: 60 06 03 01 02 02", wherever 2 owes two and no other any. Packets that go up leave a loopback nothing to owe, so by
-  -- calls alone it is two credits to 0
+  -- "Two credits to 2: 60 06 03 01 02 02", wherever 2 owes two and no other any. From fresh on a loopback owes nothing (`LoopbacksPaid`),
+  -- so by calls alone it is two credits to 0
   pub credits : (s : State) → owedBy s ≡ 0 ∷ 2 ∷ 0 ∷ 0 ∷ 0 ∷ [] → full 1 (s .up) ≡ false
       → eventOf credit (step credit s) ≡ goesUp credit (0x60 ∷ 0x06 ∷ 0x03 ∷ 0x01 ∷ 0x02 ∷ 0x02 ∷ [])
   pub credits-zero : P (twoOwed ++ goesUp credit (0x60 ∷ 0x06 ∷ 0x03 ∷ 0x01 ∷ 0x00 ∷ 0x02 ∷ []) ∷ [])

@@ -1,9 +1,6 @@
 -- `area::movers::return_slot` meets its contract: what was copied to the local array, with its credits, is what is then written.
 -- Assumes nothing.
 use mathlib.Core.Path.{ap, sym, _∙_}
-use mathlib.Core.List.{List}
-use native.Mathlib.Omega.{arith}
-use Prim.Native.Nat.{ℕ}
 use Rattle.octets.specs.Octets.{splice}
 use Rattle.octets.proofs.Octets.{cut-part, length-cut, splice-all}
 use Rattle.packets.specs.Packet.{carrying}

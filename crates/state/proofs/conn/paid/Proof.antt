@@ -1,6 +1,5 @@
 -- `state::conn::paid` meets its contract: no more is carried than is owed.
 -- Assumes nothing.
-use native.Mathlib.Omega.{arith}
 use Rattle.state.proofs.Credits.{carried-owed}
 use borrow.Author.Needs.{needs}
 use Rattle.state.proofs.conn.paid.Statement.{statement}
