@@ -11,14 +11,19 @@ fn packet_of(line: &[u8], end: usize, packet: &mut [u8]) -> Held {
     fields::octets_of(octets::window(line, end, 600), b" pkt=", packet)
 }
 
+// What octet 1 of a packet holds.
+fn put_second(out: &mut [u8], at: usize, h: packets::Header) -> usize {
+    let mut n = text::put_octets(out, at, b" oid=", &[h.oid]);
+    n = text::put_octets(out, n, b" credits=", &[h.credits]);
+    text::put_octets(out, n, b" spare=", &[h.spare])
+}
+
 // The fields of a packet's header.
 fn put_header(out: &mut [u8], at: usize, h: packets::Header, len: usize) -> usize {
     let mut n = text::put_small(out, at, b" read=packet mt=", h.mt);
     n = text::put_flag(out, n, b" pbf=", h.pbf);
     n = text::put_small(out, n, b" id=", h.id);
-    n = text::put_octets(out, n, b" oid=", &[h.oid]);
-    n = text::put_octets(out, n, b" credits=", &[h.credits]);
-    n = text::put_octets(out, n, b" spare=", &[h.spare]);
+    n = put_second(out, n, h);
     text::put_number(out, n, b" len=", len)
 }
 
