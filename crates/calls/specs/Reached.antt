@@ -1,4 +1,4 @@
--- What else holds of every run of calls on octets from a fresh bench: which refusals never come, and that a front end reads the packets that the observer sees.
+-- What else holds of every run of calls on octets from a fresh bench: which refusals never come, that a loopback owes nothing, and that a front end reads the packets that the observer sees.
 -- Assumes nothing.
 use Prim.Native.Nat.{ℕ, _≤_}
 use mathlib.Core.Path.{_≡_}
@@ -8,7 +8,9 @@ use Rattle.octets.specs.Octets.{Octets}
 use Rattle.octets.specs.Octal.{Octal}
 use Rattle.area.specs.Map.{areaSize, messageSize}
 use Rattle.record.specs.Judge.{judgeOf}
+use Rattle.views.specs.View.{viewOf}
 use Rattle.model.specs.Effects.{refused}
+use Rattle.model.specs.Reachable.{LoopbacksPaid}
 use Rattle.calls.specs.Word.{answerIn, downIn, upIn}
 use Rattle.calls.specs.Seen.{Puts, seenBy}
 use Rattle.calls.specs.Packet.{lastPackets}
@@ -27,6 +29,10 @@ pub record Reached (a : Octets) : Type 0 where
 
 abbrev pub AlwaysReached : Type 0
 AlwaysReached = EveryRun (λ a p o. Reached a)
+
+-- a loopback owes nothing between calls
+abbrev pub AlwaysPaid : Type 0
+AlwaysPaid = EveryRun (λ a p o. LoopbacksPaid (viewOf a))
 
 -- of the area a that a run has left, with p packets put on each wire: what is seen of the packets that the next call puts is what the packet reader
 -- hands out for them, counted from the wire's end, each into a buffer with room

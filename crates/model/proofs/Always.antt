@@ -21,7 +21,7 @@ abbrev pub Stays : (State → Type 0) → Type 0
 Stays P = (c : Call) (s : State) (aim : ℕ) (l : ℕ → Ledger) → first (rules c s) ≡ taken → Fine s aim l → P s → P (act c s .next)
 
 module _ (P : State → Type 0) (stays : Stays P) where
-  step-stays : (c : Call) (s : State) (o : Account) → Kept s o → P s → P (step c s .effect .next)
+  pub step-stays : (c : Call) (s : State) (o : Account) → Kept s o → P s → P (step c s .effect .next)
   unfolding step
   step-stays c s o k h = go (first (rules c s)) refl
     where

@@ -11,13 +11,13 @@ use Rattle.octets.specs.Octets.{Octets, pick}
 use Rattle.packets.specs.Segments.{Segment, segments}
 use Rattle.state.specs.Conn.{termsOf, flows, carriable}
 use Rattle.state.proofs.Chains.{on}
-use Rattle.model.specs.Kinds.{Aired}
+use Rattle.model.specs.Kinds.{Profile, Aired}
 use Rattle.model.specs.Kinds.aired.{Refused, Goes, Activates, Ends, Speaks}
 use Rattle.nfcc.specs.Controller.{judgeOf}
 use Rattle.ends.specs.Changes.{Change, stays, opens, closes, gives, changeBy, changeAired}
 use Rattle.model.specs.Connection.{ControllerEnd, Connection, withHost, withController, sent, pushed, heardData, credited, stored, paid, spoken}
 use Rattle.wires.specs.Meaning.{Meaning, datum, control, junk, meaning}
-use Rattle.model.specs.State.{State, isOpen, at, withDown, withUp, withHearing, withAsking}
+use Rattle.model.specs.State.{State, cold, isOpen, at, withDown, withUp, withHearing, withAsking}
 use Rattle.model.specs.Effects.{Effect, fresh, power, command, send, push, down, consume, credit, air, reply, up, report, taken}
 use Rattle.model.specs.Refusals.{first, isHeld}
 use Rattle.model.specs.Changes.{atController}
@@ -127,7 +127,7 @@ up-paid s (p ∷ w) h = coming-paid (withUp w s) (meaning p) h
 
 -- ---- every call
 
-act-paid : Stays LoopbacksPaid
+pub act-paid : Stays LoopbacksPaid
 act-paid (fresh m) s aim l t f h = λ d o. refl
 act-paid power s aim l t f h = λ d o. refl
 act-paid (command gid oid m) s aim l t f h = h
@@ -141,5 +141,8 @@ act-paid reply s aim l t f h = reply-paid s (s .conns 0 .controller .speech) h
 act-paid up s aim l t f h = up-paid s (s .up) h
 act-paid (report c) s aim l t f h = h
 
+pub cold-paid : (p : Profile) → LoopbacksPaid (cold p)
+cold-paid p d o = refl
+
 pub loopbacks-paid : Always LoopbacksPaid
-loopbacks-paid = always LoopbacksPaid act-paid (λ p l d o. refl)
+loopbacks-paid = always LoopbacksPaid act-paid (λ p l. cold-paid p)

@@ -2,7 +2,7 @@
 -- message that it finishes is handed out. A credit is owed if flow-controlled; on a loopback the packet also goes up, unchanged but for
 -- the credits that it carries.
 -- Assumes nothing.
-use Prim.Native.Nat.{ℕ, _+_, _-_, _≤_, _<_}
+use Prim.Native.Nat.{ℕ, _+_, _≤_, _<_}
 use mathlib.Core.Path.{_≡_}
 use mathlib.Core.Bool.{Bool, true, false}
 use Rattle.octets.specs.Octets.{Octets, pick, cut, splice}
@@ -10,7 +10,7 @@ use Rattle.packets.specs.Packet.{readOf, payloadOf, carrying}
 use Rattle.calls.specs.Kinds.{Reading, Progress, Joined, ControllerSide, Record}
 use Rattle.calls.specs.Kinds.reading.{Packet, Drop}
 use Rattle.state.specs.Conn as conn
-use Rattle.state.specs.Conn.{placeOf, countsOf, flows, creditSum, carriedBy}
+use Rattle.state.specs.Conn.{placeOf, countsOf, flows, creditSum, carriedBy, paidSide}
 use Rattle.state.specs.Runs.{joinedOf}
 use Rattle.area.specs.Map.{slotSize, wireSlots, storeSlots, messageSize, places, upAt, storeAt, controllerRunAt}
 use Rattle.area.specs.Ring.{firstAt, freeAt, tookFrom, putInto}
@@ -58,7 +58,7 @@ echoedSide goes k =
     record {
       opened = k .opened;
       grant = k .grant;
-      owed = pick goes (k .owed - carriedBy k) (k .owed);
+      owed = pick goes (paidSide k .owed) (k .owed);
       store = k .store;
       run = k .run;
     }

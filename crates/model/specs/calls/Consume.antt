@@ -1,7 +1,7 @@
 -- consume: the controller takes the oldest stored packet into reassembly; on a loopback it also goes up, unchanged but for the credits
 -- that it carries (003, 3.4.3).
 -- Assumes nothing.
-use Prim.Native.Nat.{ℕ, _-_}
+use Prim.Native.Nat.{ℕ}
 use mathlib.Core.Bool.{Bool, true, not, _&&_}
 use mathlib.Core.List.{List, [], _∷_}
 use lib.Dec.{eqb, leb}
@@ -11,7 +11,7 @@ use Rattle.packets.specs.Segments.{Segment}
 use Rattle.packets.specs.Reassembly.{Run, grown, finished, flagged}
 use Rattle.state.specs.Conn.{flows}
 use Rattle.state.specs.Runs.{dataLimit}
-use Rattle.model.specs.Connection.{ControllerEnd, withController, consumed, carriedOn}
+use Rattle.model.specs.Connection.{ControllerEnd, withController, consumed, carriedOn, paid}
 use Rattle.wires.specs.Meaning.{Meaning, datum, control, junk, meaning}
 use Rattle.model.specs.State.{State, isOpen, at, withConns}
 use Rattle.model.specs.Effects.{Effect, quiet, puttingUp}
@@ -31,7 +31,7 @@ echoed goes k =
     record {
       opened = k .opened;
       grant = k .grant;
-      owed = pick goes (k .owed - carriedOn k) (k .owed);
+      owed = pick goes (paid k .owed) (k .owed);
       store = k .store;
       run = k .run;
       speech = k .speech;
