@@ -13,7 +13,7 @@ use Rattle.packets.specs.Reassembly.{grown, finished}
 use Rattle.state.specs.Conn.{flows}
 use Rattle.state.specs.Runs.{dataLimit}
 use Rattle.state.proofs.Chains.{and-left}
-use Rattle.state.proofs.Credits.{carriable-owed, owing-owed}
+use Rattle.state.proofs.Credits.{carried-owed}
 use Rattle.model.specs.Connection.{ControllerEnd, Connection, withHost, withController, closed as coldConnection, sent, pushed, stored, consumed, owedOn, carriedOn, paid, noticed, spoken}
 use Rattle.wires.specs.Meaning.{meaning}
 use Rattle.ends.specs.Changes.{gives, givenTo}
@@ -69,10 +69,6 @@ module _ {loop : Bool} {k : Connection} {d : List Segment} {u : List Item} {l : 
 abbrev pub afterwards : List Octets → Segment → ControllerEnd → ControllerEnd
 afterwards rest x c = consumed rest (grown dataLimit (c .run) x) c
 
--- no more is carried than is owed
-pub carried-few : (c : ControllerEnd) → carriedOn c ≤ c .owed
-carried-few c = omega (arith, carriable-owed (owedOn c), owing-owed (c .opened) (c .grant) (c .owed))
-
 module _ {k : Connection} {d : List Segment} {u : List Item} {l : Ledger} where
   -- ---- the controller consumes a stored packet; on a loopback it is put up again, with what is then owed
 
@@ -81,9 +77,10 @@ module _ {k : Connection} {d : List Segment} {u : List Item} {l : Ledger} where
       → Good true (withController (paid (afterwards rest x (k .controller))) k) d (u ++ (loaded (carriedOn (afterwards rest x (k .controller))) x ∷ []))
       (putBy (gives (carriedOn (afterwards rest x (k .controller)))) (consumedL (finished dataLimit (k .controller .run) x) l))
   consume-loop p rest x m c e small g =
-      let n = carriedOn (afterwards rest x (k .controller)) in
+      let a = afterwards rest x (k .controller) in
+      let n = carriedOn a in
       record {
-        numbers = carried (record { credits = n; segment = x }) c (carried-few (afterwards rest x (k .controller))) (consume-numbers k d u l p rest x c e small (g .numbers));
+        numbers = carried (record { credits = n; segment = x }) c (carried-owed (a .opened) (a .grant) (a .owed)) (consume-numbers k d u l p rest x c e small (g .numbers));
         pipes = consume-pipes k d u l p rest x m e (u ++ (loaded n x ∷ [])) (echoed k d u l p rest n x m e) (g .pipes);
       }
 
@@ -99,8 +96,9 @@ module _ {k : Connection} {d : List Segment} {u : List Item} {l : Ledger} where
   pub reply-good : (x : Segment) (rest : List Segment) → k .controller .opened ≡ true → k .controller .speech ≡ x ∷ rest → Good false k d u l
       → Good false (withController (paid (spoken rest (k .controller))) k) d (u ++ (loaded (carriedOn (k .controller)) x ∷ [])) (putBy (gives (carriedOn (k .controller))) l)
   reply-good x rest c e g =
-      let n = carriedOn (k .controller) in
-      record { numbers = carried (record { credits = n; segment = x }) c (carried-few (k .controller)) (g .numbers); pipes = reply-pipes k d u l n x rest c e (g .pipes) }
+      let a = k .controller in
+      let n = carriedOn a in
+      record { numbers = carried (record { credits = n; segment = x }) c (carried-owed (a .opened) (a .grant) (a .owed)) (g .numbers); pipes = reply-pipes k d u l n x rest c e (g .pipes) }
 
   pub air-good : (m : Octets) → length m ≤ dataLimit → k .controller .opened ≡ true → k .controller .speech ≡ [] → Good false k d u l
       → Good false (withController (spoken (segments 255 m) (k .controller)) k) d u (spokenL m l)

@@ -4,12 +4,12 @@ use Prim.Native.Nat.{ℕ, zero, suc, _+_, _≤_, _<_}
 use native.Mathlib.Omega.{arith}
 use mathlib.Core.Path.{_≡_, refl, sym, ap, _∙_}
 use mathlib.Core.Logic.{inl, inr}
-use mathlib.Core.Bool.{Bool, true, false}
+use mathlib.Core.Bool.{Bool, false}
 use mathlib.Core.List.{List, [], _∷_, map, append-nil}
 use lib.Dec.{eqb, ltb}
 use lib.ListN.{length, drop, length-append, length-take, length-drop}
-use borrow.Author.Tests.{eqb-true, ltb-false}
-use Rattle.octets.specs.Octets.{Octets, pick}
+use borrow.Author.Tests.{ltb-false}
+use Rattle.octets.specs.Octets.{Octets}
 use Rattle.model.specs.Kinds.{Header, Profile, Verdict, Event}
 use Rattle.packets.specs.Packet.{packetOf, readOf, carrying, credited, Writable}
 use Rattle.packets.specs.Segments.{Segment, body, flag, marked, segment, segmentsWithin, segments, segmentPacket}
@@ -23,7 +23,8 @@ use Rattle.state.proofs.Chains.{on}
 use Rattle.model.specs.Connection.{Connection, withHost, withController}
 use Rattle.packets.specs.Headers.{dataHeader, controlHeader}
 use Rattle.messages.specs.Packets.{noticePacket, noticePackets}
-use Rattle.wires.specs.Meaning.{datum, control, meaning}
+use Rattle.wires.specs.Meaning.{datum, meaning}
+use Rattle.wires.proofs.Slots.{meant-data}
 use Rattle.model.specs.State.{State, cold}
 use Rattle.model.specs.Refusals.{noConn}
 use Rattle.ends.specs.Changes.{Change, stays, opens, closes, gives}
@@ -106,13 +107,9 @@ data-up c n x five few short = (data-formed c n x (conn-small c five) few short,
 -- data that is passed on with other credits
 module _ (p : Octets) (c m : ℕ) (x : Segment) (means : meaning p ≡ datum c m x) (f : Formed p) where
   is-data : f .header .mt ≡ 0
-  is-data = go (eqb (f .header .mt) 0) refl (sym (meaning-packet (f .header) (f .payload) (f .writable)) ∙ ap meaning (sym (f .same)) ∙ means)
-    where
-      go : (b : Bool) → eqb (f .header .mt) 0 ≡ b
-          → pick b (datum (f .header .id) (f .header .credits) (segment (f .header .pbf) (f .payload))) (control (f .header .mt) (f .header .id) (f .header .oid) (segment (f .header .pbf) (f .payload))) ≡ datum c m x
-          → f .header .mt ≡ 0
-      go true e h = eqb-true (f .header .mt) 0 e
-      go false e h = let z : _≡_ {A = ℕ} 0 1 = cc in absurd (omega arith)
+  is-data =
+      meant-data (f .header) (segment (f .header .pbf) (f .payload)) c m x
+      (sym (meaning-packet (f .header) (f .payload) (f .writable)) ∙ ap meaning (sym (f .same)) ∙ means)
 
   pub carrying-formed : (n : ℕ) → Formed (carrying n p)
   carrying-formed n =

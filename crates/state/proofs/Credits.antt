@@ -7,11 +7,10 @@ use mathlib.Core.Bool.{Bool, true, false, _&&_}
 use lib.Dec.{ltb}
 use borrow.Author.Tests.{lt-ltb, le-ltb}
 use Rattle.octets.specs.Octets.{pick}
-use Rattle.state.specs.Kinds.{ControllerSide}
-use Rattle.state.specs.Conn.{flows, owing, carriable, carriedBy}
+use Rattle.state.specs.Conn.{flows, owing, carriable}
 
 module _ (owed : ℕ) where
-  pub carriable-owed : carriable owed ≤ owed
+  carriable-owed : carriable owed ≤ owed
   unfolding carriable
   carriable-owed = go (decLe owed 3)
     where
@@ -27,12 +26,13 @@ module _ (owed : ℕ) where
       go (yes e) = rw (le-ltb 3 owed e) e
       go (no n) = rw (lt-ltb 3 owed (omega arith)) (omega arith)
 
-pub owing-owed : (opened : Bool) (grant owed : ℕ) → owing opened grant owed ≤ owed
-owing-owed opened grant owed = go (opened && flows grant)
-  where
-    go : (b : Bool) → pick b owed 0 ≤ owed
-    go true = omega arith
-    go false = omega arith
+module _ (opened : Bool) (grant owed : ℕ) where
+  owing-owed : owing opened grant owed ≤ owed
+  owing-owed = go (opened && flows grant)
+    where
+      go : (b : Bool) → pick b owed 0 ≤ owed
+      go true = omega arith
+      go false = omega arith
 
-pub carried-owed : (k : ControllerSide) → carriedBy k ≤ k .owed
-carried-owed k = omega (arith, carriable-owed (owing (k .opened) (k .grant) (k .owed)), owing-owed (k .opened) (k .grant) (k .owed))
+  pub carried-owed : carriable (owing opened grant owed) ≤ owed
+  carried-owed = omega (arith, carriable-owed (owing opened grant owed), owing-owed)

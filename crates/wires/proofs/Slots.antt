@@ -95,22 +95,22 @@ renewed n (datum c m x) = datum c n x
 renewed n (control mt gid oid x) = control mt gid oid x
 renewed n junk = junk
 
+-- only a data packet means data
+pub meant-data : (h : Header) (y : Segment) (c m : ℕ) (x : Segment) → meant h y ≡ datum c m x → h .mt ≡ 0
+meant-data h y c m x = go (eqb (h .mt) 0) refl
+  where
+    go : (b : Bool) → eqb (h .mt) 0 ≡ b → pick b (datum (h .id) (h .credits) y) (control (h .mt) (h .id) (h .oid) y) ≡ datum c m x → h .mt ≡ 0
+    go true z e = eqb-true _ _ z
+    go false z e = let z : _≡_ {A = ℕ} 0 1 = cc in absurd (omega arith)
+
 pub meaning-carrying : (n : ℕ) (p : Octets) (c m : ℕ) (x : Segment) → meaning p ≡ datum c m x → meaning (carrying n p) ≡ datum c (n % 4) x
 unfolding meaning
 meaning-carrying n p c m x = go (readOf p) refl
   where
-    told : (h : Header) (y : Segment) (b : Bool) → eqb (h .mt) 0 ≡ b → pick b (datum (h .id) (h .credits) y) (control (h .mt) (h .id) (h .oid) y) ≡ datum c m x
-        → (h .mt ≡ 0) × (datum (h .id) (n % 4) y ≡ datum c (n % 4) x)
-    told h y true z e = (eqb-true _ _ z, ap (renewed (n % 4)) e)
-    told h y false z e = absurd (apart e)
-      where
-        apart : control (h .mt) (h .id) (h .oid) y ≡ datum c m x → ⊥
-        apart e = let z : _≡_ {A = ℕ} 0 1 = cc in omega arith
-
     go : (r : Reading) → readOf p ≡ r → meaningIn p r ≡ datum c m x → meaningIn (carrying n p) (readOf (carrying n p)) ≡ datum c (n % 4) x
     go (Packet h k) e means =
-        let t = told h (segment (h .pbf) (payloadOf p k)) (eqb (h .mt) 0) refl means in
-        ap (meaningIn (carrying n p)) (read-carrying n p h k e (t .0))
+        let zero = meant-data h (segment (h .pbf) (payloadOf p k)) c m x means in
+        ap (meaningIn (carrying n p)) (read-carrying n p h k e zero)
         ∙ ap (λ (o : Octets). meant (credited h n) (segment (h .pbf) o)) (payload-carrying n p k)
-        ∙ rw (eq-eqb _ _ (t .0)) (t .1)
+        ∙ rw (eq-eqb _ _ zero) (ap (renewed (n % 4)) (rw (eq-eqb _ _ zero) at means))
     go Drop e means = let z : _≡_ {A = ℕ} 0 1 = cc in absurd (omega arith)

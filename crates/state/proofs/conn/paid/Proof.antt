@@ -9,7 +9,7 @@ carried-requires : tie.Need-carried-requires
 carried-requires c κs = search needs
 
 sub-next : tie.Need-sub-next
-sub-next c = rw (c .before .carried .ensures) (carried-owed (c .before .before .args .k))
+sub-next c = let k = c .before .before .args .k in rw (c .before .carried .ensures) (carried-owed (k .opened) (k .grant) (k .owed))
 
 returns : tie.Need-returns
 returns c = rw (c .before .carried .ensures)
