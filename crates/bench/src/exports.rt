@@ -198,7 +198,7 @@ pub extern "C" fn nci_up(area: &mut [u8], out: &mut [u8]) -> u64
         return entry as u64;
     }
     let r = l.record;
-    let n = up::refusal(area, r);
+    let n = up::refusal(r);
     if n != 0 {
         return n as u64;
     }

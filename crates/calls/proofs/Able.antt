@@ -33,7 +33,7 @@ use Rattle.calls.proofs.Crediting.{creditTests, credit-tests, credit-fa
 use Rattle.calls.proofs.Replying.{replyTests, reply-tests, reply-facts}
 use Rattle.calls.proofs.Downing.{downTests, down-tests, down-facts}
 use Rattle.calls.proofs.Consumed.{consumeTests, consume-tests, consume-facts}
-use Rattle.calls.proofs.Upping.{up-facts}
+use Rattle.calls.proofs.Upping.{upTests, up-tests, up-facts}
 use Rattle.calls.proofs.Airing.{airTests, air-tests, air-facts}
 
 pub command-able : (a : Octets) (r : Record) (gid oid : ℕ) (m : Octets) → Fit r → 0 ≡ lowest (commandRules gid oid m (view a r)) → Commandable r gid oid m
@@ -57,7 +57,7 @@ down-able a r s e =
     down-facts a r s (first-taken (downTests r (downRead r a)) refl (e ∙ ap lowest (down-tests a r (s .fit .down .head))))
 
 pub up-able : (a : Octets) (r : Record) → Sound a r → 0 ≡ lowest (upRules (view a r)) → Uppable r
-up-able a r s e = up-facts a r (s .fit) (s .shape) (first-taken (upRules (view a r)) refl e)
+up-able a r s e = up-facts r (s .fit) (s .shape) (first-taken (upTests r) refl (e ∙ ap lowest (up-tests a r)))
 
 pub air-able : (a : Octets) (r : Record) (m : Octets) → Fit r → 0 ≡ lowest (airRules m (view a r)) → Airable r m
 air-able a r m f e = air-facts r m f (first-taken (airTests r m) refl (e ∙ ap lowest (air-tests a r m)))

@@ -11,21 +11,17 @@ pub changed-fit : (x : Change) (c : Counts) → FitCounts c → FitCounts (count
 changed-fit stays c f = f
 changed-fit (opens t) c f =
     record {
-      held = f .held;
       payload = f .payload;
       hand = f .hand;
       host-run = f .host-run;
-      owed = omega arith;
       store = record { head = omega arith; count = omega arith };
       controller-run = omega arith;
     }
 changed-fit closes c f =
     record {
-      held = f .held;
       payload = f .payload;
       hand = f .hand;
       host-run = f .host-run;
-      owed = omega arith;
       store = record { head = omega arith; count = omega arith };
       controller-run = omega arith;
     }

@@ -3,7 +3,7 @@
 use Prim.Native.Nat.{ℕ, _≤_}
 use native.Mathlib.Omega.{arith}
 use mathlib.Core.Path.{_≡_, refl, sym, ap, _∙_, subst}
-use mathlib.Core.Bool.{Bool, true, false, not, _&&_}
+use mathlib.Core.Bool.{Bool, true, false}
 use lib.ListN.{length}
 use lib.Dec.{eqb}
 use Rattle.octets.specs.Octets.{Octets, pick}
@@ -13,7 +13,6 @@ use Rattle.calls.specs.Kinds.{Header, Reading, Record}
 use Rattle.calls.specs.Kinds.reading.{Packet, Drop}
 use Rattle.state.specs.Conn.{heldOpen}
 use Rattle.state.proofs.Conns.{held-place}
-use Rattle.dh.specs.Host.{above}
 use Rattle.area.specs.Map.{messageSize}
 use Rattle.record.specs.Reading.{decodeOf}
 use Rattle.record.specs.Small.{Small}
@@ -22,9 +21,8 @@ use Rattle.wires.specs.Meaning.{Meaning, datum, control, meant, meaning}
 use Rattle.views.specs.View.{view}
 use Rattle.views.specs.Moves.{Sound}
 use Rattle.model.specs.Effects.{Effect, up, taken, flaggedAs}
-use Rattle.model.specs.Runs.{wholeBy}
-use Rattle.model.specs.calls.Up.{receiving, heard, coming, aboveIn, tooMany, upRules}
-use Rattle.model.proofs.Order.{need}
+use Rattle.model.specs.Refusals.{first}
+use Rattle.model.specs.calls.Up.{receiving, heard, coming}
 use Rattle.calls.specs.Outcome.{Outcome}
 use Rattle.calls.specs.Seen.{Puts}
 use Rattle.calls.specs.Refines.{Good, Follows, Along, RefinesTo, Refines}
@@ -33,7 +31,7 @@ use Rattle.calls.specs.calls.Up.{upRead, upRecord, droppedUp, received, 
 use Rattle.calls.proofs.Called.{sound-area}
 use Rattle.calls.proofs.Refining.{called-refines}
 use Rattle.calls.proofs.Quiet.{quiet-refines}
-use Rattle.calls.proofs.Upping.{upPacket, packet-read, packet-dropped, up-acts, up-many, upSegment, up-facts, up-small, took-sound}
+use Rattle.calls.proofs.Upping.{upPacket, packet-read, packet-dropped, up-acts, upSegment, up-tests, up-facts, up-small, took-sound}
 use Rattle.calls.proofs.Receiving.{receivedBy, received-refines}
 use Rattle.calls.proofs.Controlling.{heard-refines}
 
@@ -60,37 +58,35 @@ module _ (a out : Octets) (r : Record) (s : Sound a r) (small : Small r) (o : Oc
     abbrev x : Segment
     x = upSegment a r s h n e
 
-    data-does : above (hostSide r (h .id)) (h .credits) ≡ false → Does (receivedUp r h n a out) (receiving (h .id) (h .credits) x (view a took))
+    data-does : Does (receivedUp r h n a out) (receiving (h .id) (h .credits) x (view a took))
     unfolding receivedUp heldOpen
-    data-does below = go (hostSide r (h .id) .opened) refl
+    data-does = go (hostSide r (h .id) .opened) refl
       where
         go : (b : Bool) → hostSide r (h .id) .opened ≡ b → Does (pick b (received r h n a out) (droppedUp r a out)) (receiving (h .id) (h .credits) x (view a took))
-        go true w = received-refines a r s h n e (held-place (r .ends .conns) (h .id) (s .shape .conns) w) q out room o small fd follows below w
+        go true w = received-refines a r s h n e (held-place (r .ends .conns) (h .id) (s .shape .conns) w) q out room o small fd follows w
         go false w =
             subst (λ (b : Bool). Does (droppedUp r a out) (pick b (receivedBy (h .id) (h .credits) x (view a took)) (flaggedAs true (view a took)))) (sym w) drops
 
-    packet-does : tooMany (view a r) (meant h x) ≡ false → Does (comingUp r h n a out) (coming (meant h x) (view a took))
+    packet-does : Does (comingUp r h n a out) (coming (meant h x) (view a took))
     unfolding comingUp
-    packet-does below = go (eqb (h .mt) 0) (eqb (h .mt) 1) refl below
+    packet-does = go (eqb (h .mt) 0) (eqb (h .mt) 1) refl
       where
-        go : (b c : Bool) → eqb (h .mt) 1 ≡ c → tooMany (view a r) (pick b (datum (h .id) (h .credits) x) (control (h .mt) (h .id) (h .oid) x)) ≡ false
+        go : (b c : Bool) → eqb (h .mt) 1 ≡ c
             → Does (pick b (receivedUp r h n a out) (pick c (droppedUp r a out) (heardUp r h n a out)))
             (coming (pick b (datum (h .id) (h .credits) x) (control (h .mt) (h .id) (h .oid) x)) (view a took))
-        go true c m w = data-does w
-        go false true m w =
+        go true c m = data-does
+        go false true m =
             subst (λ (b : Bool). Does (droppedUp r a out) (pick b (flaggedAs true (view a took)) (heard (h .mt) (h .id) (h .oid) x (view a took)))) (sym m) drops
-        go false false m w =
+        go false false m =
             subst (λ (b : Bool). Does (heardUp r h n a out) (pick b (flaggedAs true (view a took)) (heard (h .mt) (h .id) (h .oid) x (view a took)))) (sym m)
-            (heard-refines a r s small o h n e q out fd follows
-            (subst (λ (b : Bool). (not b && aboveIn (view a r) (h .mt) (h .id) (h .oid) (wholeBy (view a r .hearing) (h .mt) (h .id) (h .oid) x)) ≡ false) m w))
+            (heard-refines a r s small o h n e q out fd follows)
 
   -- ---- whatever is in the slot
 
-  read-does : (z : Reading) → upRead r a ≡ z → tooMany (view a r) (meaning (upPacket a r)) ≡ false → Does (readUp r z a out) (coming (meaning (upPacket a r)) (view a took))
-  read-does Drop e w = subst (λ (k : Meaning). Does (droppedUp r a out) (coming k (view a took))) (sym (packet-dropped a r e)) drops
-  read-does (Packet h n) e w =
-      let m = packet-read a r h n e in
-      subst (λ (k : Meaning). Does (comingUp r h n a out) (coming k (view a took))) (sym m) (packet-does h n e (sym (ap (tooMany (view a r)) m) ∙ w))
+  read-does : (z : Reading) → upRead r a ≡ z → Does (readUp r z a out) (coming (meaning (upPacket a r)) (view a took))
+  read-does Drop e = subst (λ (k : Meaning). Does (droppedUp r a out) (coming k (view a took))) (sym (packet-dropped a r e)) drops
+  read-does (Packet h n) e =
+      subst (λ (k : Meaning). Does (comingUp r h n a out) (coming k (view a took))) (sym (packet-read a r h n e)) (packet-does h n e)
 
 -- up on octets is the model's up
 pub up-refines : (q : Puts) (a out : Octets) → Good a → messageSize ≤ length out → Along q a → Refines up q a (upCall a out)
@@ -100,7 +96,6 @@ up-refines q a out g room al =
     let s : Sound a r = sound-area a (g .long) (g .judged) in
     called-refines up (upped r a out) q a out g room al refl
     (λ t.
-    let p : Uppable r = up-facts a r (s .fit) (s .shape) t in
+    let p : Uppable r = up-facts r (s .fit) (s .shape) (ap first (sym (up-tests a r)) ∙ t) in
     subst (λ (f : Effect). RefinesTo up q (upped r a out) (record { answer = taken; effect = f })) (sym (up-acts a r s (p .some)))
-    (read-does a out r s (small-decode a (g .octal)) (g .octal) p room q (al .down) (al .up) (upRead r a) refl
-    (sym (up-many a r s (p .some)) ∙ need 13 (upRules (view a r)) t)))
+    (read-does a out r s (small-decode a (g .octal)) (g .octal) p room q (al .down) (al .up) (upRead r a) refl))

@@ -35,7 +35,6 @@ consumeTests r c =
     ∷ rule 4 (isLoop c && leb wireSlots (r .up .count))
     ∷ rule 6 (not (controllerSide r c .opened))
     ∷ rule 8 (eqb (controllerSide r c .store .count) 0)
-    ∷ rule 13 (flows (controllerSide r c .grant) && leb (controllerSide r c .grant) (controllerSide r c .owed))
     ∷ []
 
 pub consume-tests : (a : Octets) (r : Record) (c : ℕ) → consumeRules c (view a r) ≡ consumeTests r c
@@ -44,7 +43,6 @@ consume-tests a r c i =
     ∷ rule 4 (isLoop c && up-full-one a r i)
     ∷ rule 6 (not (controllerSide r c .opened))
     ∷ rule 8 (packets-nil (storeAt (placeOf c)) storeSlots a (controllerSide r c .store) i)
-    ∷ rule 13 (flows (controllerSide r c .grant) && leb (controllerSide r c .grant) (controllerSide r c .owed))
     ∷ []
 
 -- ---- what is known where none applies
@@ -66,10 +64,6 @@ consume-facts r c f t =
       some = omega (arith, some);
       store = k .store;
       run = k .controller-run;
-      room =
-          λ l.
-          leb-false (controllerSide r c .grant) (controllerSide r c .owed)
-          (and-other (flows (controllerSide r c .grant)) (leb (controllerSide r c .grant) (controllerSide r c .owed)) (need 13 (consumeTests r c) t) l);
     }
 
 -- ---- what the code's parts come to; size: the length of the message that was handed out, 0 for none
@@ -100,14 +94,9 @@ module _ (r : Record) (c : ℕ) (p : Consumable r c) (shape : Shape r) (next : P
         conns =
             conns-set FitCounts (r .ends .conns) (placeOf c) new there
             (record {
-              held = k .held;
               payload = k .payload;
               hand = k .hand;
               host-run = k .host-run;
-              owed =
-                  let w = consumedSide next (controllerSide r c) .owed in
-                  let one : w ≤ controllerSide r c .grant = on (λ (n : ℕ). n ≤ controllerSide r c .grant) (flows (controllerSide r c .grant)) (λ l. omega (arith, p .room l)) (λ _. k .owed) in
-                  on (λ (n : ℕ). n ≤ controllerSide r c .grant) (isLoop c) (λ _. omega (arith, one)) (λ _. one);
               store = record { head = omega arith; count = omega (arith, k .store .count) };
               controller-run = short;
             })

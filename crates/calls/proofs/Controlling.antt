@@ -37,7 +37,7 @@ use Rattle.model.specs.State as bench
 use Rattle.model.specs.Changes.{atHost}
 use Rattle.model.specs.Effects.{Effect, up, taken}
 use Rattle.model.specs.Runs.{runAfter, wholeBy, flagBy}
-use Rattle.model.specs.calls.Up.{understanding, hearing, heard, aboveIn}
+use Rattle.model.specs.calls.Up.{understanding, hearing, heard}
 use Rattle.calls.specs.Word.{wordOf}
 use Rattle.calls.specs.Outcome.{outcome}
 use Rattle.calls.specs.Seen.{Puts}
@@ -45,7 +45,7 @@ use Rattle.calls.specs.Refines.{Follows, RefinesTo}
 use Rattle.calls.specs.calls.Up.{upSlot, upRead, upPayload, upRecord, heardJoin, joinedEnds, heardArea, heardMessage, heededUp, heardEnds, heardDrop, heardUp}
 use Rattle.calls.proofs.Quiet.{quiet-refines}
 use Rattle.calls.proofs.Heeding.{heard-conns, heard-fits, heard-small, heard-own, heard-octal}
-use Rattle.calls.proofs.Upping.{upSegment, is-flag, is-body, is-long, heard-whole, heard-flag, none-above, up-fit, up-small, up-shape, took-sound}
+use Rattle.calls.proofs.Upping.{upSegment, is-flag, is-body, is-long, heard-whole, heard-flag, up-fit, up-small, up-shape, took-sound}
 
 module _ (a : Octets) (r : Record) (s : Sound a r) (small : Small r) (o : Octal a) (h : Header) (n : ℕ) (e : upRead r a ≡ Packet h n) where
   abbrev x : Segment
@@ -137,31 +137,29 @@ module _ (a : Octets) (r : Record) (s : Sound a r) (small : Small r) (o : Octal 
         (up-small r (joinedEnds r h n) joined-octal (small .conns)) up refl q fd fu
         (heardJoin r h n .dropped) false 0 out (effectOf []) (omega arith) (heard-flag a r s h n e) refl refl refl joined-is
 
-    module _ (below : aboveIn (view a r) (h .mt) (h .id) (h .oid) (wholeBy (view a r .hearing) (h .mt) (h .id) (h .oid) x) ≡ false) where
-      -- it makes a message whole
-      hears : heardJoin r h n .done ≡ true
-          → RefinesTo up q (outcome (wordOf (heededUp r h n a .dropped) false 0 0 0) (stored b (upRecord r (heededUp r h n a .next))) out) (record { answer = taken; effect = effectOf (m ∷ []) })
-      unfolding heldOpen
-      hears d =
-          let k : Ends = joinedEnds r h n in
-          let five = s .shape .conns in
-          let within = none-above a r s h n e below d in
-          quiet-refines b (upRecord r (endsHeard k m y)) long
-          (up-fit r (endsHeard k m y) (s .fit) (heard-own k five m y fits joined-own joined-octal) (heard-fits k five m y fits (small .conns) within (s .fit .conns)))
-          (up-shape r (endsHeard k m y) (s .shape .pairs) (length-heard (r .ends .conns) m y ∙ five)) octal
-          (up-small r (endsHeard k m y) (heard-octal k five m y fits joined-own joined-octal) (heard-small k five m y fits (small .conns) within)) up refl q fd fu
-          (heededUp r h n a .dropped) false 0 out (understanding y m joinedState) (omega arith) refl refl refl refl heard-is
+    -- it makes a message whole
+    hears : heardJoin r h n .done ≡ true
+        → RefinesTo up q (outcome (wordOf (heededUp r h n a .dropped) false 0 0 0) (stored b (upRecord r (heededUp r h n a .next))) out) (record { answer = taken; effect = effectOf (m ∷ []) })
+    unfolding heldOpen
+    hears d =
+        let k : Ends = joinedEnds r h n in
+        let five = s .shape .conns in
+        quiet-refines b (upRecord r (endsHeard k m y)) long
+        (up-fit r (endsHeard k m y) (s .fit) (heard-own k five m y fits joined-own joined-octal) (heard-fits k five m y fits (small .conns) (s .fit .conns)))
+        (up-shape r (endsHeard k m y) (s .shape .pairs) (length-heard (r .ends .conns) m y ∙ five)) octal
+        (up-small r (endsHeard k m y) (heard-octal k five m y fits joined-own joined-octal) (heard-small k five m y fits (small .conns))) up refl q fd fu
+        (heededUp r h n a .dropped) false 0 out (understanding y m joinedState) (omega arith) refl refl refl refl heard-is
 
-      pub heard-refines : RefinesTo up q (heardUp r h n a out) (record { answer = taken; effect = heard (h .mt) (h .id) (h .oid) x (view a took) })
-      unfolding heardEnds heardDrop
-      heard-refines =
-          subst (λ (l : List Octets). RefinesTo up q (heardUp r h n a out) (record { answer = taken; effect = effectOf l })) (sym (heard-whole a r s h n e))
-          (go (heardJoin r h n .done) refl)
-        where
-          go : (d : Bool) → heardJoin r h n .done ≡ d
-              → RefinesTo up q
-              (outcome (wordOf (pick d (heededUp r h n a .dropped) (heardJoin r h n .dropped)) false 0 0 0)
-              (stored b (upRecord r (pick d (heededUp r h n a .next) (joinedEnds r h n)))) out)
-              (record { answer = taken; effect = effectOf (handedOn d m) })
-          go true d = hears d
-          go false d = joins
+    pub heard-refines : RefinesTo up q (heardUp r h n a out) (record { answer = taken; effect = heard (h .mt) (h .id) (h .oid) x (view a took) })
+    unfolding heardEnds heardDrop
+    heard-refines =
+        subst (λ (l : List Octets). RefinesTo up q (heardUp r h n a out) (record { answer = taken; effect = effectOf l })) (sym (heard-whole a r s h n e))
+        (go (heardJoin r h n .done) refl)
+      where
+        go : (d : Bool) → heardJoin r h n .done ≡ d
+            → RefinesTo up q
+            (outcome (wordOf (pick d (heededUp r h n a .dropped) (heardJoin r h n .dropped)) false 0 0 0)
+            (stored b (upRecord r (pick d (heededUp r h n a .next) (joinedEnds r h n)))) out)
+            (record { answer = taken; effect = effectOf (handedOn d m) })
+        go true d = hears d
+        go false d = joins

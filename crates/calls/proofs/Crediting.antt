@@ -103,11 +103,9 @@ module _ (r : Record) (p : Creditable r) (shape : Shape r) where
             (λ d l k.
             subst FitCounts (sym (noticed-counts d l))
             (record {
-              held = k .held;
               payload = k .payload;
               hand = k .hand;
               host-run = k .host-run;
-              owed = omega (arith, owed-least (countsOf conns d .controller), k .owed);
               store = k .store;
               controller-run = k .controller-run;
             }))

@@ -19,6 +19,7 @@ use Rattle.model.specs.State.{State, cold}
 use Rattle.model.specs.Effects.{Call, fresh, power, command, send, push, down, consume, credit, air, reply, up, report, Result, taken, refused}
 use Rattle.model.specs.Refusals.{Rule, first}
 use Rattle.model.specs.Bench.{rules, judged, step}
+use Rattle.model.specs.Grants.{WithinGrants}
 use Rattle.model.specs.calls.Report.{reportOf, reportRules}
 use Rattle.model.specs.Observer.{Event, Account, opening, observe, observed, eventOf}
 use Rattle.model.specs.Claim.{numbersOf, Claim}
@@ -26,7 +27,7 @@ use Rattle.model.specs.invariant.Bench.{Kept}
 use Rattle.model.proofs.Fine.{kept, cold-fine}
 use Rattle.model.proofs.Messages.{profile-limits}
 use Rattle.model.proofs.Trace.{step-keeps, kept-claim}
-use Rattle.model.proofs.Never.{answer-first}
+use Rattle.model.proofs.Never.{answer-first, kept-within}
 use Rattle.calls.specs.Word.{answerIn, downIn, upIn}
 use Rattle.calls.specs.Outcome.{Outcome, outcome, decided, entryRules, lowest}
 use Rattle.calls.specs.Seen.{Puts, noPuts, putsAfter, seenBy}
@@ -112,16 +113,16 @@ pub record Presses (P : Event → State → Type 0) (c : Call) (p : Puts) (x : O
   pub holds : P (seenBy c p x) (viewOf (x .area))
 
 module _ (P : Event → State → Type 0) (k : Key) (v : Octal (slice (k .call))) (a : Octets) (p : Puts) (g : Good a) (al : Along p a) where
-  -- where P holds after refusal 2, which a buffer too short gives, and after the model's step
-  pub pressed-by : P (seenBy (k .call) p (outcome 2 a (k .out))) (viewOf a)
+  -- where P holds after refusal 2, which a buffer too short gives, and after the model's step, which leaves credits within the grant
+  pub pressed-by : WithinGrants (step (k .call) (viewOf a) .effect .next) → P (seenBy (k .call) p (outcome 2 a (k .out))) (viewOf a)
       → P (eventOf (k .call) (step (k .call) (viewOf a))) (step (k .call) (viewOf a) .effect .next) → Presses P (k .call) p (pressed k a)
   unfolding answerIn downIn upIn
-  pressed-by refusing stepping = go (ltb (length (k .out)) messageSize) refl
+  pressed-by within refusing stepping = go (ltb (length (k .out)) messageSize) refl
     where
       by : Refines (k .call) p a (pressed k a) → Presses P (k .call) p (pressed k a)
       by r =
           record {
-            good = r .good;
+            good = r .good within;
             along = r .along;
             holds =
                 subst (P (seenBy (k .call) p (pressed k a))) (sym (r .next))
@@ -142,11 +143,15 @@ pub record Stands (a : Octets) (p : Puts) (o : Account) : Type 0 where
   pub along : Along p a
   pub keeps : Kept (viewOf a) o
 
+-- so no call on it brings credits past a grant
+pub stands-within : (a : Octets) (p : Puts) (o : Account) → Stands a p o → (k : Key) → WithinGrants (step (k .call) (viewOf a) .effect .next)
+stands-within a p o s k = kept-within _ _ (step-keeps (k .call) (viewOf a) o (s .keeps))
+
 pub press : (k : Key) → Octal (slice (k .call)) → (a : Octets) (p : Puts) (o : Account) → Stands a p o
     → Stands (pressed k a .area) (putsAfter (k .call) p (pressed k a .word)) (observe (seenBy (k .call) p (pressed k a)) o)
 unfolding answerIn
 press k v a p o s =
-    let r = pressed-by (λ e x. Kept x (observe e o)) k v a p (s .good) (s .along) (s .keeps) (step-keeps (k .call) (viewOf a) o (s .keeps)) in
+    let r = pressed-by (λ e x. Kept x (observe e o)) k v a p (s .good) (s .along) (stands-within a p o s k) (s .keeps) (step-keeps (k .call) (viewOf a) o (s .keeps)) in
     record { good = r .good; along = r .along; keeps = r .holds }
 
 stands-after : (ks : List Key) → AllOctal ks → (a : Octets) (p : Puts) (o : Account) → Stands a p o → Stands (areaAfter ks a) (putsIn ks p a) (observed (seenIn ks p a) o)

@@ -26,7 +26,7 @@ use Rattle.calls.specs.Played.{OctetPlays}
 use Rattle.calls.specs.Discards.{OctetDiscardClaim, AlwaysDiscards}
 use Rattle.calls.proofs.Starting.{fresh-view}
 use Rattle.calls.proofs.Pushing.{push-refines}
-use Rattle.calls.proofs.Demanding.{pressed-by, Stands, press, started, starts-standing}
+use Rattle.calls.proofs.Demanding.{pressed-by, stands-within, Stands, press, started, starts-standing}
 use Rattle.calls.proofs.Playing.{plays}
 
 -- ---- a call
@@ -35,7 +35,7 @@ press-marked : (k : Key) → Octal (slice (k .call)) → (a : Octets) (p : Puts)
     → MarkedIn (viewOf (pressed k a .area)) (note (seenBy (k .call) p (pressed k a)) o n)
 unfolding answerIn
 press-marked k v a p o s n m =
-    pressed-by (λ e x. MarkedIn x (note e o n)) k v a p (s .good) (s .along) (turned-marked (viewOf a) n m) (step-marked (k .call) (viewOf a) o n (s .keeps) m) .holds
+    pressed-by (λ e x. MarkedIn x (note e o n)) k v a p (s .good) (s .along) (stands-within a p o s k) (turned-marked (viewOf a) n m) (step-marked (k .call) (viewOf a) o n (s .keeps) m) .holds
 
 -- ---- the claim
 

@@ -217,11 +217,9 @@ module _ (a out : Octets) (t : Record) (s : Sound a t) (small : Small t) (o : Oc
         conns =
             conns-set FitCounts (t .ends .conns) (placeOf c) new there
             (record {
-              held = k .held;
               payload = k .payload;
               hand = k .hand;
               host-run = k .host-run;
-              owed = k .owed;
               store = record { head = k .store .head; count = omega arith };
               controller-run = k .controller-run;
             })

@@ -1,6 +1,6 @@
--- What the host heard, on the record: each connection changes as the model's does, and the numbers stay such as row 1 lets pass.
+-- What the host heard, on the record: each connection changes as the model's does, and the numbers keep their bounds, whatever credits come.
 -- Assumes nothing.
-use Prim.Native.Nat.{ℕ, _+_, _≤_, _<_}
+use Prim.Native.Nat.{ℕ, _≤_, _<_}
 use native.Mathlib.Omega.{arith}
 use native.Mathlib.Decide.{decLt}
 use mathlib.Core.Path.{_≡_, refl, sym, ap, _∙_, subst}
@@ -8,7 +8,7 @@ use mathlib.Core.Bool.{true, false, _&&_, false≢true}
 use mathlib.Core.List.{List}
 use lib.ListN.{length}
 use lib.Dec.{eqb}
-use borrow.Author.Tests.{eqb-true, ltb-false}
+use borrow.Author.Tests.{eqb-true}
 use Rattle.octets.specs.Octets.{Octets, cut}
 use Rattle.octets.specs.Octal.{Octal}
 use Rattle.calls.specs.Kinds.{HostSide, Counts, Ends, Heard}
@@ -19,9 +19,9 @@ use Rattle.state.proofs.Chains.{on}
 use Rattle.state.proofs.Places.{dynamic-place}
 use Rattle.state.proofs.Conns.{past-five}
 use Rattle.state.proofs.Limits.{credits-small}
-use Rattle.dh.specs.Host.{creditsFor, hostAfter, connsHeard, above}
+use Rattle.dh.specs.Host.{creditsFor, hostAfter, connsHeard}
 use Rattle.dh.proofs.Limits.{SizeFits, TermsFit, HeardFits, size-after}
-use Rattle.ends.specs.Changes.{Change, stays, opens, closes, gives, changeHeard, creditsOf, changedHost, countsAtHost, aboveBy}
+use Rattle.ends.specs.Changes.{Change, stays, opens, closes, gives, changeHeard, changedHost, countsAtHost}
 use Rattle.ends.specs.Steps.{endsHeard}
 use Rattle.ends.proofs.Changes.{counts-heard, length-heard}
 use Rattle.record.specs.Writing.{hostOctets}
@@ -42,47 +42,34 @@ changed-view p a (opens t) h = refl
 changed-view p a closes h = refl
 changed-view p a (gives n) h = refl
 
--- a change after which a connection is within row 1
-abbrev pub ChangeFits : Change → HostSide → Type 0
-ChangeFits stays h = Unit {0}
-ChangeFits (opens t) h = TermsFit t
-ChangeFits closes h = Unit {0}
-ChangeFits (gives n) h = (h .opened && flows (h .grant)) ≡ true → h .held + n ≤ h .grant
+-- a change after which a connection has its bounds: the terms that it opens with are within their limits
+abbrev pub ChangeFits : Change → Type 0
+ChangeFits stays = Unit {0}
+ChangeFits (opens t) = TermsFit t
+ChangeFits closes = Unit {0}
+ChangeFits (gives n) = Unit {0}
 
-pub changed-fits : (x : Change) (k : Counts) → ChangeFits x (k .host) → FitCounts k → k .host .grant ≤ 255 → FitCounts (countsAtHost x k)
-changed-fits stays k w f low = f
-changed-fits (opens t) k w f low =
+changed-fits : (x : Change) (k : Counts) → ChangeFits x → FitCounts k → FitCounts (countsAtHost x k)
+changed-fits stays k w f = f
+changed-fits (opens t) k w f =
     record {
-      held = omega arith;
       payload = λ _. w .least;
       hand = record { len = omega arith; at = omega arith };
       host-run = omega arith;
-      owed = f .owed;
       store = f .store;
       controller-run = f .controller-run;
     }
-changed-fits closes k w f low =
+changed-fits closes k w f =
     record {
-      held = omega arith;
       payload = λ e. absurd (false≢true e);
       hand = record { len = omega arith; at = omega arith };
       host-run = omega arith;
-      owed = f .owed;
       store = f .store;
       controller-run = f .controller-run;
     }
-changed-fits (gives n) k w f low =
-    record {
-      held = on (λ (m : ℕ). m ≤ k .host .grant) (k .host .opened && flows (k .host .grant)) (λ e. omega (arith, w e)) (λ _. f .held);
-      payload = f .payload;
-      hand = f .hand;
-      host-run = f .host-run;
-      owed = f .owed;
-      store = f .store;
-      controller-run = f .controller-run;
-    }
+changed-fits (gives n) k w f = record { payload = f .payload; hand = f .hand; host-run = f .host-run; store = f .store; controller-run = f .controller-run }
 
-pub changed-small : (x : Change) (k : Counts) → ChangeFits x (k .host) → SmallCounts k → SmallCounts (countsAtHost x k)
+pub changed-small : (x : Change) (k : Counts) → ChangeFits x → SmallCounts k → SmallCounts (countsAtHost x k)
 changed-small stays k w s = s
 changed-small (opens t) k w s =
     let c = credits-small (t .credits) (w .credits-ok) in
@@ -96,10 +83,6 @@ changed-small (gives n) k w s =
       grant = s .grant;
       owed = s .owed;
     }
-
--- credits that refusal 13 lets pass
-pub given-fits : (h : HostSide) (n : ℕ) → above h n ≡ false → ChangeFits (gives n) h
-given-fits h n e w = ltb-false (h .grant) (h .held + n) (rw w at e)
 
 -- ---- all of them
 
@@ -154,41 +137,32 @@ module _ (e : Ends) (five : length (e .conns) ≡ 5) (m : Octets) (x : Heard) (f
           controller = connsOf a (e .endpoint) (e .conns) d .controller;
         })) i
 
-    -- ---- limits, where no connection would be brought above its grant
+    -- ---- limits
 
-    module _ (within : (d : ℕ) → placeOf d < 5 → aboveBy (e .conns) m x d ≡ false) where
-      change-fits : (d : ℕ) → placeOf d < 5 → ChangeFits (changeHeard x m d) (countsOf (e .conns) d .host)
-      change-fits d l = go x fits (within d l)
-        where
-          fits-it : Change → Type 0
-          fits-it y = ChangeFits y (countsOf (e .conns) d .host)
+    change-fits : (d : ℕ) → ChangeFits (changeHeard x m d)
+    change-fits d = go x fits
+      where
+        go : (y : Heard) → HeardFits m y → ChangeFits (changeHeard y m d)
+        go Nothing f = tt
+        go Dropped f = tt
+        go (Answered Done) f = tt
+        go (Answered ClosesAll) f = tt
+        go (Answered (Sized n)) f = tt
+        go (Answered (Opens c t)) f = on ChangeFits (eqb c d) (λ _. f .terms) (λ _. tt)
+        go (Answered (Closes c)) f = on ChangeFits (eqb c d) (λ _. tt) (λ _. tt)
+        go (Activated t) f = on ChangeFits (eqb 0 d) (λ _. f) (λ _. tt)
+        go Deactivated f = on ChangeFits (eqb 0 d) (λ _. tt) (λ _. tt)
+        go Credits f = on ChangeFits (eqb (creditsFor m d) 0) (λ _. tt) (λ _. tt)
 
-          go : (y : Heard) → HeardFits m y → aboveBy (e .conns) m y d ≡ false → ChangeFits (changeHeard y m d) (countsOf (e .conns) d .host)
-          go Nothing f w = tt
-          go Dropped f w = tt
-          go (Answered Done) f w = tt
-          go (Answered ClosesAll) f w = tt
-          go (Answered (Sized n)) f w = tt
-          go (Answered (Opens c t)) f w = on fits-it (eqb c d) (λ _. f .terms) (λ _. tt)
-          go (Answered (Closes c)) f w = on fits-it (eqb c d) (λ _. tt) (λ _. tt)
-          go (Activated t) f w = on fits-it (eqb 0 d) (λ _. f) (λ _. tt)
-          go Deactivated f w = on fits-it (eqb 0 d) (λ _. tt) (λ _. tt)
-          go Credits f w =
-              on (λ (y : Change). above (countsOf (e .conns) d .host) (creditsOf y) ≡ false → fits-it y) (eqb (creditsFor m d) 0) (λ _ _. tt)
-              (λ _ v. given-fits (countsOf (e .conns) d .host) (creditsFor m d) v) w
+    pub heard-fits : Each FitCounts (e .conns) → Each FitCounts heardConns
+    heard-fits f =
+        conns-by FitCounts (e .conns) heardConns
+        (λ d h k. subst FitCounts (sym (counts-all d)) (changed-fits (changeHeard x m d) (countsOf (e .conns) d) (change-fits d) k)) f
 
-      pub heard-fits : Each FitCounts (e .conns) → Each FitCounts heardConns
-      heard-fits f =
-          conns-by FitCounts (e .conns) heardConns
-          (λ d h k.
-          subst FitCounts (sym (counts-all d))
-          (changed-fits (changeHeard x m d) (countsOf (e .conns) d) (change-fits d h) k (small (placeOf d) h .host-grant)))
-          f
-
-      pub heard-small : Each SmallCounts heardConns
-      heard-small =
-          conns-by SmallCounts (e .conns) heardConns
-          (λ d h k. subst SmallCounts (sym (counts-all d)) (changed-small (changeHeard x m d) (countsOf (e .conns) d) (change-fits d h) k)) small
+    pub heard-small : Each SmallCounts heardConns
+    heard-small =
+        conns-by SmallCounts (e .conns) heardConns
+        (λ d h k. subst SmallCounts (sym (counts-all d)) (changed-small (changeHeard x m d) (countsOf (e .conns) d) (change-fits d) k)) small
 
   -- ---- the host's own numbers
 

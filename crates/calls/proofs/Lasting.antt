@@ -19,11 +19,11 @@ use Rattle.calls.specs.calls.Fresh.{freshCall}
 use Rattle.calls.specs.Demand.{Key, pressed, slice, AllOctal, areaAfter, EveryRun}
 use Rattle.calls.specs.Reached.{AlwaysPaid}
 use Rattle.calls.proofs.Starting.{fresh-view}
-use Rattle.calls.proofs.Demanding.{Stands, pressed-by, press, started, starts-standing}
+use Rattle.calls.proofs.Demanding.{Stands, pressed-by, stands-within, press, started, starts-standing}
 
 module _ (P : State → Type 0) (stays : Stays P) (start : (p : Profile) → ProfileWithin p → P (cold p)) where
   press-keeps : (k : Key) → Octal (slice (k .call)) → (a : Octets) (p : Puts) (o : Account) → Stands a p o → P (viewOf a) → P (viewOf (pressed k a .area))
-  press-keeps k v a p o s h = pressed-by (λ e x. P x) k v a p (s .good) (s .along) h (step-stays P stays (k .call) (viewOf a) o (s .keeps) h) .holds
+  press-keeps k v a p o s h = pressed-by (λ e x. P x) k v a p (s .good) (s .along) (stands-within a p o s k) h (step-stays P stays (k .call) (viewOf a) o (s .keeps) h) .holds
 
   keys-keep : (ks : List Key) → AllOctal ks → (a : Octets) (p : Puts) (o : Account) → Stands a p o → P (viewOf a) → P (viewOf (areaAfter ks a))
   unfolding areaAfter

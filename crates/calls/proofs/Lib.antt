@@ -32,6 +32,7 @@ pub mod Coming
 pub mod Able
 pub mod Demanding
 pub mod Reaching
+pub mod Checking
 pub mod Lasting
 pub mod Displaying
 pub mod Playing

@@ -7,46 +7,46 @@ use Rattle.octets.specs.Octets.{Octets}
 use Rattle.octets.specs.Octal.{octal-nil}
 use Rattle.views.specs.View.{viewOf}
 use Rattle.model.specs.Effects.{Call, credit}
-use Rattle.model.specs.Observer.{Event, events}
+use Rattle.model.specs.Observer.{Event, Account, opening, observe, events}
 use Rattle.model.specs.Table.{Plays, Gives, Table}
 use Rattle.model.specs.Limits.{Limits}
 use Rattle.model.proofs.Whole.{table}
 use Rattle.model.proofs.Limits.{limits}
 use Rattle.calls.specs.Word.{answerIn}
 use Rattle.calls.specs.Outcome.{Outcome}
-use Rattle.calls.specs.Seen.{Puts, noPuts, putsAfter}
-use Rattle.calls.specs.Refines.{Good, Along, Refines}
+use Rattle.calls.specs.Seen.{Puts, noPuts, putsAfter, seenBy}
+use Rattle.calls.specs.Refines.{Refines}
 use Rattle.calls.specs.calls.Fresh.{freshCall}
 use Rattle.calls.specs.Demand.{Key, pressed, AllOctal, areaAfter, seenIn}
 use Rattle.calls.specs.Played.{callsIn, AllRoom, AsModel, OctetPlays, TwoCredits, ShortArea}
 use Rattle.calls.proofs.Starting.{fresh-view}
-use Rattle.calls.proofs.Demanding.{all-refine, short-area, started, run-stands, starts-standing}
+use Rattle.calls.proofs.Demanding.{all-refine, short-area, Stands, press, started, run-stands, starts-standing}
 
 -- ---- every list
 
--- on any area with a good record
-shown-as : (ks : List Key) → AllOctal ks → AllRoom ks → (a : Octets) (p : Puts) → Good a → Along p a → seenIn ks p a ≡ events (callsIn ks) (viewOf a)
+-- on any area that stands for a bench of the model's invariant
+shown-as : (ks : List Key) → AllOctal ks → AllRoom ks → (a : Octets) (p : Puts) (o : Account) → Stands a p o → seenIn ks p a ≡ events (callsIn ks) (viewOf a)
 unfolding seenIn events
-shown-as [] v r a p g al = refl
-shown-as (k ∷ ks) v r a p g al =
-    let x : Refines (k .call) p a (pressed k a) = all-refine (k .call) p a (k .out) (v .0) g (r .0) al in
-    let tail = shown-as ks (v .1) (r .1) (pressed k a .area) (putsAfter (k .call) p (pressed k a .word)) (x .good) (x .along) in
+shown-as [] v r a p o s = refl
+shown-as (k ∷ ks) v r a p o s =
+    let x : Refines (k .call) p a (pressed k a) = all-refine (k .call) p a (k .out) (v .0) (s .good) (r .0) (s .along) in
+    let tail =
+    shown-as ks (v .1) (r .1) (pressed k a .area) (putsAfter (k .call) p (pressed k a .word)) (observe (seenBy (k .call) p (pressed k a)) o) (press k (v .0) a p o s)
+    in
     λ i. x .event i ∷ (tail ∙ ap (events (callsIn ks)) (x .next)) i
 
 pub as-model : AsModel
 as-model area out m v e keys w r =
-    let s = starts-standing area out m v e in
     let t = started area out m e in
-    shown-as keys w r (freshCall area out m .area) noPuts (s .good) (s .along)
+    shown-as keys w r (freshCall area out m .area) noPuts opening (starts-standing area out m v e)
     ∙ ap (events (callsIn keys)) (sym (ap (λ (x : Outcome). viewOf (x .area)) (t .taking)) ∙ fresh-view area m (t .long) v (t .ok) out)
 
 -- ---- the table and the limits
 
 pub plays : (es : List Event) → Plays es → OctetPlays es
 plays es h area out m v e before w keys u r same =
-    let s = run-stands area out m v e before w in
     let a : Octets = areaAfter before (freshCall area out m .area) in
-    shown-as keys u r a _ (s .good) (s .along) ∙ ap (λ (cs : List Call). events cs (viewOf a)) same ∙ h (viewOf a)
+    shown-as keys u r a _ _ (run-stands area out m v e before w) ∙ ap (λ (cs : List Call). events cs (viewOf a)) same ∙ h (viewOf a)
 
 gives : (before : List Event) (gid oid : ℕ) (m p q : Octets) → Gives Plays before gid oid m p q → Gives OctetPlays before gid oid m p q
 gives before gid oid m p q g = record { called = plays _ (g .called); taken-first = g .taken-first }

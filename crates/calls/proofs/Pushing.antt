@@ -39,6 +39,7 @@ use Rattle.views.specs.Moves.{Sound}
 use Rattle.views.proofs.Whole.{moves}
 use Rattle.views.proofs.Tests.{down-full-one, hand-nil}
 use Rattle.views.proofs.Stored.{stored-view}
+use Rattle.views.proofs.Credits.{view-granted}
 use Rattle.model.specs.Connection.{Connection}
 use Rattle.model.specs.Connection as connection
 use Rattle.model.specs.State as bench
@@ -46,6 +47,7 @@ use Rattle.model.specs.Effects.{push, taken}
 use Rattle.model.specs.Refusals.{Rule, rule, first, noConn}
 use Rattle.model.specs.calls.Push.{pushing, pushRules}
 use Rattle.model.specs.Bench.{act, judged}
+use Rattle.model.specs.Grants.{WithinGrants}
 use Rattle.model.specs.Observer.{eventOf}
 use Rattle.model.proofs.Needs.{need}
 use Rattle.calls.specs.Word.{wordOf, answerIn, droppedIn, handedIn, lengthIn, downIn, upIn}
@@ -122,11 +124,9 @@ module _ (r : Record) (c : ℕ) (p : Pushable r c) (shape : Shape r) where
         conns =
             conns-set FitCounts (r .ends .conns) (placeOf c) new there
             (record {
-              held = on (λ (n : ℕ). n ≤ hostSide r c .grant) (flows (hostSide r c .grant)) (λ _. omega (arith, k .held)) (λ _. k .held);
               payload = k .payload;
               hand = hand-after-fits (hostSide r c .payload) (hostSide r c .hand) (k .hand);
               host-run = k .host-run;
-              owed = k .owed;
               store = k .store;
               controller-run = k .controller-run;
             })
@@ -205,11 +205,13 @@ module _ (a out : Octets) (r : Record) (c : ℕ) (s : Sound a r) (small : Small 
       moves a r s .counts-set c (new r c p (s .shape)) (p .place)
       ∙ (λ i. bench.withConns (at-const c becomes (view a r .conns) i) (view a r))
 
-  next-view : viewOf area ≡ bench.withDown (downOf a r ++ (pushedPacket r c a ∷ [])) (bench.withConns (bench.at c becomes (view a r .conns)) (view a r))
-  next-view =
-      stored-view (pushedSlot r c a) (pushedRecord r c) moved-long fit shape
-      ∙ moves a between between-sound .put-down (marked (dataHeader c 0) (flag (pushedSegment r c a))) (body (pushedSegment r c a)) short (p .free)
+  next-moved : view (pushedSlot r c a) (pushedRecord r c) ≡ bench.withDown (downOf a r ++ (pushedPacket r c a ∷ [])) (bench.withConns (bench.at c becomes (view a r .conns)) (view a r))
+  next-moved =
+      moves a between between-sound .put-down (marked (dataHeader c 0) (flag (pushedSegment r c a))) (body (pushedSegment r c a)) short (p .free)
       ∙ (λ i. bench.withDown (downOf a r ++ (pushedPacket r c a ∷ [])) (next-between i))
+
+  next-view : viewOf area ≡ bench.withDown (downOf a r ++ (pushedPacket r c a ∷ [])) (bench.withConns (bench.at c becomes (view a r .conns)) (view a r))
+  next-view = stored-view (pushedSlot r c a) (pushedRecord r c) moved-long fit shape ∙ next-moved
 
   acts : act (push c) (view a r) ≡ pushing c (pushedSegment r c a ∷ rest) (view a r)
   acts i = pushing c (gone i) (view a r)
@@ -253,9 +255,12 @@ module _ (a out : Octets) (r : Record) (c : ℕ) (s : Sound a r) (small : Small 
     done o =
         record {
           good =
+              λ w.
               record {
                 long = stored-long (pushedSlot r c a) (pushedRecord r c) moved-long;
-                judged = stored-judged (pushedSlot r c a) (pushedRecord r c) moved-long fit shape;
+                judged =
+                    stored-judged (pushedSlot r c a) (pushedRecord r c) moved-long fit shape
+                    (view-granted (pushedSlot r c a) (pushedRecord r c) (subst WithinGrants ((λ i. acts i .next) ∙ sym next-moved) w));
                 octal = octets-after o;
               };
           event = seen;

@@ -17,7 +17,9 @@ use Rattle.record.specs.Small.{Small}
 use Rattle.record.proofs.Stored.{stored-long, stored-record, stored-judged, stored-octal}
 use Rattle.views.specs.View.{view}
 use Rattle.views.proofs.Stored.{stored-view}
+use Rattle.views.proofs.Credits.{view-granted}
 use Rattle.model.specs.Effects.{Call, Effect, taken}
+use Rattle.model.specs.Grants.{WithinGrants}
 use Rattle.calls.specs.Word.{wordOf}
 use Rattle.calls.specs.Outcome.{outcome}
 use Rattle.calls.specs.Seen.{Puts, starts}
@@ -35,9 +37,10 @@ module _ (x : Octets) (r : Record) (long : areaSize ≤ length x) (fit : Fit r) 
       let after = stored-record x r long fit shape in
       record {
         good =
+            λ w.
             record {
               long = stored-long x r long;
-              judged = stored-judged x r long fit shape;
+              judged = stored-judged x r long fit shape (view-granted x r (subst WithinGrants (sym nx) w));
               octal = stored-octal x r octal small;
             };
         event =

@@ -1,4 +1,4 @@
--- On a bench that calls from a fresh one have made, no call answers 1 or 13, and none answers 2 where its buffer has room.
+-- On a bench that calls from a fresh one have made, no call answers 1, none answers 2 where its buffer has room, and none brings credits past a grant.
 -- Assumes nothing.
 use Prim.Native.Nat.{ℕ, _≤_, _<_}
 use mathlib.Core.Path.{_≡_, refl, sym, ap, _∙_}
@@ -85,6 +85,16 @@ module _ (a : Octets) (p : Puts) (o : Account) (s : Stands a p o) (k : Key) (v :
       go true t = other (ap coded (sym e ∙ short-answer (ltb-true (length (k .out)) messageSize t)))
       go false t = h (sym (same-answer (ltb-false (length (k .out)) messageSize t)) ∙ e)
 
+  -- of a call that is taken on octets, none of the model's rules applies
+  taken-rules : answerIn (pressed k a .word) ≡ taken → first (rules (k .call) (viewOf a)) ≡ taken
+  unfolding step
+  taken-rules e = go (ltb (length (k .out)) messageSize) refl
+    where
+      go : (b : Bool) → ltb (length (k .out)) messageSize ≡ b → first (rules (k .call) (viewOf a)) ≡ taken
+      go true t = absurd (let z : 0 ≡ 2 = ap coded (sym e ∙ short-answer (ltb-true (length (k .out)) messageSize t)) in omega arith)
+      go false t =
+          sym (answer-first (first (rules (k .call) (viewOf a))) (k .call) (viewOf a)) ∙ sym (same-answer (ltb-false (length (k .out)) messageSize t)) ∙ e
+
 stands-reached : (a : Octets) (p : Puts) (o : Account) → Stands a p o → Reached a
 stands-reached a p o s =
     record {
@@ -92,7 +102,7 @@ stands-reached a p o s =
       judged = s .good .judged;
       never-1 = λ k v. never-answered a p o s k v 1 (λ z. omega arith) (never-said 1 (k .call) (viewOf a) (omega arith) (unsaid-1 (k .call) (viewOf a)));
       never-2 = λ k v room e. never-said 2 (k .call) (viewOf a) (omega arith) (unsaid-2 (k .call) (viewOf a)) (sym (same-answer a p o s k v room) ∙ e);
-      never-13 = λ k v. never-answered a p o s k v 13 (λ z. omega arith) (kept-never (viewOf a) o (s .keeps) (k .call));
+      never-past = λ k v e. kept-never (viewOf a) o (s .keeps) (k .call) (taken-rules a p o s k v e);
     }
 
 pub always-reached : AlwaysReached

@@ -19,7 +19,6 @@ use Rattle.state.specs.Conn.{placeOf, countsOf, closedCounts}
 use Rattle.state.specs.Runs.{joinedOf, handedOn}
 use Rattle.state.proofs.Chains.{on}
 use Rattle.state.proofs.Progress.{joined-fits, done-room}
-use Rattle.dh.specs.Host.{above}
 use Rattle.ends.specs.Changes.{gives, countsAtHost}
 use Rattle.area.specs.Map.{areaSize, slotSize, messageSize, places, hostRunAt}
 use Rattle.area.specs.Runs.{runArea}
@@ -43,7 +42,7 @@ use Rattle.calls.specs.calls.Push.{hostSide}
 use Rattle.calls.specs.calls.Up.{upSlot, upRead, upPayload, upRecord, receivedJoin, receivedSide, receivedEnds, receivedArea, receivedLength, receivedMessage, receivedOut, received}
 use Rattle.calls.proofs.Refining.{at-const, at-twice}
 use Rattle.calls.proofs.Quiet.{quiet-refines}
-use Rattle.calls.proofs.Heeding.{changed-fits, changed-small, given-fits}
+use Rattle.calls.proofs.Heeding.{changed-small}
 use Rattle.calls.proofs.Upping.{upSegment, is-flag, is-body, is-long, up-fit, up-small, up-shape, took-sound}
 
 -- what the model's host does with a segment on a connection that it has open
@@ -118,65 +117,59 @@ module _ (a : Octets) (r : Record) (s : Sound a r) (h : Header) (n : ℕ) (e : u
   shape : Shape (upRecord r (receivedEnds r h n))
   shape = up-shape r (receivedEnds r h n) (s .shape .pairs) (length-set (r .ends .conns) (placeOf (h .id)) new ∙ s .shape .conns)
 
-  -- where refusal 13 lets the credits pass
-  module _ (small : Small r) (below : above (hostSide r (h .id)) (h .credits) ≡ false) where
-    paid-fit : FitCounts paid
-    paid-fit =
-        changed-fits (gives (h .credits)) own (given-fits (hostSide r (h .id)) (h .credits) below) (s .fit .conns (placeOf (h .id)) l)
-        (small .conns (placeOf (h .id)) l .host-grant)
+  -- whatever credits come, its bounds are those of the connection before
+  paid-fit : FitCounts paid
+  paid-fit =
+      let k = s .fit .conns (placeOf (h .id)) l in
+      record { payload = k .payload; hand = k .hand; host-run = k .host-run; store = k .store; controller-run = k .controller-run }
 
-    paid-small : SmallCounts paid
-    paid-small =
-        changed-small (gives (h .credits)) own (given-fits (hostSide r (h .id)) (h .credits) below) (small .conns (placeOf (h .id)) l)
+  between-sound : Sound a between
+  between-sound =
+      let f = took-sound a r s .fit in
+      record {
+        room = s .room;
+        fit = record { down = f .down; up = f .up; own = f .own; conns = conns-set FitCounts (r .ends .conns) (placeOf (h .id)) paid there paid-fit (s .fit .conns) };
+        shape = record { pairs = s .shape .pairs; conns = length-set (r .ends .conns) (placeOf (h .id)) paid ∙ s .shape .conns };
+      }
 
-    between-sound : Sound a between
-    between-sound =
-        let f = took-sound a r s .fit in
-        record {
-          room = s .room;
-          fit = record { down = f .down; up = f .up; own = f .own; conns = conns-set FitCounts (r .ends .conns) (placeOf (h .id)) paid there paid-fit (s .fit .conns) };
-          shape = record { pairs = s .shape .pairs; conns = length-set (r .ends .conns) (placeOf (h .id)) paid ∙ s .shape .conns };
-        }
+  fit : Fit (upRecord r (receivedEnds r h n))
+  fit =
+      up-fit r (receivedEnds r h n) (s .fit) (s .fit .own)
+      (conns-set FitCounts (r .ends .conns) (placeOf (h .id)) new there
+      (record {
+        payload = paid-fit .payload;
+        hand = paid-fit .hand;
+        host-run = joined-fits messageSize before (h .pbf) n;
+        store = paid-fit .store;
+        controller-run = paid-fit .controller-run;
+      })
+      (s .fit .conns))
 
-    fit : Fit (upRecord r (receivedEnds r h n))
-    fit =
-        up-fit r (receivedEnds r h n) (s .fit) (s .fit .own)
-        (conns-set FitCounts (r .ends .conns) (placeOf (h .id)) new there
-        (record {
-          held = paid-fit .held;
-          payload = paid-fit .payload;
-          hand = paid-fit .hand;
-          host-run = joined-fits messageSize before (h .pbf) n;
-          owed = paid-fit .owed;
-          store = paid-fit .store;
-          controller-run = paid-fit .controller-run;
-        })
-        (s .fit .conns))
+  small-after : Small r → Small (upRecord r (receivedEnds r h n))
+  small-after small =
+      let paid-small = changed-small (gives (h .credits)) own tt (small .conns (placeOf (h .id)) l) in
+      up-small r (receivedEnds r h n) (small .own)
+      (conns-set SmallCounts (r .ends .conns) (placeOf (h .id)) new there
+      (record { payload = paid-small .payload; host-grant = paid-small .host-grant; held = paid-small .held; grant = paid-small .grant; owed = paid-small .owed })
+      (small .conns))
 
-    small-after : Small (upRecord r (receivedEnds r h n))
-    small-after =
-        up-small r (receivedEnds r h n) (small .own)
-        (conns-set SmallCounts (r .ends .conns) (placeOf (h .id)) new there
-        (record { payload = paid-small .payload; host-grant = paid-small .host-grant; held = paid-small .held; grant = paid-small .grant; owed = paid-small .owed })
-        (small .conns))
+  -- ---- the state after it
 
-    -- ---- the state after it
-
-    next-is : view (receivedArea r h n a) (upRecord r (receivedEnds r h n)) ≡ receivedBy (h .id) (h .credits) x (view a took) .next
-    next-is =
-        let at : ℕ = placeOf (h .id) in
-        let mine = getD-set-same (r .ends .conns) at paid closedCounts there in
-        let hears : Connection → Connection = λ k. connection.withHost (heardData x (k .host)) k in
-        sym
-        ((λ i.
-        view (runArea messageSize base a (mine i .host .run) (body x))
-        (withConns (set (between .ends .conns) at (record { host = withHostRun (joined messageSize (mine i .host .run) x) (mine i .host); controller = mine i .controller })) took))
-        ∙ (λ i.
-        view (runArea messageSize base a before (is-body a r s h n e i))
-        (withConns (set-set (r .ends .conns) at paid (record { host = withHostRun (same i .next) (receivedSide r h); controller = own .controller }) i) took)))
-        ∙ moves a between between-sound .join-host (h .id) x l
-        ∙ (λ i. bench.withConns (bench.at (h .id) hears (paid-view i .conns)) (paid-view i))
-        ∙ (λ i. bench.withConns (at-twice (h .id) credits hears (view a took .conns) i) (view a took))
+  next-is : view (receivedArea r h n a) (upRecord r (receivedEnds r h n)) ≡ receivedBy (h .id) (h .credits) x (view a took) .next
+  next-is =
+      let at : ℕ = placeOf (h .id) in
+      let mine = getD-set-same (r .ends .conns) at paid closedCounts there in
+      let hears : Connection → Connection = λ k. connection.withHost (heardData x (k .host)) k in
+      sym
+      ((λ i.
+      view (runArea messageSize base a (mine i .host .run) (body x))
+      (withConns (set (between .ends .conns) at (record { host = withHostRun (joined messageSize (mine i .host .run) x) (mine i .host); controller = mine i .controller })) took))
+      ∙ (λ i.
+      view (runArea messageSize base a before (is-body a r s h n e i))
+      (withConns (set-set (r .ends .conns) at paid (record { host = withHostRun (same i .next) (receivedSide r h); controller = own .controller }) i) took)))
+      ∙ moves a between between-sound .join-host (h .id) x l
+      ∙ (λ i. bench.withConns (bench.at (h .id) hears (paid-view i .conns)) (paid-view i))
+      ∙ (λ i. bench.withConns (at-twice (h .id) credits hears (view a took .conns) i) (view a took))
 
   -- ---- what is handed out
 
@@ -206,12 +199,12 @@ module _ (a : Octets) (r : Record) (s : Sound a r) (h : Header) (n : ℕ) (e : u
       go false d = refl
 
   pub received-refines : (q : Puts) (out : Octets) → messageSize ≤ length out → Octal a → Small r → Follows (q .down) (took .down) → Follows (q .up) (took .up)
-      → above (hostSide r (h .id)) (h .credits) ≡ false → hostSide r (h .id) .opened ≡ true
+      → hostSide r (h .id) .opened ≡ true
       → RefinesTo up q (received r h n a out) (record { answer = taken; effect = receiving (h .id) (h .credits) x (view a took) })
-  received-refines q out room o small fd fu below opened =
+  received-refines q out room o small fd fu opened =
       let does : Effect = receivedBy (h .id) (h .credits) x (view a took) in
       subst (λ (b : Bool). RefinesTo up q (received r h n a out) (record { answer = taken; effect = pick b does (flaggedAs true (view a took)) })) (sym opened)
-      (quiet-refines (receivedArea r h n a) (upRecord r (receivedEnds r h n)) long (fit small below) shape
-      (octal-run messageSize base a before (upPayload r n a) o (octal-cut 3 n (octal-cut (upSlot r) slotSize o))) (small-after small below) up refl q fd fu
+      (quiet-refines (receivedArea r h n a) (upRecord r (receivedEnds r h n)) long fit shape
+      (octal-run messageSize base a before (upPayload r n a) o (octal-cut 3 n (octal-cut (upSlot r) slotSize o))) (small-after small) up refl q fd fu
       (receivedJoin r h n .dropped) (receivedJoin r h n .done) size (receivedOut r h n a out) does (omega (arith, size-few)) dropped-is refl refl
-      (out-is out room) (next-is small below))
+      (out-is out room) next-is)

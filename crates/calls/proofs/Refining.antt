@@ -111,7 +111,7 @@ module _ (c : Call) (o : Outcome) (p : Puts) (a out : Octets) (g : Good a) (room
       (λ i. pick (restarts c (ans i)) noPuts (record { down = p .down + dn i; up = p .up + un i }))
       in
       record {
-        good = g;
+        good = λ _. g;
         event =
             λ i.
             record {

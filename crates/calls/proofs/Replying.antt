@@ -88,11 +88,9 @@ module _ (r : Record) (p : Replyable r) (shape : Shape r) where
       let k = f .conns (placeOf 0) zero-place in
       conns-set FitCounts (r .ends .conns) (placeOf 0) new there
       (record {
-        held = k .held;
         payload = k .payload;
         hand = k .hand;
         host-run = k .host-run;
-        owed = omega (arith, k .owed);
         store = k .store;
         controller-run = k .controller-run;
       })

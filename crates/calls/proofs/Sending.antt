@@ -79,11 +79,9 @@ module _ (r : Record) (c : ℕ) (m : Octets) (p : Sendable c m) (shape : Shape r
       let k = f .conns (placeOf c) (p .place) in
       fit-set r c new (p .place) shape
       (record {
-        held = k .held;
         payload = k .payload;
         hand = record { len = p .short; at = omega arith };
         host-run = k .host-run;
-        owed = k .owed;
         store = k .store;
         controller-run = k .controller-run;
       })

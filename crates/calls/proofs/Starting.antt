@@ -24,7 +24,7 @@ use Rattle.record.specs.Reading.{decodeOf}
 use Rattle.record.specs.Layout.{bit}
 use Rattle.record.specs.Writing.{profileOctets, hostOctets, pendingOctets, controlRunOctets, controllerOctets, phaseOctet, rfOctets, pairsOctets}
 use Rattle.record.specs.Claims.{stored}
-use Rattle.record.specs.Fit.{Shape, Fit, FitCounts, Each}
+use Rattle.record.specs.Fit.{Shape, Fit, FitCounts, Each, GrantedCounts, Granted}
 use Rattle.record.specs.Small.{SmallCounts, Small}
 use Rattle.record.specs.Plan.{coldRecord}
 use Rattle.record.proofs.Stored.{stored-long, stored-record, stored-judged, stored-octal}
@@ -78,15 +78,16 @@ module _ (p : Profile) (w : ProfileWithin p) where
         conns =
             closed-all FitCounts p
             (record {
-              held = omega arith;
               payload = λ e. absurd (false≢true e);
               hand = record { len = omega arith; at = omega arith };
               host-run = omega arith;
-              owed = omega arith;
               store = record { head = omega arith; count = omega arith };
               controller-run = omega arith;
             });
       }
+
+  cold-granted : Granted (coldRecord p)
+  cold-granted = closed-all GrantedCounts p (record { held = omega arith; owed = omega arith })
 
   pub cold-shape : Shape (coldRecord p)
   cold-shape = record { pairs = refl; conns = refl }
@@ -116,7 +117,7 @@ module _ (p : Profile) (w : ProfileWithin p) where
     cold-good =
         record {
           long = stored-long x (coldRecord p) long;
-          judged = stored-judged x (coldRecord p) long cold-fit cold-shape;
+          judged = stored-judged x (coldRecord p) long cold-fit cold-shape cold-granted;
           octal = stored-octal x (coldRecord p) o cold-small;
         }
 
@@ -182,7 +183,7 @@ module _ (a m : Octets) (long : areaSize ≤ length a) (o : Octal a) (ok : profi
 
   pub fresh-done : (p : Puts) (out : Octets) → RefinesTo (fresh m) p (freshed m a out) (judged taken (fresh m) (viewOf a))
   unfolding wordOf bit answerIn droppedIn handedIn lengthIn downIn upIn packetsFrom tab
-  fresh-done p out = record { good = fresh-good out; event = refl; next = fresh-view out; along = fresh-along out; there = record { down = omega arith; up = omega arith } }
+  fresh-done p out = record { good = λ _. fresh-good out; event = refl; next = fresh-view out; along = fresh-along out; there = record { down = omega arith; up = omega arith } }
 
 pub fresh-refines : (m : Octets) (p : Puts) (a out : Octets) → Good a → messageSize ≤ length out → Along p a → Refines (fresh m) p a (freshCall a out m)
 unfolding first
@@ -205,7 +206,7 @@ module _ (a out : Octets) (g : Good a) where
   power-done p =
       let x = decodeOf a .ends .profile in
       record {
-        good = cold-good x profile-kept a (g .long) (g .octal);
+        good = λ _. cold-good x profile-kept a (g .long) (g .octal);
         event = refl;
         next = cold-view x profile-kept a (g .long) (g .octal);
         along = cold-along x profile-kept a (g .long) (g .octal);

@@ -20,8 +20,10 @@ use Rattle.record.specs.Small.{Small}
 use Rattle.record.proofs.Stored.{stored-long, stored-record, stored-judged, stored-octal}
 use Rattle.views.specs.View.{view, viewOf}
 use Rattle.views.proofs.Stored.{stored-view}
+use Rattle.views.proofs.Credits.{view-granted}
 use Rattle.model.specs.State.{State}
 use Rattle.model.specs.Effects.{Call, Effect, taken}
+use Rattle.model.specs.Grants.{WithinGrants}
 use Rattle.calls.specs.Word.{wordOf}
 use Rattle.calls.specs.Outcome.{outcome}
 use Rattle.calls.specs.Seen.{Puts, starts}
@@ -108,9 +110,10 @@ module _ (c : Call) (q : Puts) (x t : Octets) (n : Record) where
         let few-up = added-few upAt area (q .up) up (decodeOf area .up) (e .next .up) (e .toUp) ups on-up (fits .up) in
         record {
           good =
+              λ w.
               record {
                 long = stored-long x n (k .long);
-                judged = stored-judged x n (k .long) (k .fit) (k .shape);
+                judged = stored-judged x n (k .long) (k .fit) (k .shape) (view-granted x n (subst WithinGrants (sym (k .next)) w));
                 octal = stored-octal x n (k .octal) (k .small);
               };
           event =

@@ -7,5 +7,6 @@ pub mod Packet
 pub mod calls
 pub mod Demand
 pub mod Reached
+pub mod Checked
 pub mod Played
 pub mod Discards

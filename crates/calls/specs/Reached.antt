@@ -2,14 +2,15 @@
 -- Assumes nothing.
 use Prim.Native.Nat.{ℕ, _≤_}
 use mathlib.Core.Path.{_≡_}
-use mathlib.Core.Bool.{true}
+use mathlib.Core.Bool.{true, false}
 use lib.ListN.{length}
 use Rattle.octets.specs.Octets.{Octets}
 use Rattle.octets.specs.Octal.{Octal}
 use Rattle.area.specs.Map.{areaSize, messageSize}
 use Rattle.record.specs.Judge.{judgeOf}
 use Rattle.views.specs.View.{viewOf}
-use Rattle.model.specs.Effects.{refused}
+use Rattle.model.specs.Effects.{taken, refused}
+use Rattle.model.specs.Grants.{pastGrant}
 use Rattle.model.specs.Reachable.{LoopbacksPaid}
 use Rattle.calls.specs.Word.{answerIn, downIn, upIn}
 use Rattle.calls.specs.Seen.{Puts, seenBy}
@@ -24,8 +25,8 @@ pub record Reached (a : Octets) : Type 0 where
   pub never-1 : (k : Key) → Octal (slice (k .call)) → answerIn (pressed k a .word) ≡ refused 1 → ⊥
   -- with room for a message in the buffer no call answers 2: only arguments and state refuse
   pub never-2 : (k : Key) → Octal (slice (k .call)) → messageSize ≤ length (k .out) → answerIn (pressed k a .word) ≡ refused 2 → ⊥
-  -- credits never pass a grant
-  pub never-13 : (k : Key) → Octal (slice (k .call)) → answerIn (pressed k a .word) ≡ refused 13 → ⊥
+  -- no call that is taken brings credits past a grant, which is what number 13 asked
+  pub never-past : (k : Key) → Octal (slice (k .call)) → answerIn (pressed k a .word) ≡ taken → pastGrant (k .call) (viewOf a) ≡ false
 
 abbrev pub AlwaysReached : Type 0
 AlwaysReached = EveryRun (λ a p o. Reached a)

@@ -14,6 +14,7 @@ use Rattle.views.specs.View.{viewOf}
 use Rattle.model.specs.Effects as model
 use Rattle.model.specs.Effects.{Call}
 use Rattle.model.specs.Bench.{step}
+use Rattle.model.specs.Grants.{WithinGrants}
 use Rattle.model.specs.Observer.{eventOf}
 use Rattle.calls.specs.Word.{downIn, upIn}
 use Rattle.calls.specs.Outcome.{Outcome}
@@ -40,7 +41,8 @@ pub record OnWires (w : ℕ) (a : Octets) : Type 0 where
 
 -- an outcome on octets is this outcome of the model
 pub record RefinesTo (c : Call) (p : Puts) (o : Outcome) (m : model.Outcome) : Type 0 where
-  pub good : Good (o .area)
+  -- its record is one that row 1 lets pass, unless credits have passed a grant
+  pub good : WithinGrants (m .effect .next) → Good (o .area)
   pub event : seenBy c p o ≡ eventOf c m
   pub next : viewOf (o .area) ≡ m .effect .next
   pub along : Along (putsAfter c p (o .word)) (o .area)

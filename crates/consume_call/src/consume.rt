@@ -42,12 +42,7 @@ pub fn refusal(r: Record, conn: u8) -> u8
     let k = conn::counts_of(conns, conn);
     let side = k.controller;
     let place = conn::place_of(conn);
-    let thirteen = choose(
-        (side.grant != conn::UNMETERED) & (side.grant <= side.owed),
-        13,
-        0,
-    );
-    let eight = choose(side.store.count == 0, 8, thirteen);
+    let eight = choose(side.store.count == 0, 8, 0);
     let six = choose(!side.opened, 6, eight);
     let four = choose((0 != conn) & (map::WIRE <= count), 4, six);
     choose(map::PLACES <= place, 3, four)

@@ -164,24 +164,3 @@ dropHeard isOpen m (Answered a) = false
 dropHeard isOpen m (Activated t) = false
 dropHeard isOpen m Deactivated = false
 dropHeard isOpen m Credits = namesClosed isOpen m (getD m 0 0)
-
--- ---- credits above the grant (refusal 13)
-
--- n more would bring a connection, open and flow-controlled, above its grant
-abbrev pub above : HostSide → ℕ → Bool
-above h n = h .opened && flows (h .grant) && ltb (h .grant) (h .held + n)
-
-abbrev pub aboveAt : List Counts → Octets → ℕ → Bool
-aboveAt conns m c = above (countsOf conns c .host) (creditsFor m c)
-
-abbrev pub creditsAbove : List Counts → Octets → Bool
-creditsAbove conns m = aboveAt conns m 0 || aboveAt conns m 2 || aboveAt conns m 3 || aboveAt conns m 4 || aboveAt conns m 5
-
--- only a credit notice can
-unfoldable pub anyAbove : List Counts → Octets → Heard → Bool
-anyAbove conns m Nothing = false
-anyAbove conns m Dropped = false
-anyAbove conns m (Answered a) = false
-anyAbove conns m (Activated t) = false
-anyAbove conns m Deactivated = false
-anyAbove conns m Credits = creditsAbove conns m

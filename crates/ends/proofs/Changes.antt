@@ -4,11 +4,11 @@
 use Prim.Native.Nat.{ℕ, _+_, _%_, _<_, _≤_}
 use native.Mathlib.Omega.{arith}
 use mathlib.Core.Path.{_≡_, refl, sym, _∙_}
-use mathlib.Core.Bool.{Bool, true, false, _&&_, _||_}
+use mathlib.Core.Bool.{Bool, true, false, _&&_}
 use mathlib.Core.List.{List}
 use lib.ListN.{length}
 use lib.Dec.{eqb}
-use borrow.Author.Tests.{eqb-true, le-ltb}
+use borrow.Author.Tests.{eqb-true}
 use Rattle.octets.specs.Octets.{Octets, pick}
 use Rattle.ends.specs.Kinds.{Terms, Profile, Hand, HostSide, ControllerSide, Counts, Verdict, Aired, Heard}
 use Rattle.ends.specs.Kinds.verdict as verdict
@@ -19,8 +19,8 @@ use Rattle.state.specs.Conn.{placeOf, termsOf, flows, creditSum, countsOf, empt
 use Rattle.state.proofs.Conns.{changedAt, length-one, length-all, one-at, all-at}
 use Rattle.nfcc.specs.Controller.{connsAfter, endpointAfter}
 use Rattle.air.specs.Air.{connsAired, endpointAired}
-use Rattle.dh.specs.Host.{creditsFor, credited, connsHeard, above, anyAbove}
-use Rattle.ends.specs.Changes.{Change, stays, opens, closes, gives, changeBy, changeAired, givenTo, changeHeard, creditsOf, changedHost, countsAtController, countsAtHost, endpointBy, spokenBy, aboveBy}
+use Rattle.dh.specs.Host.{creditsFor, credited, connsHeard}
+use Rattle.ends.specs.Changes.{Change, stays, opens, closes, gives, changeBy, changeAired, givenTo, changeHeard, changedHost, countsAtController, countsAtHost, endpointBy, spokenBy}
 
 -- ---- one side of a connection's counts
 
@@ -179,65 +179,3 @@ endpoint-aired t h (Goes rf l) n = refl
 endpoint-aired t h (Activates rf l) n = refl
 endpoint-aired t h (Ends rf) n = refl
 endpoint-aired t h Speaks n = refl
-
--- ---- credits above the grant: only a notice gives any
-
-given-all : (n : ℕ) → n ≡ creditsOf (givenTo n)
-given-all n = go (eqb n 0) refl
-  where
-    go : (b : Bool) → eqb n 0 ≡ b → n ≡ creditsOf (pick b stays (gives n))
-    go true e = eqb-true n 0 e
-    go false e = refl
-
-opens-none : (b : Bool) (t : Terms) → creditsOf (pick b (opens t) stays) ≡ 0
-opens-none true t = refl
-opens-none false t = refl
-
-closes-none : (b : Bool) → creditsOf (pick b closes stays) ≡ 0
-closes-none true = refl
-closes-none false = refl
-
--- with no more credits it stays within its grant
-not-above : (h : HostSide) (n : ℕ) → h .held ≤ h .grant → n ≡ 0 → false ≡ above h n
-not-above h n low e = go (h .opened && flows (h .grant)) (le-ltb (h .grant) (h .held + n) (omega arith))
-  where
-    go : (b : Bool) {x : Bool} → x ≡ false → false ≡ (b && x)
-    go true z = sym z
-    go false z = refl
-
--- the tests as they are bracketed in the code, and one after the other
-bracket : (a b c d e : Bool) → (a || b || c || d || e) ≡ (a || (b || (c || (d || (e || false)))))
-bracket true b c d e = refl
-bracket false true c d e = refl
-bracket false false true d e = refl
-bracket false false false true e = refl
-bracket false false false false true = refl
-bracket false false false false false = refl
-
-module _ (conns : List Counts) (m : Octets) (low : (d : ℕ) → placeOf d < 5 → countsOf conns d .host .held ≤ countsOf conns d .host .grant) where
-  none-above : (x : Heard) → ((d : ℕ) → creditsOf (changeHeard x m d) ≡ 0)
-      → false ≡ (aboveBy conns m x 0 || (aboveBy conns m x 2 || (aboveBy conns m x 3 || (aboveBy conns m x 4 || (aboveBy conns m x 5 || false)))))
-  unfolding placeOf
-  none-above x z =
-      let none : (d : ℕ) → placeOf d < 5 → false ≡ aboveBy conns m x d = λ d h. not-above (countsOf conns d .host) _ (low d h) (z d) in
-      λ i. none 0 (omega arith) i
-      || (none 2 (omega arith) i || (none 3 (omega arith) i || (none 4 (omega arith) i || (none 5 (omega arith) i || false))))
-
-  -- where no more is held than granted, each connection is asked
-  pub any-above : (x : Heard)
-      → anyAbove conns m x ≡ (aboveBy conns m x 0 || (aboveBy conns m x 2 || (aboveBy conns m x 3 || (aboveBy conns m x 4 || (aboveBy conns m x 5 || false)))))
-  unfolding anyAbove
-  any-above Nothing = none-above Nothing (λ d. refl)
-  any-above Dropped = none-above Dropped (λ d. refl)
-  any-above (Answered Done) = none-above (Answered Done) (λ d. refl)
-  any-above (Answered ClosesAll) = none-above (Answered ClosesAll) (λ d. refl)
-  any-above (Answered (Sized n)) = none-above (Answered (Sized n)) (λ d. refl)
-  any-above (Answered (Opens c t)) = none-above (Answered (Opens c t)) (λ d. opens-none (eqb c d) t)
-  any-above (Answered (Closes c)) = none-above (Answered (Closes c)) (λ d. closes-none (eqb c d))
-  any-above (Activated t) = none-above (Activated t) (λ d. opens-none (eqb 0 d) t)
-  any-above Deactivated = none-above Deactivated (λ d. closes-none (eqb 0 d))
-  any-above Credits =
-      let given : (d : ℕ) → above (countsOf conns d .host) (creditsFor m d) ≡ aboveBy conns m Credits d =
-      λ d i. above (countsOf conns d .host) (given-all (creditsFor m d) i) in
-      (λ i. given 0 i || given 2 i || given 3 i || given 4 i || given 5 i)
-      ∙ bracket (aboveBy conns m Credits 0) (aboveBy conns m Credits 2) (aboveBy conns m Credits 3) (aboveBy conns m Credits 4) (aboveBy conns m Credits 5)

@@ -1,8 +1,6 @@
 -- What opens and closes a connection at either end, what gives it credits, and its counts after it.
 -- Assumes nothing.
 use Prim.Native.Nat.{ℕ}
-use mathlib.Core.Bool.{Bool}
-use mathlib.Core.List.{List}
 use lib.Dec.{eqb}
 use Rattle.octets.specs.Octets.{Octets, pick}
 use Rattle.ends.specs.Kinds.{Terms, Hand, HostSide, ControllerSide, Counts, Verdict, Aired, Answer, Heard}
@@ -10,8 +8,8 @@ use Rattle.ends.specs.Kinds.verdict as verdict
 use Rattle.ends.specs.Kinds.aired.{Refused, Goes, Activates, Ends, Speaks}
 use Rattle.ends.specs.Kinds.answer.{Done, ClosesAll, Sized, Opens, Closes}
 use Rattle.ends.specs.Kinds.heard.{Nothing, Dropped, Answered, Activated, Deactivated, Credits}
-use Rattle.state.specs.Conn.{countsOf, empty, handWith, closedHost, openedHost, closedController, openedController}
-use Rattle.dh.specs.Host.{creditsFor, credited, above}
+use Rattle.state.specs.Conn.{empty, handWith, closedHost, openedHost, closedController, openedController}
+use Rattle.dh.specs.Host.{creditsFor, credited}
 
 -- what happens to a connection: nothing, it opens with terms, it closes, or credits are given
 pub data Change : Type 0 where
@@ -102,9 +100,3 @@ spokenBy (Goes rf l) n h = h
 spokenBy (Activates rf l) n h = h
 spokenBy (Ends rf) n h = h
 spokenBy Speaks n h = handWith n
-
--- ---- credits above the grant (refusal 13)
-
--- what was heard would bring a connection above its grant
-abbrev pub aboveBy : List Counts → Octets → Heard → ℕ → Bool
-aboveBy conns m x d = above (countsOf conns d .host) (creditsOf (changeHeard x m d))

@@ -21,6 +21,7 @@ pub mod Hearing
 pub mod Trace
 pub mod Always
 pub mod Never
+pub mod Within
 pub mod Said
 pub mod Small
 pub mod SizesDown

@@ -1,4 +1,5 @@
--- Refusal 13 is never given: on a bench that calls from a fresh one have made, its test fails wherever those before it do.
+-- Credits stay within the grant: on a bench that calls from a fresh one have made, what number 13 asked never holds of a call that is taken, so the rules
+-- with it gave what the rules without it give.
 -- Assumes nothing.
 use Prim.Native.Nat.{ℕ, _+_, _≤_, _<_}
 use native.Mathlib.Omega.{arith}
@@ -26,23 +27,27 @@ use Rattle.wires.specs.Meaning.{Meaning, datum, control, junk, meaning}
 use Rattle.wires.specs.Tally.{says}
 use Rattle.model.specs.State.{State, isOpen, withUp}
 use Rattle.model.specs.Effects.{Call, fresh, power, command, send, push, down, consume, credit, air, reply, up, report, Result, taken, refused}
-use Rattle.model.specs.Refusals.{Rule, rule, first, isNil, noConn, isHeld, full, ids}
+use Rattle.model.specs.Refusals.{Rule, rule, first, isNil, isHeld, ids}
 use Rattle.model.specs.Runs.{sameRun, wholeBy}
 use Rattle.ends.specs.Changes.{Change, creditsOf, changeHeard}
-use Rattle.model.specs.calls.Consume.{isLoop}
-use Rattle.model.specs.calls.Up.{passing, above, anyOf, tooMany, firstTooMany}
-use Rattle.model.specs.Bench.{rules, judged, step}
+use Rattle.model.specs.Bench.{rules, judged}
+use Rattle.model.specs.Grants.{WithinGrants, owesAll, passing, above, anyOf, tooMany, firstTooMany, pastGrant, checkedRules}
 use Rattle.model.specs.Observer.{Ledger, Account}
-use Rattle.model.specs.Reachable.{Always, Never13}
+use Rattle.model.specs.Reachable.{Always, NeverPast}
 use Rattle.model.specs.invariant.Items.{itemsOf}
 use Rattle.model.specs.invariant.Bench.{Fine, Kept, SoundIn}
 use Rattle.model.proofs.Cases.{clash}
 use Rattle.model.proofs.Needs.{need}
-use Rattle.model.proofs.Link.{held-le, room-owed, room-by}
+use Rattle.model.proofs.Link.{held-le, owed-le, room-owed, room-by}
 use Rattle.model.proofs.Meanings.{hear-notice}
 use Rattle.model.proofs.Trace.{reachable}
 
 -- ---- rules
+
+-- the answer of a call is what its rules say
+pub answer-first : (r : Result) (c : Call) (s : State) → judged r c s .answer ≡ r
+answer-first taken c s = refl
+answer-first (refused n) c s = refl
 
 -- whether a rule of number n is among them
 abbrev pub mentions : ℕ → List Rule → Bool
@@ -77,27 +82,19 @@ last-fails n (r ∷ rs) b h = go (last-fails n rs b) (r .test) refl
 
 -- ---- consume
 
-module _ (s : State) (aim : ℕ) (l : ℕ → Ledger) (f : Fine s aim l) where
-  module _ (c : ℕ) where
-    -- the rules before that of 13
-    abbrev before : List Rule
-    before =
-        rule 3 (noConn c) ∷ rule 4 (isLoop c && full 1 (s .up)) ∷ rule 6 (not (isOpen s c)) ∷ rule 8 (isNil (s .conns c .controller .store)) ∷ []
+module _ (s : State) (aim : ℕ) (l : ℕ → Ledger) (f : Fine s aim l) (c : ℕ) where
+  -- while a packet is stored, not all of the grant is owed
+  not-all-owed : (st : List Octets) → s .conns c .controller .store ≡ st → isNil st ≡ false → isOpen s c ≡ true → owesAll s c ≡ false
+  not-all-owed [] e n o = clash refl n
+  not-all-owed (p ∷ st) e n o = go (flows (s .conns c .controller .grant)) refl
+    where
+      go : (b : Bool) → flows (s .conns c .controller .grant) ≡ b → (b && leb (s .conns c .controller .grant) (s .conns c .controller .owed)) ≡ false
+      go true y = lt-leb (s .conns c .controller .grant) (s .conns c .controller .owed) (room-owed o y (omega (arith, ap length e)) (f .good c .numbers))
+      go false y = refl
 
-    -- while a packet is stored, not all of the grant is owed
-    not-all-owed : (st : List Octets) → s .conns c .controller .store ≡ st → isNil st ≡ false → isOpen s c ≡ true
-        → (flows (s .conns c .controller .grant) && leb (s .conns c .controller .grant) (s .conns c .controller .owed)) ≡ false
-    not-all-owed [] e n o = clash refl n
-    not-all-owed (p ∷ st) e n o = go (flows (s .conns c .controller .grant)) refl
-      where
-        go : (b : Bool) → flows (s .conns c .controller .grant) ≡ b → (b && leb (s .conns c .controller .grant) (s .conns c .controller .owed)) ≡ false
-        go true y = lt-leb (s .conns c .controller .grant) (s .conns c .controller .owed) (room-owed o y (omega (arith, ap length e)) (f .good c .numbers))
-        go false y = refl
-
-    consume-never : first (rules (consume c) s) ≡ refused 13 → ⊥
-    consume-never e =
-        not-among 13 before (omega arith) refl
-        (sym (last-fails 13 before _ (λ t. not-all-owed (s .conns c .controller .store) refl (need 8 before t) (not-false _ (need 6 before t)))) ∙ e)
+  consume-within : first (rules (consume c) s) ≡ taken → owesAll s c ≡ false
+  consume-within t =
+      not-all-owed (s .conns c .controller .store) refl (need 8 (rules (consume c) s) t) (not-false _ (need 6 (rules (consume c) s) t))
 
 -- ---- up
 
@@ -173,10 +170,8 @@ module _ (s : State) (aim : ℕ) (l : ℕ → Ledger) (p : Octets) (w : List Oct
       go (inr e) = subst Spared (sym e) (spared 3 (notice-room gid oid m (means ∙ ap (λ (n : ℕ). control n gid oid (last m)) e)))
   not-too-many junk means k = refl
 
-up-never : (s : State) (aim : ℕ) (l : ℕ → Ledger) → Fine s aim l → first (rules up s) ≡ refused 13 → ⊥
-up-never s aim l f e =
-    not-among 13 (rule 8 (isNil (s .up)) ∷ []) (omega arith) refl
-    (sym (last-fails 13 (rule 8 (isNil (s .up)) ∷ []) (firstTooMany s (s .up)) (λ t. go (s .up) f)) ∙ e)
+up-within : (s : State) (aim : ℕ) (l : ℕ → Ledger) → Fine s aim l → firstTooMany s (s .up) ≡ false
+up-within s aim l f = go (s .up) f
   where
     go : (w : List Octets) → Fine (withUp w s) aim l → firstTooMany (withUp w s) w ≡ false
     go [] f = refl
@@ -184,29 +179,30 @@ up-never s aim l f e =
 
 -- ---- every call
 
-never : (c : Call) (s : State) (aim : ℕ) (l : ℕ → Ledger) → Fine s aim l → first (rules c s) ≡ refused 13 → ⊥
-never (fresh m) s aim l f = not-among 13 (rules (fresh m) s) (omega arith) refl
-never power s aim l f = not-among 13 (rules power s) (omega arith) refl
-never (command gid oid m) s aim l f = not-among 13 (rules (command gid oid m) s) (omega arith) refl
-never (send c m) s aim l f = not-among 13 (rules (send c m) s) (omega arith) refl
-never (push c) s aim l f = not-among 13 (rules (push c) s) (omega arith) refl
-never down s aim l f = not-among 13 (rules down s) (omega arith) refl
-never (consume c) s aim l f = consume-never s aim l f c
-never credit s aim l f = not-among 13 (rules credit s) (omega arith) refl
-never (air m) s aim l f = not-among 13 (rules (air m) s) (omega arith) refl
-never reply s aim l f = not-among 13 (rules reply s) (omega arith) refl
-never up s aim l f = up-never s aim l f
-never (report c) s aim l f = not-among 13 (rules (report c) s) (omega arith) refl
+never : (c : Call) (s : State) (aim : ℕ) (l : ℕ → Ledger) → Fine s aim l → first (rules c s) ≡ taken → pastGrant c s ≡ false
+never (fresh m) s aim l f t = refl
+never power s aim l f t = refl
+never (command gid oid m) s aim l f t = refl
+never (send c m) s aim l f t = refl
+never (push c) s aim l f t = refl
+never down s aim l f t = refl
+never (consume c) s aim l f t = consume-within s aim l f c t
+never credit s aim l f t = refl
+never (air m) s aim l f t = refl
+never reply s aim l f t = refl
+never up s aim l f t = up-within s aim l f
+never (report c) s aim l f t = refl
 
--- the answer of a call is what its rules say
-pub answer-first : (r : Result) (c : Call) (s : State) → judged r c s .answer ≡ r
-answer-first taken c s = refl
-answer-first (refused n) c s = refl
+-- they follow from the invariant, whatever made it hold
+module _ (s : State) (o : Account) (k : Kept s o) where
+  pub kept-never : NeverPast s
+  kept-never c = never c s (o .aim) (o .ledger) (k .fine)
 
--- it follows from the invariant, whatever made it hold
-pub kept-never : (s : State) (o : Account) → Kept s o → Never13 s
-unfolding step
-kept-never s o k c e = never c s (o .aim) (o .ledger) (k .fine) (sym (answer-first (first (rules c s)) c s) ∙ e)
+  pub kept-rules : (c : Call) → first (checkedRules c s) ≡ first (rules c s)
+  kept-rules c = last-fails 13 (rules c s) (pastGrant c s) (kept-never c)
 
-pub thirteen-never : Always Never13
-thirteen-never profile ok calls = kept-never _ _ (reachable profile ok calls)
+  pub kept-within : WithinGrants s
+  kept-within d five = record { held = held-le (k .fine .good d .numbers); owed = owed-le (k .fine .good d .numbers) }
+
+pub never-past : Always NeverPast
+never-past profile ok calls = kept-never _ _ (reachable profile ok calls)

@@ -20,7 +20,6 @@ use Rattle.model.specs.State.{State}
 use Rattle.model.specs.Effects.{Result, credit}
 use Rattle.model.specs.Refusals.{rule, first, full}
 use Rattle.model.specs.calls.Credit.{owedBy, allZero}
-use Rattle.model.specs.calls.Up.{anyOf}
 use Rattle.model.specs.Bench.{judged, step}
 use Rattle.model.specs.Observer.{events}
 use Rattle.model.specs.Observer as observer
@@ -35,7 +34,7 @@ two-credits s e room =
     ∙ (λ i. goesUp credit (noticePacket (record { gid = 0; oid = 6; payload = creditsNtf (e i) })))
 
 pub table : Table Plays
-unfolding cut octet0 octet1 packetOf oidOf carriedOf spareOf headerOf readOf carrying segmentsWithin segments placeOf connOf termsOf carriable commandOf shortest allowed resetBy after seek nextId createBy closeBy configsOk discoverBy deactivateBy judgeOf controllerAfter entriesFrom entryCount responseOf noticeMessage pollIn eventOf pollBy airedBy airMessage controllerAired noticeOf zeros initWritten createWritten entriesOk creditsWritten activatedWritten written answerOf heardAlone hearOf creditsIn namesClosed hostAfter dropHeard meaning dataCount creditsUp first allZero anyOf step events observer.after
+unfolding cut octet0 octet1 packetOf oidOf carriedOf spareOf headerOf readOf carrying segmentsWithin segments placeOf connOf termsOf carriable commandOf shortest allowed resetBy after seek nextId createBy closeBy configsOk discoverBy deactivateBy judgeOf controllerAfter entriesFrom entryCount responseOf noticeMessage pollIn eventOf pollBy airedBy airMessage controllerAired noticeOf zeros initWritten createWritten entriesOk creditsWritten activatedWritten written answerOf heardAlone hearOf creditsIn namesClosed hostAfter dropHeard meaning dataCount creditsUp first allZero step events observer.after
 table =
     record {
       start = λ s. refl;

@@ -7,6 +7,7 @@ pub mod Runs
 pub mod Changes
 pub mod calls
 pub mod Bench
+pub mod Grants
 pub mod Observer
 pub mod Claim
 pub mod Reachable

@@ -17,22 +17,23 @@ use Rattle.dh.specs.Host.{aimOf}
 use Rattle.model.specs.Connection.{HostEnd, ControllerEnd, closed}
 use Rattle.wires.specs.Meaning.{Meaning, datum, control, junk, meaning}
 use Rattle.model.specs.State.{State, cold}
-use Rattle.model.specs.Effects.{Call, refused}
-use Rattle.model.specs.Refusals.{noConn}
+use Rattle.model.specs.Effects.{Call, taken}
+use Rattle.model.specs.Refusals.{first, noConn}
 use Rattle.model.specs.calls.Consume.{isLoop}
 use Rattle.ends.specs.Changes.{Change, stays, opens, closes, gives}
-use Rattle.model.specs.Bench.{step}
+use Rattle.model.specs.Bench.{rules}
+use Rattle.model.specs.Grants.{pastGrant}
 use Rattle.model.specs.Observer.{after, changeIn}
 
 -- a statement of every bench that calls make, whatever profile `fresh` took
 abbrev pub Always : (State → Type 0) → Type 0
 Always P = (profile : Octets) → profileOctetsOk profile ≡ true → (calls : List Call) → P (after calls (cold (profileIn profile)))
 
--- ---- refusal 13
+-- ---- credits within the grant
 
--- no call is refused with 13
-abbrev pub Never13 : State → Type 0
-Never13 s = (c : Call) → step c s .answer ≡ refused 13 → ⊥
+-- what number 13 asked never holds of a call that is taken
+abbrev pub NeverPast : State → Type 0
+NeverPast s = (c : Call) → first (rules c s) ≡ taken → pastGrant c s ≡ false
 
 -- ---- credits owed
 

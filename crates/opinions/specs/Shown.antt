@@ -21,7 +21,6 @@ use Rattle.model.specs.State.{State, cold}
 use Rattle.model.specs.Effects.{Call, Result, taken, refused, Outcome}
 use Rattle.model.specs.Refusals.{first}
 use Rattle.model.specs.calls.Credit.{allZero}
-use Rattle.model.specs.calls.Up.{anyOf}
 use Rattle.model.specs.Bench.{step}
 
 -- ---- octets as the sheet writes them
@@ -82,6 +81,6 @@ start = cold (profileIn profile)
 
 -- each call's line. What is named below unfolds wherever `lines` does, so that a list of calls computes.
 unfoldable pub lines : List Call → State → List Line
-unfolding cut octet0 octet1 packetOf oidOf carriedOf spareOf headerOf readOf carrying segmentsWithin segments placeOf connOf termsOf carriable listedIn addedTo commandOf shortest allowed resetBy after seek nextId createBy closeBy configsOk discoverBy deactivateBy judgeOf controllerAfter entriesFrom entryCount responseOf noticeMessage foundIn pollIn listenIn eventOf foundBy pollBy listenBy failedBy airedBy airMessage controllerAired noticeOf zeros initWritten createWritten entriesOk creditsWritten discoverWritten activatedWritten deactivateWritten written answerOf heardAlone hearOf creditsIn namesClosed hostAfter dropHeard meaning dataCount creditsUp first allZero anyOf step
+unfolding cut octet0 octet1 packetOf oidOf carriedOf spareOf headerOf readOf carrying segmentsWithin segments placeOf connOf termsOf carriable listedIn addedTo commandOf shortest allowed resetBy after seek nextId createBy closeBy configsOk discoverBy deactivateBy judgeOf controllerAfter entriesFrom entryCount responseOf noticeMessage foundIn pollIn listenIn eventOf foundBy pollBy listenBy failedBy airedBy airMessage controllerAired noticeOf zeros initWritten createWritten entriesOk creditsWritten discoverWritten activatedWritten deactivateWritten written answerOf heardAlone hearOf creditsIn namesClosed hostAfter dropHeard meaning dataCount creditsUp first allZero step
 lines [] s = []
 lines (c ∷ cs) s = lineOf (step c s) ∷ lines cs (step c s .effect .next)

@@ -6,7 +6,7 @@ use Rattle.record.specs.Reading.{pairsAt, controllerAt, connsAt, endsOf,
 use Rattle.record.specs.Fit.{Shape}
 use Rattle.record.specs.Claims.{Claims}
 use Rattle.record.proofs.Loads.{short-load, bad-load, long-load}
-use Rattle.record.proofs.Fits.{judged-fits, fits-judged}
+use Rattle.record.proofs.Fits.{judged-fits, judged-granted, fits-judged}
 use Rattle.record.proofs.ReadsBack.{reads-back, judged-back}
 use Rattle.record.proofs.Outside.{slot-octet, outside-before, outside-after, outside-length, same-record, same-judgement}
 
@@ -21,6 +21,7 @@ claims =
       reads-back = reads-back;
       judged-back = judged-back;
       judged-fits = judged-fits;
+      judged-granted = judged-granted;
       fits-judged = fits-judged;
       decoded-shape = decoded-shape;
       outside-before = outside-before;

@@ -9,7 +9,7 @@ use lib.ListN.{length, getD}
 use lib.Dec.{eqb, ltb, leb}
 use borrow.Author.Tests.{leb-true, ltb-true, le-leb, lt-ltb, eqb-false, ne-eqb}
 use Rattle.octets.specs.Octets.{Octets}
-use Rattle.record.specs.Kinds.{Hand, Ring, Counts, Record}
+use Rattle.record.specs.Kinds.{Hand, Ring, HostSide, ControllerSide, Counts, Ends, Record}
 use Rattle.state.specs.Conn.{closedCounts}
 use Rattle.state.specs.Profile.{leastSize, profileOk}
 use Rattle.state.proofs.Chains.{every-at}
@@ -18,7 +18,7 @@ use Rattle.area.specs.Map.{areaSize, wireSlots, storeSlots, messageSize, contro
 use Rattle.record.specs.Layout.{slot, pairsRoom}
 use Rattle.record.specs.Reading.{decodeOf}
 use Rattle.record.specs.Judge.{ringOk, handOk, givenOk, hostSideOk, controllerSideOk, countsOk, countsOkIn, connsOk, endsOk, recordOk, tagsOk, judgeOf}
-use Rattle.record.specs.Fit.{FitRing, FitHand, FitCounts, Each, Fit}
+use Rattle.record.specs.Fit.{FitRing, FitHand, FitCounts, Each, Fit, GrantedCounts, Granted}
 
 -- ---- tests of which one must hold
 
@@ -73,43 +73,63 @@ fits-given id f =
 
 -- ---- connections
 
-counts-fit : (c : Counts) → countsOk c ≡ true → FitCounts c
-unfolding countsOk hostSideOk controllerSideOk
-counts-fit c h =
-    let s = c .host in
-    let k = c .controller in
-    let sides = every-at (hostSideOk s) (controllerSideOk k ∷ []) h in
-    let a = every-at (leb (s .held) (s .grant)) ((not (s .opened) || leb 1 (s .payload)) ∷ handOk (s .hand) ∷ leb (s .run .len) messageSize ∷ []) (sides 0) in
-    let b = every-at (leb (k .owed) (k .grant)) (ringOk storeSlots (k .store) ∷ leb (k .run .len) messageSize ∷ []) (sides 1) in
-    record {
-      held = leb-true (s .held) (s .grant) (a 0);
-      payload = λ o. leb-true 1 (s .payload) (then (s .opened) (leb 1 (s .payload)) (a 1) o);
-      hand = hand-fits (s .hand) (a 2);
-      host-run = leb-true (s .run .len) messageSize (a 3);
-      owed = leb-true (k .owed) (k .grant) (b 0);
-      store = ring-fits storeSlots (k .store) (b 1);
-      controller-run = leb-true (k .run .len) messageSize (b 2);
-    }
+-- the tests of each end, that on credits first
+abbrev hostTests : HostSide → List Bool
+hostTests s = (not (s .opened) || leb 1 (s .payload)) ∷ handOk (s .hand) ∷ leb (s .run .len) messageSize ∷ []
 
-fits-counts : (c : Counts) → FitCounts c → countsOk c ≡ true
+abbrev controllerTests : ControllerSide → List Bool
+controllerTests k = ringOk storeSlots (k .store) ∷ leb (k .run .len) messageSize ∷ []
+
+module _ (c : Counts) (h : countsOk c ≡ true) where
+  host-tests : (i : ℕ) → getD (leb (c .host .held) (c .host .grant) ∷ hostTests (c .host)) i true ≡ true
+  unfolding countsOk hostSideOk
+  host-tests =
+      every-at (leb (c .host .held) (c .host .grant)) (hostTests (c .host)) (every-at (hostSideOk (c .host)) (controllerSideOk (c .controller) ∷ []) h 0)
+
+  controller-tests : (i : ℕ) → getD (leb (c .controller .owed) (c .controller .grant) ∷ controllerTests (c .controller)) i true ≡ true
+  unfolding countsOk controllerSideOk
+  controller-tests =
+      every-at (leb (c .controller .owed) (c .controller .grant)) (controllerTests (c .controller)) (every-at (hostSideOk (c .host)) (controllerSideOk (c .controller) ∷ []) h 1)
+
+  counts-fit : FitCounts c
+  counts-fit =
+      let s = c .host in
+      let k = c .controller in
+      record {
+        payload = λ o. leb-true 1 (s .payload) (then (s .opened) (leb 1 (s .payload)) (host-tests 1) o);
+        hand = hand-fits (s .hand) (host-tests 2);
+        host-run = leb-true (s .run .len) messageSize (host-tests 3);
+        store = ring-fits storeSlots (k .store) (controller-tests 1);
+        controller-run = leb-true (k .run .len) messageSize (controller-tests 2);
+      }
+
+  counts-granted : GrantedCounts c
+  counts-granted =
+      record {
+        held = leb-true (c .host .held) (c .host .grant) (host-tests 0);
+        owed = leb-true (c .controller .owed) (c .controller .grant) (controller-tests 0);
+      }
+
+fits-counts : (c : Counts) → FitCounts c → GrantedCounts c → countsOk c ≡ true
 unfolding countsOk hostSideOk controllerSideOk
-fits-counts c f =
+fits-counts c f g =
     let s = c .host in
     let k = c .controller in
     let open-payload = then-not (s .opened) (leb 1 (s .payload)) (λ o. le-leb 1 (s .payload) (f .payload o)) in
     rw (
-      le-leb (s .held) (s .grant) (f .held),
+      le-leb (s .held) (s .grant) (g .held),
       open-payload,
       fits-hand (s .hand) (f .hand),
       le-leb (s .run .len) messageSize (f .host-run),
-      le-leb (k .owed) (k .grant) (f .owed),
+      le-leb (k .owed) (k .grant) (g .owed),
       fits-ring storeSlots (k .store) (f .store),
       le-leb (k .run .len) messageSize (f .controller-run),
     )
 
-conns-fit : (l : List Counts) → connsOk l ≡ true → Each FitCounts l
+-- each of the five is tested
+conns-each : (l : List Counts) → connsOk l ≡ true → (p : ℕ) → p < places → countsOkIn l p ≡ true
 unfolding connsOk
-conns-fit l h p i = counts-fit (getD l p closedCounts) (go p i)
+conns-each l h = go
   where
     at : (i : ℕ) → getD (countsOkIn l 0 ∷ countsOkIn l 1 ∷ countsOkIn l 2 ∷ countsOkIn l 3 ∷ countsOkIn l 4 ∷ []) i true ≡ true
     at = every-at (countsOkIn l 0) (countsOkIn l 1 ∷ countsOkIn l 2 ∷ countsOkIn l 3 ∷ countsOkIn l 4 ∷ []) h
@@ -122,44 +142,54 @@ conns-fit l h p i = counts-fit (getD l p closedCounts) (go p i)
     go (suc (suc (suc (suc zero)))) i = at 4
     go (suc (suc (suc (suc (suc n))))) i = absurd (omega arith)
 
-fits-conns : (l : List Counts) → Each FitCounts l → connsOk l ≡ true
+fits-conns : (l : List Counts) → Each FitCounts l → Each GrantedCounts l → connsOk l ≡ true
 unfolding connsOk
-fits-conns l f =
-    let at : (p : ℕ) → p < places → countsOkIn l p ≡ true = λ p i. fits-counts (getD l p closedCounts) (f p i) in
+fits-conns l f g =
+    let at : (p : ℕ) → p < places → countsOkIn l p ≡ true = λ p i. fits-counts (getD l p closedCounts) (f p i) (g p i) in
     rw (at 0 (omega arith), at 1 (omega arith), at 2 (omega arith), at 3 (omega arith), at 4 (omega arith))
 
 -- ---- the record
 
-pub ok-fits : (r : Record) → recordOk r ≡ true → Fit r
-unfolding recordOk endsOk
-ok-fits r h =
-    let e = r .ends in
-    let k = e .controller in
-    let p = e .profile in
-    let all = every-at (ringOk wireSlots (r .down)) (ringOk wireSlots (r .up) ∷ endsOk e ∷ []) h in
-    let at =
-    every-at (leb leastSize (e .host .size))
-    (leb (e .hearing .run .len) controlSize ∷ leb (e .asking .run .len) controlSize ∷ leb (k .pairs .count) pairsRoom ∷ givenOk (k .given) ∷ profileOk p ∷ handOk (e .endpoint) ∷ connsOk (e .conns) ∷ [])
-    (all 2)
-    in
-    record {
-      down = ring-fits wireSlots (r .down) (all 0);
-      up = ring-fits wireSlots (r .up) (all 1);
-      own =
-          record {
-            profile = profile-within p (at 5);
-            size = leb-true leastSize (e .host .size) (at 0);
-            hearing = leb-true (e .hearing .run .len) controlSize (at 1);
-            controller = record { pairs = leb-true (k .pairs .count) pairsRoom (at 3); given = given-fits (k .given) (at 4) };
-            asking = leb-true (e .asking .run .len) controlSize (at 2);
-            endpoint = hand-fits (e .endpoint) (at 6);
-          };
-      conns = conns-fit (e .conns) (at 7);
-    }
+-- the tests of both ends, after that on the host's size
+abbrev ownTests : Ends → List Bool
+ownTests e =
+    leb (e .hearing .run .len) controlSize ∷ leb (e .asking .run .len) controlSize ∷ leb (e .controller .pairs .count) pairsRoom
+    ∷ givenOk (e .controller .given) ∷ profileOk (e .profile) ∷ handOk (e .endpoint) ∷ connsOk (e .conns) ∷ []
 
-pub fits-judged : (r : Record) → Fit r → recordOk r ≡ true
+module _ (r : Record) (ok : recordOk r ≡ true) where
+  wire-tests : (i : ℕ) → getD (ringOk wireSlots (r .down) ∷ ringOk wireSlots (r .up) ∷ endsOk (r .ends) ∷ []) i true ≡ true
+  unfolding recordOk
+  wire-tests = every-at (ringOk wireSlots (r .down)) (ringOk wireSlots (r .up) ∷ endsOk (r .ends) ∷ []) ok
+
+  own-tests : (i : ℕ) → getD (leb leastSize (r .ends .host .size) ∷ ownTests (r .ends)) i true ≡ true
+  unfolding endsOk
+  own-tests = every-at (leb leastSize (r .ends .host .size)) (ownTests (r .ends)) (wire-tests 2)
+
+  pub ok-fits : Fit r
+  ok-fits =
+      let e = r .ends in
+      let k = e .controller in
+      record {
+        down = ring-fits wireSlots (r .down) (wire-tests 0);
+        up = ring-fits wireSlots (r .up) (wire-tests 1);
+        own =
+            record {
+              profile = profile-within (e .profile) (own-tests 5);
+              size = leb-true leastSize (e .host .size) (own-tests 0);
+              hearing = leb-true (e .hearing .run .len) controlSize (own-tests 1);
+              controller = record { pairs = leb-true (k .pairs .count) pairsRoom (own-tests 3); given = given-fits (k .given) (own-tests 4) };
+              asking = leb-true (e .asking .run .len) controlSize (own-tests 2);
+              endpoint = hand-fits (e .endpoint) (own-tests 6);
+            };
+        conns = λ p i. counts-fit (getD (e .conns) p closedCounts) (conns-each (e .conns) (own-tests 7) p i);
+      }
+
+  pub ok-granted : Granted r
+  ok-granted p i = counts-granted (getD (r .ends .conns) p closedCounts) (conns-each (r .ends .conns) (own-tests 7) p i)
+
+pub fits-judged : (r : Record) → Fit r → Granted r → recordOk r ≡ true
 unfolding recordOk endsOk
-fits-judged r f =
+fits-judged r f g =
     let e = r .ends in
     let k = e .controller in
     rw (
@@ -172,9 +202,15 @@ fits-judged r f =
       fits-given (k .given) (f .own .controller .given),
       within-profile (e .profile) (f .own .profile),
       fits-hand (e .endpoint) (f .own .endpoint),
-      fits-conns (e .conns) (f .conns),
+      fits-conns (e .conns) (f .conns) g,
     )
 
-pub judged-fits : (area : Octets) → judgeOf area ≡ true → areaSize ≤ length area → Fit (decodeOf area)
+judged-ok : (area : Octets) → judgeOf area ≡ true → recordOk (decodeOf area) ≡ true
 unfolding judgeOf
-judged-fits area h long = ok-fits (decodeOf area) (every-at (tagsOk (slot area)) (recordOk (decodeOf area) ∷ []) h 1)
+judged-ok area h = every-at (tagsOk (slot area)) (recordOk (decodeOf area) ∷ []) h 1
+
+pub judged-fits : (area : Octets) → judgeOf area ≡ true → areaSize ≤ length area → Fit (decodeOf area)
+judged-fits area h long = ok-fits (decodeOf area) (judged-ok area h)
+
+pub judged-granted : (area : Octets) → judgeOf area ≡ true → Granted (decodeOf area)
+judged-granted area h = ok-granted (decodeOf area) (judged-ok area h)

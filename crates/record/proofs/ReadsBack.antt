@@ -282,18 +282,18 @@ slot-stored area r long =
     let same : take recordEnd (drop recordAt (stored area r)) ≡ encodeOf r = rw l at (cut-same area recordAt (encodeOf r) fits) in
     take-add recordEnd (recordRoom - recordEnd) (drop recordAt (stored area r)) ∙ ap (λ (k : Octets). k ++ rest area r) same
 
-module _ (area : Octets) (r : Record) (long : areaSize ≤ length area) (s : Shape r) (ok : recordOk r ≡ true) where
+module _ (area : Octets) (r : Record) (long : areaSize ≤ length area) (s : Shape r) where
   in-slot : slot (stored area r) ≡ written r (four (pendingOctets (r .ends .host .pending))) (four (rfOctets (r .ends .controller .rf))) ++ rest area r
   in-slot = slot-stored area r long ∙ ap (λ (k : Octets). k ++ rest area r) (encoded r)
 
-  pub reads-back : decodeOf (stored area r) ≡ r
+  pub reads-back : Fit r → decodeOf (stored area r) ≡ r
   unfolding decodeOf
-  reads-back = ap recordOf in-slot ∙ parts r (pendingOctets (r .ends .host .pending)) (rfOctets (r .ends .controller .rf)) (rest area r) ∙ again-back r s (ok-fits r ok)
+  reads-back f = ap recordOf in-slot ∙ parts r (pendingOctets (r .ends .host .pending)) (rfOctets (r .ends .controller .rf)) (rest area r) ∙ again-back r s f
 
-  pub judged-back : judgeOf (stored area r) ≡ true
+  pub judged-back : recordOk r ≡ true → judgeOf (stored area r) ≡ true
   unfolding judgeOf
-  judged-back =
+  judged-back ok =
       let p = r .ends .host .pending in
       let x = r .ends .controller .rf in
       let known = ap tagsOk in-slot ∙ tags r (pendingOctets p) (rfOctets x) (rest area r) (pending-known p) (rf-known x) in
-      rw (known, reads-back) ok
+      rw (known, reads-back (ok-fits r ok)) ok

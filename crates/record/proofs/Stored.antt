@@ -1,4 +1,4 @@
--- What every call has of the record that it writes last: it is what the next call loads, judged good, from an area as long.
+-- What every call has of the record that it writes last: it is what the next call loads, judged good where credits are within the grant, from an area as long.
 -- Assumes nothing.
 use Prim.Native.Nat.{_≤_}
 use native.Mathlib.Omega.{arith}
@@ -14,7 +14,7 @@ use Rattle.area.specs.Map.{areaSize, recordAt}
 use Rattle.record.specs.Reading.{decodeOf}
 use Rattle.record.specs.Writing.{encodeOf}
 use Rattle.record.specs.Judge.{judgeOf}
-use Rattle.record.specs.Fit.{Shape, Fit}
+use Rattle.record.specs.Fit.{Shape, Fit, Granted}
 use Rattle.record.specs.Small.{Small}
 use Rattle.record.specs.Claims.{stored}
 use Rattle.record.proofs.Fits.{fits-judged}
@@ -27,10 +27,10 @@ module _ (area : Octets) (r : Record) (long : areaSize ≤ length area) where
 
   module _ (fit : Fit r) (shape : Shape r) where
     pub stored-record : decodeOf (stored area r) ≡ r
-    stored-record = reads-back area r long shape (fits-judged r fit)
+    stored-record = reads-back area r long shape fit
 
-    pub stored-judged : judgeOf (stored area r) ≡ true
-    stored-judged = judged-back area r long shape (fits-judged r fit)
+    pub stored-judged : Granted r → judgeOf (stored area r) ≡ true
+    stored-judged g = judged-back area r long shape (fits-judged r fit g)
 
 pub stored-octal : (area : Octets) (r : Record) → Octal area → Small r → Octal (stored area r)
 stored-octal area r o s = octal-splice recordAt o (octal-encode r s)

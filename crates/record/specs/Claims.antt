@@ -11,7 +11,7 @@ use Rattle.area.specs.Map.{areaSize, recordAt, recordRoom}
 use Rattle.record.specs.Reading.{decodeOf}
 use Rattle.record.specs.Writing.{encodeOf}
 use Rattle.record.specs.Judge.{recordOk, judgeOf}
-use Rattle.record.specs.Fit.{Shape, Fit}
+use Rattle.record.specs.Fit.{Shape, Fit, Granted}
 use Rattle.record.specs.Load.{blank, loaded, loadOf}
 
 -- the area after a record is written into it
@@ -23,12 +23,13 @@ stored area r = splice area recordAt (encodeOf r)
 pub record Claims : Type 0 where
   -- octet k of the record is octet 36,352 + k of the area
   pub slot-octet : (area : Octets) (k : ℕ) → k < recordRoom → getD (slot area) k 0 ≡ getD area (recordAt + k) 0
-  -- what was written is read back, and judged good, for every record whose numbers are within row 1
-  pub reads-back : (area : Octets) (r : Record) → areaSize ≤ length area → Shape r → recordOk r ≡ true → decodeOf (stored area r) ≡ r
+  -- what was written is read back, whatever its credits, and judged good, for every record whose numbers are within row 1
+  pub reads-back : (area : Octets) (r : Record) → areaSize ≤ length area → Shape r → Fit r → decodeOf (stored area r) ≡ r
   pub judged-back : (area : Octets) (r : Record) → areaSize ≤ length area → Shape r → recordOk r ≡ true → judgeOf (stored area r) ≡ true
   -- a record that is judged good has all its bounds, and one that has them has numbers within row 1
   pub judged-fits : (area : Octets) → judgeOf area ≡ true → areaSize ≤ length area → Fit (decodeOf area)
-  pub fits-judged : (r : Record) → Fit r → recordOk r ≡ true
+  pub judged-granted : (area : Octets) → judgeOf area ≡ true → Granted (decodeOf area)
+  pub fits-judged : (r : Record) → Fit r → Granted r → recordOk r ≡ true
   pub decoded-shape : (area : Octets) → Shape (decodeOf area)
   -- octets outside the record's 160 are untouched by writing it, and the area's length is kept
   pub outside-before : (area : Octets) (r : Record) (i n : ℕ) → i + n ≤ recordAt → cut i n (stored area r) ≡ cut i n area

@@ -1,4 +1,5 @@
--- The bounds of a record that can be: row 1 of document 01, "Numbers for a call not taken", as facts about numbers.
+-- The bounds of a record that can be: row 1 of document 01, "Numbers for a call not taken", as facts about numbers. Row 1 is both: `Fit`, which every call
+-- needs and keeps, and `Granted`, which no call needs and credits past the grant do not keep.
 -- Assumes nothing.
 use Prim.Native.Nat.{ℕ, _≤_, _<_}
 use mathlib.Core.Path.{_≡_}
@@ -30,11 +31,9 @@ pub record FitHand (h : Hand) : Type 0 where
 
 -- a connection
 pub record FitCounts (c : Counts) : Type 0 where
-  pub held : c .host .held ≤ c .host .grant
   pub payload : c .host .opened ≡ true → 1 ≤ c .host .payload
   pub hand : FitHand (c .host .hand)
   pub host-run : c .host .run .len ≤ messageSize
-  pub owed : c .controller .owed ≤ c .controller .grant
   pub store : FitRing storeSlots (c .controller .store)
   pub controller-run : c .controller .run .len ≤ messageSize
 
@@ -64,3 +63,12 @@ pub record Fit (r : Record) : Type 0 where
   pub up : FitRing wireSlots (r .up)
   pub own : FitEnds (r .ends)
   pub conns : Each FitCounts (r .ends .conns)
+
+-- ---- credits within the grant
+
+pub record GrantedCounts (c : Counts) : Type 0 where
+  pub held : c .host .held ≤ c .host .grant
+  pub owed : c .controller .owed ≤ c .controller .grant
+
+abbrev pub Granted : Record → Type 0
+Granted r = Each GrantedCounts (r .ends .conns)

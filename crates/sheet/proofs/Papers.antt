@@ -17,7 +17,6 @@ use Rattle.wires.specs.Tally.{dataCount, creditsUp}
 use Rattle.model.specs.State.{cold}
 use Rattle.model.specs.Refusals.{first}
 use Rattle.model.specs.calls.Credit.{allZero}
-use Rattle.model.specs.calls.Up.{anyOf}
 use Rattle.model.specs.Bench.{step}
 use Rattle.ascii.specs.Digits.{digitOf, valueOf, hexOf, allDigits, isHex, octetsIn, decimalOf}
 use Rattle.ascii.specs.Words.{sameAs, startsWith, upTo}
@@ -33,7 +32,7 @@ unfolding threeLines threeAnswers modelled asks argsOf formed among joined digit
 three-lines = refl
 
 first-paper : modelled firstPaper (cold (profileIn firstProfile)) ≡ firstAnswers
-unfolding firstPaper firstAnswers modelled asks argsOf formed among joined digitOf valueOf hexOf allDigits isHex octetsIn decimalOf sameAs startsWith upTo bit cut octet0 octet1 packetOf oidOf carriedOf spareOf headerOf readOf carrying segmentsWithin segments placeOf connOf termsOf carriable commandOf shortest allowed resetBy after seek nextId createBy judgeOf controllerAfter entriesFrom entryCount responseOf noticeMessage noticeOf zeros initWritten createWritten entriesOk creditsWritten written answerOf heardAlone hearOf creditsIn namesClosed hostAfter dropHeard meaning dataCount creditsUp first allZero anyOf step
+unfolding firstPaper firstAnswers modelled asks argsOf formed among joined digitOf valueOf hexOf allDigits isHex octetsIn decimalOf sameAs startsWith upTo bit cut octet0 octet1 packetOf oidOf carriedOf spareOf headerOf readOf carrying segmentsWithin segments placeOf connOf termsOf carriable commandOf shortest allowed resetBy after seek nextId createBy judgeOf controllerAfter entriesFrom entryCount responseOf noticeMessage noticeOf zeros initWritten createWritten entriesOk creditsWritten written answerOf heardAlone hearOf creditsIn namesClosed hostAfter dropHeard meaning dataCount creditsUp first allZero step
 first-paper = refl
 
 pub first-papers : FirstPapers

@@ -1,7 +1,7 @@
 -- What is printed for a paper is what the model shows: `Papers` of `specs/Paper.antt`.
 -- Assumes nothing.
 use Prim.Native.Nat.{ℕ, _≤_}
-use mathlib.Core.Path.{_≡_, refl, sym, ap, _∙_}
+use mathlib.Core.Path.{_≡_, refl, sym, ap, _∙_, subst}
 use mathlib.Core.Bool.{Bool, true, not}
 use mathlib.Core.List.{List, [], _∷_, _++_}
 use native.Mathlib.Omega.{arith}
@@ -21,7 +21,13 @@ use Rattle.model.specs.State.{State, cold}
 use Rattle.model.specs.Refusals.{first}
 use Rattle.model.specs.Effects.{Call, taken, refused, fresh, power, command, send, push, down, consume, credit, air, reply, up, report}
 use Rattle.model.specs.Bench.{step, rules}
-use Rattle.model.specs.Observer.{eventOf}
+use Rattle.model.specs.Observer.{Account, opening, observe, eventOf}
+use Rattle.model.specs.Grants.{WithinGrants}
+use Rattle.model.specs.invariant.Bench as bench
+use Rattle.model.proofs.Fine.{kept, cold-fine}
+use Rattle.model.proofs.Messages.{profile-limits}
+use Rattle.model.proofs.Trace.{step-keeps}
+use Rattle.model.proofs.Never.{kept-within}
 use Rattle.calls.specs.Kinds.{Record, Reading}
 use Rattle.calls.specs.Kinds.reading.{Packet, Drop}
 use Rattle.calls.specs.Outcome.{Outcome, called}
@@ -60,17 +66,17 @@ use Rattle.forms.specs.Form.{argsOf, asks}
 use Rattle.sheet.specs.Play.{played}
 use Rattle.sheet.specs.Show.{pktLabel, zeroBuffer, joined, eventField, answerField, dropField, messageField, lineOf}
 use Rattle.sheet.specs.Sheet.{Answer, refusedLine, shown, answerTo}
-use Rattle.sheet.specs.Paper.{printed, callsOf, eventLine, lineBy, nextBy, modelled, firstProfile, Papers}
+use Rattle.sheet.specs.Paper.{printed, callsOf, eventLine, lineBy, nextBy, modelled, firstProfile, AllWithin, Papers}
 use Rattle.forms.proofs.Forming.{args-octal}
 use Rattle.sheet.proofs.Fitting.{called-by, decided-by}
 
 -- ---- a call's line is the line of what is seen of it
 
-seen-line : (x : Name) (c : Call) (p : Puts) (a : Octets) (o : Outcome) → Refines c p a o → lineOf x o ≡ eventLine x (eventOf c (step c (viewOf a)))
+seen-line : (x : Name) (c : Call) (p : Puts) (a : Octets) (o : Outcome) → Refines c p a o → WithinGrants (step c (viewOf a) .effect .next) → lineOf x o ≡ eventLine x (eventOf c (step c (viewOf a)))
 unfolding handedBy
-seen-line x c p a o r =
+seen-line x c p a o r w =
     let room : (i : ℕ) → messageSize ≤ length (zeroBuffer i) = λ i. omega (arith, length-replicate {A = ℕ} messageSize 0) in
-    let put = refined-shown zeroBuffer c p a o r room in
+    let put = refined-shown zeroBuffer c p a o r w room in
     (λ i.
     eventField x ++ answerField (o .word) ++ dropField (o .word) ++ (pktLabel ++ hexOf (joined (put .0 i) ++ joined (put .1 i))) ++ messageField o)
     ∙ ap (eventLine x) (r .event)
@@ -130,53 +136,74 @@ record Turn (x : Name) (cs : List Call) (s : State) (z : Answer) : Type 0 where
   pub puts : Puts
   pub along : Along puts (z .area)
 
-by-call : (x : Name) (c : Call) (p : Puts) (a out : Octets) (o : Outcome) → Refines c p a o → Kept out o → messageSize ≤ length out
+by-call : (x : Name) (c : Call) (p : Puts) (a out : Octets) (o : Outcome) → Refines c p a o → WithinGrants (step c (viewOf a) .effect .next) → Kept out o → messageSize ≤ length out
     → Turn x (c ∷ []) (viewOf a) (shown x o)
-by-call x c p a out o r k room =
+by-call x c p a out o r w k room =
     record {
-      line = seen-line x c p a o r;
-      good = r .good;
+      line = seen-line x c p a o r w;
+      good = r .good w;
       next = r .next;
       room = omega (arith, k, room);
       puts = putsAfter c p (o .word);
       along = r .along;
     }
 
-turn : (x : Name) (m : Octets) (p : Puts) (a out : Octets) → Octal m → Good a → messageSize ≤ length out → Along p a
+turn : (x : Name) (m : Octets) (p : Puts) (a out : Octets) → Octal m → Good a → messageSize ≤ length out → Along p a → WithinGrants (nextBy (callsOf x m) (viewOf a))
     → Turn x (callsOf x m) (viewOf a) (pick (isBad x) (refusedLine a out) (shown x (played x m a out)))
-turn Fresh m p a out o g r al = by-call Fresh (fresh m) p a out _ (fresh-refines m p a out g r al) (play-kept Fresh m a out) r
-turn Power m p a out o g r al = by-call Power power p a out _ (power-refines a out g p r al) (play-kept Power m a out) r
-turn Command m p a out o g r al =
-    by-call Command (command (getD m 0 0) (getD m 1 0) (drop 2 m)) p a out _ (command-refines (getD m 0 0) (getD m 1 0) (drop 2 m) p a out (octal-drop 2 o) g r al) (play-kept Command m a out) r
-turn Send m p a out o g r al =
-    by-call Send (send (getD m 0 0) (drop 1 m)) p a out _ (send-refines (getD m 0 0) (drop 1 m) p a out (octal-drop 1 o) g r al) (play-kept Send m a out) r
-turn Push m p a out o g r al = by-call Push (push (getD m 0 0)) p a out _ (push-refines (getD m 0 0) p a out g r al) (play-kept Push m a out) r
-turn Down m p a out o g r al = by-call Down down p a out _ (down-refines p a out g r al) (play-kept Down m a out) r
-turn Consume m p a out o g r al =
-    by-call Consume (consume (getD m 0 0)) p a out _ (consume-refines (getD m 0 0) p a out g r al) (play-kept Consume m a out) r
-turn Credit m p a out o g r al = by-call Credit credit p a out _ (credit-refines p a out g r al) (play-kept Credit m a out) r
-turn Air m p a out o g r al = by-call Air (air m) p a out _ (air-refines m p a out o g r al) (play-kept Air m a out) r
-turn Reply m p a out o g r al = by-call Reply reply p a out _ (reply-refines p a out g r al) (play-kept Reply m a out) r
-turn Up m p a out o g r al = by-call Up up p a out _ (up-refines p a out g r al) (play-kept Up m a out) r
-turn Report m p a out o g r al = by-call Report (report (getD m 0 0)) p a out _ (report-refines (getD m 0 0) p a out g r al) (play-kept Report m a out) r
-turn Bad m p a out o g r al = record { line = refl; good = g; next = refl; room = r; puts = p; along = al }
+turn Fresh m p a out o g r al w = by-call Fresh (fresh m) p a out _ (fresh-refines m p a out g r al) w (play-kept Fresh m a out) r
+turn Power m p a out o g r al w = by-call Power power p a out _ (power-refines a out g p r al) w (play-kept Power m a out) r
+turn Command m p a out o g r al w =
+    by-call Command (command (getD m 0 0) (getD m 1 0) (drop 2 m)) p a out _ (command-refines (getD m 0 0) (getD m 1 0) (drop 2 m) p a out (octal-drop 2 o) g r al) w (play-kept Command m a out) r
+turn Send m p a out o g r al w =
+    by-call Send (send (getD m 0 0) (drop 1 m)) p a out _ (send-refines (getD m 0 0) (drop 1 m) p a out (octal-drop 1 o) g r al) w (play-kept Send m a out) r
+turn Push m p a out o g r al w = by-call Push (push (getD m 0 0)) p a out _ (push-refines (getD m 0 0) p a out g r al) w (play-kept Push m a out) r
+turn Down m p a out o g r al w = by-call Down down p a out _ (down-refines p a out g r al) w (play-kept Down m a out) r
+turn Consume m p a out o g r al w =
+    by-call Consume (consume (getD m 0 0)) p a out _ (consume-refines (getD m 0 0) p a out g r al) w (play-kept Consume m a out) r
+turn Credit m p a out o g r al w = by-call Credit credit p a out _ (credit-refines p a out g r al) w (play-kept Credit m a out) r
+turn Air m p a out o g r al w = by-call Air (air m) p a out _ (air-refines m p a out o g r al) w (play-kept Air m a out) r
+turn Reply m p a out o g r al w = by-call Reply reply p a out _ (reply-refines p a out g r al) w (play-kept Reply m a out) r
+turn Up m p a out o g r al w = by-call Up up p a out _ (up-refines p a out g r al) w (play-kept Up m a out) r
+turn Report m p a out o g r al w = by-call Report (report (getD m 0 0)) p a out _ (report-refines (getD m 0 0) p a out g r al) w (play-kept Report m a out) r
+turn Bad m p a out o g r al w = record { line = refl; good = g; next = refl; room = r; puts = p; along = al }
 
 -- ---- all of them
 
-same-lines : (ls : List Octets) (p : Puts) (a out : Octets) → Good a → messageSize ≤ length out → Along p a → printed ls a out ≡ modelled ls (viewOf a)
+same-lines : (ls : List Octets) (p : Puts) (a out : Octets) → Good a → messageSize ≤ length out → Along p a → AllWithin ls (viewOf a) → printed ls a out ≡ modelled ls (viewOf a)
 unfolding printed modelled answerTo
-same-lines [] p a out g r al = refl
-same-lines (l ∷ ls) p a out g r al =
+same-lines [] p a out g r al w = refl
+same-lines (l ∷ ls) p a out g r al w =
     let x = asks l in
     let m = argsOf l in
     let z = answerTo l a out in
-    let t = turn x m p a out (args-octal l) g r al in
+    let t = turn x m p a out (args-octal l) g r al (w .0) in
     (λ i. t .line i ∷ printed ls (z .area) (z .out))
     ∙ ap (λ (ws : List Octets). lineBy x (callsOf x m) (viewOf a) ∷ ws)
-    (same-lines ls (t .puts) (z .area) (z .out) (t .good) (t .room) (t .along) ∙ ap (modelled ls) (t .next))
+    (same-lines ls (t .puts) (z .area) (z .out) (t .good) (t .room) (t .along) (subst (AllWithin ls) (sym (t .next)) (w .1)) ∙ ap (modelled ls) (t .next))
+
+-- ---- on a bench of the model's invariant no line brings credits past a grant
+
+-- the account of a line's call, if it asks one
+abbrev accountBy : List Call → State → Account → Account
+accountBy [] s o = o
+accountBy (c ∷ cs) s o = observe (eventOf c (step c s)) o
+
+line-keeps : (cs : List Call) (s : State) (o : Account) → bench.Kept s o → bench.Kept (nextBy cs s) (accountBy cs s o)
+line-keeps [] s o k = k
+line-keeps (c ∷ cs) s o k = step-keeps c s o k
+
+all-within : (ls : List Octets) (s : State) (o : Account) → bench.Kept s o → AllWithin ls s
+all-within [] s o k = tt
+all-within (l ∷ ls) s o k =
+    let cs = callsOf (asks l) (argsOf l) in
+    let next = line-keeps cs s o k in
+    (kept-within (nextBy cs s) (accountBy cs s o) next, all-within ls (nextBy cs s) (accountBy cs s o) next)
 
 first-ok : profileOctetsOk firstProfile ≡ true
 first-ok = refl
+
+first-kept : bench.Kept (cold (profileIn firstProfile)) opening
+first-kept = kept (cold-fine (profileIn firstProfile) (profile-limits firstProfile first-ok))
 
 fresh-lines : (ls : List Octets) (a out : Octets) → Octal a → areaSize ≤ length a → messageSize ≤ length out
     → printed ls (freshCall a out firstProfile .area) out ≡ modelled ls (cold (profileIn firstProfile))
@@ -185,6 +212,7 @@ fresh-lines ls a out o long room =
     let done = fresh-own a out firstProfile long room taken (ap (λ (b : Bool). pick (not b) (refused 3) taken) first-ok) in
     ap (λ (y : Outcome). printed ls (y .area) out) (sym done)
     ∙ same-lines ls noPuts (freshed firstProfile a out .area) out (fresh-good a firstProfile long o first-ok out) room (fresh-along a firstProfile long o first-ok out)
+    (subst (AllWithin ls) (sym (fresh-view a firstProfile long o first-ok out)) (all-within ls (cold (profileIn firstProfile)) opening first-kept))
     ∙ ap (modelled ls) (fresh-view a firstProfile long o first-ok out)
 
 pub papers : Papers

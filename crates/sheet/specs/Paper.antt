@@ -13,6 +13,7 @@ use Rattle.views.specs.View.{viewOf}
 use Rattle.model.specs.State.{State, cold}
 use Rattle.model.specs.Effects.{Call, fresh, power, command, send, push, down, consume, credit, air, reply, up, report}
 use Rattle.model.specs.Bench.{step}
+use Rattle.model.specs.Grants.{WithinGrants}
 use Rattle.model.specs.Observer.{Event, eventOf}
 use Rattle.calls.specs.Seen.{Puts}
 use Rattle.calls.specs.Refines.{Good, Along}
@@ -75,7 +76,14 @@ modelled (l ∷ ls) s = lineBy (asks l) (callsOf (asks l) (argsOf l)) s ∷ mode
 abbrev pub firstProfile : Octets
 firstProfile = 32 ∷ 4 ∷ 2 ∷ 4 ∷ 1 ∷ []
 
+-- no line brings credits past a grant: where one does, row 1 refuses the record from then on
+abbrev pub AllWithin : List Octets → State → Type 0
+AllWithin [] s = Unit {0}
+AllWithin (l ∷ ls) s = WithinGrants (nextBy (callsOf (asks l) (argsOf l)) s) × AllWithin ls (nextBy (callsOf (asks l) (argsOf l)) s)
+
 pub record Papers : Type 0 where
-  pub same : (ls : List Octets) (p : Puts) (a out : Octets) → Good a → messageSize ≤ length out → Along p a → printed ls a out ≡ modelled ls (viewOf a)
+  pub same : (ls : List Octets) (p : Puts) (a out : Octets) → Good a → messageSize ≤ length out → Along p a → AllWithin ls (viewOf a)
+      → printed ls a out ≡ modelled ls (viewOf a)
+  -- from a fresh bench no paper does
   pub fromFresh : (ls : List Octets) (a out : Octets) → Octal a → areaSize ≤ length a → messageSize ≤ length out
       → printed ls (freshCall a out firstProfile .area) out ≡ modelled ls (cold (profileIn firstProfile))

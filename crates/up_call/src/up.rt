@@ -4,7 +4,6 @@ use crate::word;
 use area::map;
 use area::movers;
 use area::ring;
-use dh::grants;
 use dh::host;
 use ends::message;
 use octets::choose;
@@ -17,112 +16,26 @@ use state::kinds::Record;
 use state::runs;
 ghost use mathlib.Core.Path.{_≡_};
 ghost use mathlib.Core.Bool.{true, false};
-ghost use mathlib.Core.List.{_++_};
 ghost use Prim.Native.Nat.{_+_, _≤_, _<_};
 ghost use lib.ListN.{length};
 ghost use Rattle.octets.specs.Octets.{pick, cut, splice};
-ghost use Rattle.packets.specs.Segments.{segment};
 ghost use Rattle.state.specs.Conn.{placeOf};
-ghost use Rattle.dh.specs.Host.{above as aboveGrant, anyAbove};
-ghost use Rattle.ends.specs.Steps.{heardIn, heeded};
+ghost use Rattle.ends.specs.Steps.{heeded};
 ghost use Rattle.area.specs.Map.{areaSize, payloadSize, messageSize, controlSize, places, hostRunAt, hearingAt};
 ghost use Rattle.record.specs.Claims.{stored};
-ghost use Rattle.views.specs.View.{upOf, view};
-ghost use Rattle.views.specs.Moves.{Sound};
-ghost use Rattle.model.specs.Runs.{wholeBy};
-ghost use Rattle.model.specs.calls.Up.{aboveIn, firstTooMany, upRules};
+ghost use Rattle.views.specs.View.{view};
+ghost use Rattle.model.specs.calls.Up.{upRules};
 ghost use Rattle.calls.specs.Word.{wordOf};
-ghost use Rattle.calls.specs.Outcome.{outcome, lowest};
-ghost use Rattle.calls.specs.calls.Push.{hostSide};
-ghost use Rattle.calls.specs.calls.Up.{upRead, upPayload, upRecord, receivedJoin, receivedEnds, receivedArea, receivedLength, receivedWord, received, receivedUp, heardArea, heardEnds, heardWord, comingUp, upped, Uppable};
+ghost use Rattle.calls.specs.Outcome.{outcome, Lowest};
+ghost use Rattle.calls.specs.calls.Up.{upRecord, receivedJoin, receivedEnds, receivedArea, receivedLength, receivedWord, received, receivedUp, heardArea, heardEnds, heardWord, comingUp, upped, Uppable};
 
 // ---- refusals
 
-// Whether a control message would bring a connection above its grant.
-fn passes(ends: Ends, h: Header, m: &[u8]) -> bool
-    ensures { λ x. ⌜ x ≡ anyAbove (ends .conns) (now (m .entry)) (heardIn ends (h .mt) (h .id) (h .oid) (now (m .entry))) ⌝ }
+// The number for which an up is not taken, 0 for none: the first of the model's rules, whatever the area's octets are.
+pub fn refusal(r: Record) -> u8
+    ensures { λ n. ⌜ Lowest (λ a. upRules (view a r)) n ⌝ }
 {
-    let conns = ends.conns;
-    let host = ends.host;
-    let pending = host.pending;
-    let x = host::hear(pending, h.mt, h.id, h.oid, m);
-    grants::any_above(conns, m, x)
-}
-
-// The octets of the control run, and those of the first packet after them, in a local array: the packet is not taken yet.
-fn together(area: &[u8], r: Record, base: usize, n: usize) -> [u8; map::CONTROL]
-    requires { ⌜ Sound (now area) r × (base + n ≤ controlSize) ⌝ }
-    ensures { λ m. ⌜ cut 0 (base + n) m ≡ cut hearingAt base (now (area .entry)) ++ upPayload r n (now (area .entry)) ⌝ }
-{
-    let up = r.up;
-    let slot = ring::first_at(map::UP_AT, up);
-    let mut m = [0u8; map::CONTROL];
-    octets::put(&mut m, 0, &area[map::HEARING_AT..map::HEARING_AT + base]);
-    octets::put(
-        &mut m,
-        base,
-        packets::payload(&area[slot..slot + map::SLOT], n),
-    );
-    m
-}
-
-// Whether the message that a control packet makes whole would bring a connection above its grant.
-fn above(area: &[u8], r: Record, h: Header, n: usize) -> bool
-    requires { ⌜ Sound (now area) r × (upRead r (now area) ≡ Reading.Packet h n) ⌝ }
-    ensures { λ x. ⌜ x ≡ aboveIn (view (now (area .entry)) r) (h .mt) (h .id) (h .oid) (wholeBy (view (now (area .entry)) r .hearing) (h .mt) (h .id) (h .oid) (segment (h .pbf) (upPayload r n (now (area .entry))))) ⌝ }
-{
-    let ends = r.ends;
-    let hearing = ends.hearing;
-    let j = runs::join_control(hearing, h, n);
-    let base = j.base;
-    if !j.done {
-        return false;
-    }
-    let m = together(area, r, base, n);
-    passes(ends, h, &m[0..base + n])
-}
-
-// Whether the credits of a data packet would bring its connection above its grant.
-fn carries_above(r: Record, h: Header) -> bool
-    ensures { λ x. ⌜ x ≡ aboveGrant (hostSide r (h .id)) (h .credits) ⌝ }
-{
-    let ends = r.ends;
-    let conns = ends.conns;
-    let k = conn::counts_of(conns, h.id);
-    let side = k.host;
-    grants::above(side, h.credits as usize)
-}
-
-// Whether the first packet would bring a connection above its grant.
-fn too_many(area: &[u8], r: Record) -> bool
-    requires { ⌜ Sound (now area) r × (0 < r .up .count) ⌝ }
-    ensures { λ x. ⌜ x ≡ firstTooMany (view (now (area .entry)) r) (upOf (now (area .entry)) r) ⌝ }
-{
-    let up = r.up;
-    let slot = ring::first_at(map::UP_AT, up);
-    let got = movers::read_slot(area, slot);
-    let Reading::Packet(h, n) = got else {
-        return false;
-    };
-    if h.mt == packets::DATA {
-        return carries_above(r, h);
-    }
-    if h.mt == packets::COMMAND {
-        return false;
-    }
-    above(area, r, h, n)
-}
-
-// The number for which an up is not taken, 0 for none: the first of the model's rules.
-pub fn refusal(area: &[u8], r: Record) -> u8
-    requires { ⌜ Sound (now area) r ⌝ }
-    ensures { λ n. ⌜ n ≡ lowest (upRules (view (now (area .entry)) r)) ⌝ }
-{
-    if r.up.count == 0 {
-        return 8;
-    }
-    let many = too_many(area, r);
-    choose(many, 13, 0)
+    choose(r.up.count == 0, 8, 0)
 }
 
 // ---- the record after it

@@ -8,6 +8,7 @@ pub mod Controls
 pub mod Commands
 pub mod Whole
 pub mod Stored
+pub mod Credits
 pub mod Tests
 pub mod Changed
 pub mod Answers

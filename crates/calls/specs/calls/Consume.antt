@@ -119,4 +119,3 @@ pub record Consumable (r : Record) (c : ℕ) : Type 0 where
   pub some : 0 < controllerSide r c .store .count
   pub store : FitRing storeSlots (controllerSide r c .store)
   pub run : controllerSide r c .run .len ≤ messageSize
-  pub room : flows (controllerSide r c .grant) ≡ true → controllerSide r c .owed < controllerSide r c .grant

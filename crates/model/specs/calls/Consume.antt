@@ -4,12 +4,11 @@
 use Prim.Native.Nat.{ℕ}
 use mathlib.Core.Bool.{Bool, true, not, _&&_}
 use mathlib.Core.List.{List, [], _∷_}
-use lib.Dec.{eqb, leb}
+use lib.Dec.{eqb}
 use Rattle.octets.specs.Octets.{Octets, pick}
 use Rattle.packets.specs.Packet.{carrying}
 use Rattle.packets.specs.Segments.{Segment}
 use Rattle.packets.specs.Reassembly.{Run, grown, finished, flagged}
-use Rattle.state.specs.Conn.{flows}
 use Rattle.state.specs.Runs.{dataLimit}
 use Rattle.model.specs.Connection.{ControllerEnd, withController, consumed, carriedOn, paid}
 use Rattle.wires.specs.Meaning.{Meaning, datum, control, junk, meaning}
@@ -76,5 +75,4 @@ consumeRules c s =
     ∷ rule 4 (isLoop c && full 1 (s .up))
     ∷ rule 6 (not (isOpen s c))
     ∷ rule 8 (isNil (s .conns c .controller .store))
-    ∷ rule 13 (flows (s .conns c .controller .grant) && leb (s .conns c .controller .grant) (s .conns c .controller .owed))
     ∷ []

@@ -1,25 +1,23 @@
 -- up: the host takes the first up packet, hands out a finished data message and hears a control message when it is whole.
 -- Assumes nothing.
-use Prim.Native.Nat.{ℕ, _+_}
-use mathlib.Core.Bool.{Bool, true, false, not, _&&_, _||_}
+use Prim.Native.Nat.{ℕ}
+use mathlib.Core.Bool.{Bool, true}
 use mathlib.Core.List.{List, [], _∷_}
-use lib.Dec.{eqb, ltb}
-use lib.ListN.{drop}
+use lib.Dec.{eqb}
 use Rattle.octets.specs.Octets.{Octets, pick}
 use Rattle.packets.specs.Types.{mtCommand}
 use Rattle.packets.specs.Segments.{Segment}
 use Rattle.packets.specs.Reassembly.{finished, flagged}
 use Rattle.model.specs.Kinds.{Heard}
-use Rattle.state.specs.Conn.{flows}
 use Rattle.state.specs.Runs.{dataLimit}
 use Rattle.dh.specs.Host.{hearOf, hostAfter, dropHeard}
 use Rattle.model.specs.Connection.{withHost, heardData, credited}
 use Rattle.wires.specs.Meaning.{Meaning, datum, control, junk, meaning}
 use Rattle.model.specs.State.{State, at, withConns, withUp, withHostState, withHearing}
 use Rattle.model.specs.Effects.{Effect, quiet, flaggedAs}
-use Rattle.model.specs.Refusals.{Rule, rule, isNil, ids, isHeld}
+use Rattle.model.specs.Refusals.{Rule, rule, isNil, isHeld}
 use Rattle.model.specs.Runs.{runAfter, wholeBy, flagBy}
-use Rattle.ends.specs.Changes.{changeHeard, creditsOf}
+use Rattle.ends.specs.Changes.{changeHeard}
 use Rattle.model.specs.Changes.{atHost}
 
 -- a finished data message is handed out, and the credits that the packet carries are held; data for a connection not open at the host
@@ -63,32 +61,7 @@ abbrev pub reading : List Octets → State → Effect
 reading [] s = quiet s
 reading (p ∷ w) s = coming (meaning p) (withUp w s)
 
--- n credits would bring a connection above its grant (refusal 13)
-abbrev pub passing : State → ℕ → ℕ → Bool
-passing s c n = isHeld s c && flows (s .conns c .host .grant) && ltb (s .conns c .host .grant) (s .conns c .host .held + n)
-
--- those of a notice
-abbrev pub above : State → Heard → Octets → ℕ → Bool
-above s h m c = passing s c (creditsOf (changeHeard h m c))
-
-unfoldable pub anyOf : (ℕ → Bool) → List ℕ → Bool
-anyOf f [] = false
-anyOf f (c ∷ cs) = f c || anyOf f cs
-
-abbrev pub aboveIn : State → ℕ → ℕ → ℕ → List Octets → Bool
-aboveIn s mt gid oid [] = false
-aboveIn s mt gid oid (m ∷ ms) = anyOf (above s (hearOf (s .host .pending) mt gid oid m) m) ids
-
-abbrev pub tooMany : State → Meaning → Bool
-tooMany s (datum c n x) = passing s c n
-tooMany s (control mt gid oid x) = not (eqb mt mtCommand) && aboveIn s mt gid oid (wholeBy (s .hearing) mt gid oid x)
-tooMany s junk = false
-
-abbrev pub firstTooMany : State → List Octets → Bool
-firstTooMany s [] = false
-firstTooMany s (p ∷ w) = tooMany s (meaning p)
-
 -- ---- refusals
 
 abbrev pub upRules : State → List Rule
-upRules s = rule 8 (isNil (s .up)) ∷ rule 13 (firstTooMany s (s .up)) ∷ []
+upRules s = rule 8 (isNil (s .up)) ∷ []

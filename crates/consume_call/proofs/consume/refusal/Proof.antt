@@ -25,23 +25,19 @@ choose-requires-3 c κs = search needs
 choose-requires-4 : tie.Need-choose-requires-4
 choose-requires-4 c κs = search needs
 
-choose-requires-5 : tie.Need-choose-requires-5
-choose-requires-5 c κs = search needs
-
 returns : tie.Need-returns
 unfolding lowest
 returns c =
     λ a.
     rw (
-      c .choose5 .ensures,
-      c .before .choose4 .ensures,
-      c .before .before .choose3 .ensures,
-      c .before .before .before .before .choose2 .ensures,
-      c .before .before .before .before .before .before .choose .ensures,
-      c .before .before .before .before .before .before .before .before .before .place-of .ensures,
-      c .before .before .before .before .before .before .before .before .before .before .before .counts-of .ensures,
+      c .choose4 .ensures,
+      c .before .choose3 .ensures,
+      c .before .before .choose2 .ensures,
+      c .before .before .before .before .choose .ensures,
+      c .before .before .before .before .before .place-of .ensures,
+      c .before .before .before .before .before .before .before .counts-of .ensures,
     )
-    (sym (ap lowest (consume-tests a (c .before .before .before .before .before .before .before .before .before .before .before .before .before .before .args .r) (c .before .before .before .before .before .before .before .before .before .before .before .before .before .before .args .conn))))
+    (sym (ap lowest (consume-tests a (c .before .before .before .before .before .before .before .before .before .before .args .r) (c .before .before .before .before .before .before .before .before .before .before .args .conn))))
 
 pub refusal-spec : {M : Type 1} → statement M
 refusal-spec =
@@ -53,5 +49,4 @@ refusal-spec =
     choose-requires-2
     choose-requires-3
     choose-requires-4
-    choose-requires-5
     returns)
