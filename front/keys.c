@@ -419,10 +419,13 @@ static void bad_key(const char *why, const char *more) {
     printf("ev=bad ans=%u says=\"%s%s\"\n", NCI_OUTSIDE_LIMIT, why, more);
 }
 
+/* Whether the card has a number: there is no 13. */
+static bool on_card(int number) { return number >= 0 && number <= (int)NCI_SEND_CLOSING && number != 13; }
+
 static void answer_card(const struct key *key, struct text rest) {
     int number = read_number(next_word(&rest));
-    if (number < 0 || number > (int)NCI_SEND_CLOSING || next_word(&rest).length > 0)
-        bad_key("the card has numbers 0 to 15; ", key->help);
+    if (!on_card(number) || next_word(&rest).length > 0)
+        bad_key("the card has numbers 0 to 12, 14 and 15; ", key->help);
     else
         printf("ev=card ans=0 says=\"%d: %s\"\n", number, nci_card((unsigned)number));
 }

@@ -38,7 +38,11 @@
  *   2, if the buffer has fewer than 1,024 octets.
  *
  * Connections are named by their Conn ID: 0, the static RF connection, or 2 to 5,
- * the loopbacks that CORE_CONN_CREATE opens. */
+ * the loopbacks that CORE_CONN_CREATE opens.
+ *
+ * Credits held and credits owed are an octet each, and sums are modulo 256. Calls on a
+ * bench that nci_fresh made never bring them past the grant. On other octets a call may;
+ * if more is then held or owed than granted, the record is damaged. */
 #ifndef NCI_BENCH_H
 #define NCI_BENCH_H
 
@@ -66,7 +70,7 @@ extern "C" {
 #define NCI_OID_MAX 63u           /* greatest opcode identifier */
 #define NCI_NO_FLOW_CONTROL 255u  /* credits of a connection without flow control */
 
-/* ---- answers: 0, or why a call was not taken. nci_card says each in words. */
+/* ---- answers: 0, or why a call was not taken. nci_card says each in words. There is no 13. */
 
 #define NCI_TAKEN 0u
 #define NCI_RECORD_DAMAGED 1u
@@ -81,7 +85,6 @@ extern "C" {
 #define NCI_CLOSING 10u
 #define NCI_NOT_IN_THIS_STATE 11u
 #define NCI_STORE_FULL 12u
-#define NCI_PAST_GRANT 13u
 #define NCI_WIRES_NOT_EMPTY 14u
 #define NCI_SEND_CLOSING 15u
 
@@ -141,7 +144,6 @@ static inline const char *nci_card(unsigned answer) {
     case NCI_CLOSING: return "push while a RESET or a CONN_CLOSE is unanswered";
     case NCI_NOT_IN_THIS_STATE: return "the air event is not taken in this RF state";
     case NCI_STORE_FULL: return "the controller's store for this connection is full";
-    case NCI_PAST_GRANT: return "credits held or owed would pass the grant";
     case NCI_WIRES_NOT_EMPTY: return "an activation while a packet is on either wire";
     case NCI_SEND_CLOSING: return "send while a RESET or a CONN_CLOSE is unanswered";
     default: return "no answer of the bench";
@@ -190,8 +192,7 @@ uint64_t nci_push(uint8_t *area, size_t area_len, uint8_t *out, size_t out_len, 
 /* The host takes the first packet of the up wire, and the credits that a notice or a data
  * packet returns. Hands out a data message that it finishes. The drop flag is up if the
  * packet, or an entry of a credit notice, is dropped.
- * Refusals in order: 8, if the up wire is empty; 13, if credits held would pass the grant,
- * by a notice or by a data packet. */
+ * Refusals in order: 8, if the up wire is empty. */
 uint64_t nci_up(uint8_t *area, size_t area_len, uint8_t *out, size_t out_len);
 
 /* ---- the controller's keys */
@@ -209,8 +210,7 @@ uint64_t nci_down(uint8_t *area, size_t area_len, uint8_t *out, size_t out_len);
  * 5 the packet also goes on the up wire, unchanged but for the two low bits of its second
  * octet: it returns so many credits of those owed, at most 3, which are then owed no longer.
  * Refusals in order: 3, if the Conn ID is not 0 or 2 to 5; 4, for 2 to 5, if the up wire is
- * full; 6, if the connection is not open at the controller; 8, if nothing is stored; 13,
- * if credits owed would pass the grant, before any are returned. */
+ * full; 6, if the connection is not open at the controller; 8, if nothing is stored. */
 uint64_t nci_consume(uint8_t *area, size_t area_len, uint8_t *out, size_t out_len, uint8_t conn);
 
 /* One CORE_CONN_CREDITS_NTF with all that is owed goes on the up wire. Credits that a data

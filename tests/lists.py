@@ -19,7 +19,7 @@ STATEMENTS = ROOT / "crates" / "opinions" / "proofs" / "Lists.antt"
 WIDTH = 120
 
 # of each call: its single octets, whether octets of any number follow them, and the refusals that papers have to meet, in
-# their order. 1 and 2 are about areas, which the model does not have; 13 is met by no list from fresh.
+# their order. 1 and 2 are about areas, which the model does not have.
 CALLS = {
     "fresh": (0, True, [3]),
     "power": (0, False, []),

@@ -19,9 +19,9 @@ from pathlib import Path
 from programs import ROOT, Suite, built, output, second
 
 BAD = b"ev=bad ans=3"
-# every call is taken and meets each of its refusals; 13 is met by no list of calls from fresh. Close and reset responses
-# discard messages in hand.
-COVERED = re.compile(r"seed=\d+ .* bad=(\d+) .* discards=[1-9].* never=13 gaps=none")
+# every call is taken and meets each of its refusals, and credits come to the whole grant. Close and reset responses discard
+# messages in hand.
+COVERED = re.compile(r"seed=\d+ .* bad=(\d+) .* discards=[1-9].* never=none gaps=none")
 # the calls that bring credits back, each with the one packet that it put up
 RETURNS = re.compile(rb"^ev=(?:consume|reply|credit) ans=0 drop=[01] pkt=([0-9A-F]+) ", re.M)
 

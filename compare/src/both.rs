@@ -5,6 +5,7 @@ use exam_bench::bench::Bench;
 use exam_bench::call::{Call, Outcome};
 use exam_bench::connection::CONN_IDS;
 use exam_bench::player::Random;
+use exam_bench::trial::grants::{self, Source, Sum};
 use exam_bench::trial::Tally;
 
 use crate::lent::{Lent, Room, BUFFER, PAST};
@@ -33,11 +34,40 @@ pub struct Both {
     pub damaged: u64,
     pub short: u64,
     pub looks: u64,
-    /// Data that up refused for the credits in it, and packets that a loopback returned
-    /// with other credits than stood in them. Only damaged benches have any.
-    pub past_grant: u64,
+    /// What only damaged benches have: calls that brought credits past a grant, and
+    /// packets that a loopback returned with other credits than stood in them.
+    pub past_grant: PastGrant,
     pub replaced: u64,
     room: Room,
+}
+
+/// Taken calls that brought credits held or owed past a grant, by what added them.
+#[derive(Clone, Debug, Default)]
+pub struct PastGrant {
+    pub calls: [u64; Source::NAMES.len()],
+    /// Those of them whose sum also passed 255, and began at 0 again. By consume there are
+    /// none: a record that row 1 lets pass owes at most its grant, 254 with flow control.
+    pub wrapped: [u64; Source::NAMES.len()],
+    /// Those of them that left credits past a grant: the record is damaged then.
+    pub left: u64,
+}
+
+impl PastGrant {
+    fn count(&mut self, sums: &[Sum]) {
+        if let Some(sum) = sums.iter().find(|sum| sum.passes_grant()) {
+            self.calls[sum.source as usize] += 1;
+            self.wrapped[sum.source as usize] += u64::from(sums.iter().any(Sum::passes_octet));
+        }
+    }
+
+    /// Fields `key=value` for one line.
+    pub fn fields(&self) -> String {
+        let of = |name: &str, calls: &[u64]| {
+            let sources = Source::NAMES.iter().zip(calls);
+            sources.map(|(source, calls)| format!("{name}-{source}={calls} ")).collect::<String>()
+        };
+        of("past", &self.calls) + &of("wrapped", &self.wrapped) + &format!("leftpast={}", self.left)
+    }
 }
 
 impl Default for Both {
@@ -49,7 +79,7 @@ impl Default for Both {
             damaged: 0,
             short: 0,
             looks: 0,
-            past_grant: 0,
+            past_grant: PastGrant::default(),
             replaced: 0,
             room: Room::EXACT,
         }
@@ -102,7 +132,8 @@ impl Both {
     /// Makes a call on both.
     pub fn step(&mut self, call: &Call) -> Result<(), String> {
         let seen = self.lent.call(call, self.room).map_err(|fault| format!("{}: {fault}", call.name()))?;
-        let first = self.first_packet(call);
+        let stored = self.stored_packet(call);
+        let sums = self.second.as_ref().map_or(Vec::new(), |bench| grants::sums(bench, call));
         let Some(outcome) = self.expected(call) else {
             self.damaged += 1;
             return check(seen.word == RECORD_DAMAGED, || {
@@ -110,7 +141,11 @@ impl Both {
             });
         };
         self.tally.count(call, &outcome);
-        self.count_credits(call, first, &outcome);
+        if outcome.taken() {
+            self.tally.count_sums(&sums);
+            self.past_grant.count(&sums);
+        }
+        self.count_replaced(stored, &outcome);
         let due = word::of(&outcome);
         check(seen.word == due, || format!("{}: word {:#x} for {due:#x}", call.name(), seen.word))?;
         check(seen.message == outcome.message, || {
@@ -132,44 +167,55 @@ impl Both {
         self.second.as_mut().map(|bench| bench.play(call))
     }
 
-    /// The packet that up or consume is about to take.
-    fn first_packet(&self, call: &Call) -> Option<Vec<u8>> {
-        let second = self.second.as_ref()?;
-        match call {
-            Call::Up => second.up_wire.front().cloned(),
-            Call::Consume(conn) => second.controller.connection(*conn)?.store.front().cloned(),
-            _ => None,
-        }
-    }
-
-    fn count_credits(&mut self, call: &Call, first: Option<Vec<u8>>, outcome: &Outcome) {
-        let Some(first) = first else {
-            return;
+    /// The stored packet that consume is about to take.
+    fn stored_packet(&self, call: &Call) -> Option<Vec<u8>> {
+        let Call::Consume(conn) = call else {
+            return None;
         };
-        let (is_data, stood) = (first[0] < 0x20, first[1] % 4);
-        if matches!(call, Call::Up) {
-            self.past_grant += u64::from(is_data && outcome.answer == 13);
-        } else {
-            let others = |put: &Vec<u8>| stood != 0 && stood != put[1] % 4;
-            self.replaced += u64::from(outcome.up.first().is_some_and(others));
+        self.second.as_ref()?.controller.connection(*conn)?.store.front().cloned()
+    }
+
+    fn count_replaced(&mut self, stored: Option<Vec<u8>>, outcome: &Outcome) {
+        let replaced = |stored: &Vec<u8>, put: &Vec<u8>| stored[1] % 4 != 0 && stored[1] % 4 != put[1] % 4;
+        if let (Some(stored), Some(put)) = (stored, outcome.up.first()) {
+            self.replaced += u64::from(replaced(&stored, put));
         }
     }
 
-    /// The packets that the call put, the bench that it left and the five numbers of
+    /// The bench that the call left, the packets that it put and the five numbers of
     /// each connection. After a refusal the octets are as they were, and need no look.
     fn look(&mut self, outcome: &Outcome) -> Result<(), String> {
         if !outcome.taken() {
             return Ok(());
+        }
+        self.compare_benches()?;
+        if self.second.is_none() {
+            return self.look_refused();
         }
         for (wire, packets) in [(DOWN, &outcome.down), (UP, &outcome.up)] {
             for (back, packet) in packets.iter().rev().enumerate() {
                 self.packet(wire, back as u8, Some(packet))?;
             }
         }
-        self.compare_benches()?;
         for conn in CONN_IDS {
             self.report(conn)?;
         }
+        self.lent.unchanged()
+    }
+
+    /// A damaged record shows no packet and no numbers.
+    fn look_refused(&mut self) -> Result<(), String> {
+        let mut words = Vec::new();
+        for conn in CONN_IDS {
+            words.push(self.lent.look(&Call::Report(conn), self.room)?.word);
+        }
+        for wire in [DOWN, UP] {
+            words.push(self.lent.packet(wire, 0, self.room)?.word);
+        }
+        self.looks += words.len() as u64;
+        check(words.iter().all(|word| *word == RECORD_DAMAGED), || {
+            format!("looks at a damaged record: words {words:x?}")
+        })?;
         self.lent.unchanged()
     }
 
@@ -219,18 +265,23 @@ impl Both {
         })
     }
 
-    /// The octets say the second implementation's bench.
+    /// The octets say the second implementation's bench. One that has credits past a grant
+    /// is gone then: its record is damaged.
     fn compare_benches(&mut self) -> Result<(), String> {
-        let said = record::load(self.lent.octets());
-        match (&said, &self.second) {
-            (Some(said), Some(second)) => match record::difference(said, second) {
-                None => Ok(()),
-                Some(part) => Err(format!("{part}: {said:02X?} for {second:02X?}")),
-            },
-            (None, None) => Ok(()),
-            (None, Some(_)) => Err("the call left a damaged record".to_string()),
-            (Some(_), None) => Err("the call mended a damaged record".to_string()),
+        let Some(second) = &self.second else {
+            return Err("a damaged record took the call".to_string());
+        };
+        let said = record::read(self.lent.octets()).ok_or("the call left a damaged record")?;
+        if let Some(part) = record::difference(&said.bench, second) {
+            return Err(format!("{part}: {:02X?} for {second:02X?}", said.bench));
         }
+        let past_grant = record::past_grant(second);
+        check(said.past_grant == past_grant, || "the call left credits past a grant".to_string())?;
+        if past_grant {
+            self.second = None;
+            self.past_grant.left += 1;
+        }
+        Ok(())
     }
 }
 

@@ -7,7 +7,7 @@ use exam_bench::connection::CONN_IDS;
 use exam_bench::player::Random;
 
 use crate::lists::Lists;
-use crate::record::{AREA, RECORD, RECORD_AT, RECORD_ROOM, SLOT, STORE_SLOTS, WIRE_SLOTS};
+use crate::record::{AREA, RECORD, RECORD_AT, RECORD_ROOM, SLOT, STORES_AT, STORE_SLOTS, UP_AT, WIRE_SLOTS};
 
 /// Calls of a list before its bench is damaged, damaged copies of that bench, most
 /// changes to one copy, and most calls of the list that goes on.
@@ -118,7 +118,7 @@ impl Damage {
     fn change(&mut self, octets: &mut [u8]) {
         let random = &mut self.random;
         let record = RECORD_AT..RECORD_AT + RECORD;
-        match random.below(15) {
+        match random.below(16) {
             0 => octets[RECORD_AT + random.below(RECORD)] = random.octet(),
             1 => several(random, &mut octets[record], Random::octet),
             2..=4 => octets[RECORD_AT + random.below(RECORD)] = small(random),
@@ -126,6 +126,7 @@ impl Damage {
             6 => fill(random, &mut octets[RECORD_AT..]),
             7..=8 => forge(random, octets),
             12..=14 => reshape(random, &mut octets[record]),
+            15 => fill_grant(random, octets),
             9 => {
                 let place = random.below(SLOTS);
                 fill(random, slot(place, octets));
@@ -146,10 +147,15 @@ impl Damage {
         self.benches += 1;
         let passed = self.after.both.second.is_some();
         self.passed += u64::from(passed);
-        for call in calls(&mut self.random, passed && each_conn) {
+        let calls = calls(&mut self.random, passed && each_conn);
+        for call in &calls {
             self.after.both.put(octets);
             self.after.lines.clear();
-            self.after.step(&call)?;
+            self.after.step(call)?;
+            // the call left credits past a grant: none but fresh is taken next
+            if passed && self.after.both.second.is_none() {
+                self.after.step(&calls[self.random.below(calls.len())])?;
+            }
         }
         Ok(())
     }
@@ -239,6 +245,47 @@ fn most(place: usize) -> u8 {
         56..156 => CONN[(place - 56) % 20],
         _ => WIRES[place - 156],
     }
+}
+
+/// A connection holds and owes its whole grant, or nearly, and more is to come: credits first
+/// on the up wire, a packet in the store. Some grants are so near 255 that a sum passes it.
+fn fill_grant(random: &mut Random, octets: &mut [u8]) {
+    let place = random.below(CONN_IDS.len());
+    let grant = random.pick(&[0, 1, 2, 8, 200, 248, 251, 253, 254, 254]);
+    let count = u8::saturating_sub(grant, random.pick(&[0, 0, 0, 1, 3]));
+    let conn = &mut octets[RECORD_AT + 56 + 20 * place..][..20];
+    conn[1] = conn[1].max(1);
+    for side in [[0, 2, 3], [12, 13, 14]] {
+        let [open, granted, counted] = side;
+        (conn[open], conn[granted], conn[counted]) = (1, grant, count);
+    }
+    let stored = usize::from(conn[15]) % STORE_SLOTS;
+    conn[16] = conn[16].max(1);
+    let up = usize::from(octets[RECORD_AT + 158]) % WIRE_SLOTS;
+    octets[RECORD_AT + 159] = octets[RECORD_AT + 159].max(1);
+    let packets = [
+        (STORES_AT + (place * STORE_SLOTS + stored) * SLOT, vec![CONN_IDS[place], 0, 1, 0xAA]),
+        (UP_AT + up * SLOT, credits(random, place)),
+    ];
+    for (at, packet) in packets {
+        octets[at..at + packet.len()].copy_from_slice(&packet);
+    }
+}
+
+/// Data of a connection with credits in it, or a notice of credits to it and to others.
+fn credits(random: &mut Random, place: usize) -> Vec<u8> {
+    if random.chance(50) {
+        let first = CONN_IDS[place] | random.pick(&[0x00, 0x10]);
+        return vec![first, random.pick(&[1, 2, 3, 0xFF]), 1, 0xAA];
+    }
+    let mut entries = Vec::new();
+    for (other, conn) in CONN_IDS.into_iter().enumerate() {
+        if other == place || random.chance(30) {
+            entries.extend([conn, 1 + random.below(8) as u8]);
+        }
+    }
+    let octets = entries.len() as u8;
+    [vec![0x60, 0x06, octets + 1, octets / 2], entries].concat()
 }
 
 /// All octets changed.

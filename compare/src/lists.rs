@@ -33,7 +33,7 @@ impl Lists {
         }
     }
 
-    /// Plays one list of at most so many calls.
+    /// Plays one list of at most so many calls. None from fresh brings credits past a grant.
     pub fn play(&mut self, most: usize) -> Result<(), String> {
         let most = most.clamp(1, LIST_CALLS);
         let place = self.both.tally.lists;
@@ -46,6 +46,9 @@ impl Lists {
         self.both.begin(profile)?;
         for _ in 1..length {
             self.next_call()?;
+        }
+        if self.both.past_grant.calls.iter().any(|calls| *calls > 0) {
+            return Err("a list from fresh brought credits past a grant".to_string());
         }
         Ok(())
     }

@@ -36,10 +36,22 @@ const CONTROLLER_RUNS_AT: usize = HOST_RUNS_AT + 5 * MESSAGE;
 const ASKING_AT: usize = CONTROLLER_RUNS_AT + 5 * MESSAGE;
 const HEARING_AT: usize = ASKING_AT + CONTROL;
 
+/// What a record says.
+pub struct Said {
+    pub bench: Bench,
+    /// Whether a connection, open or not, has more credits held or owed than granted.
+    pub past_grant: bool,
+}
+
 /// The bench that the area says, or none where its record cannot be: refusal 1. The
 /// area has at least 36,864 octets.
 pub fn load(area: &[u8]) -> Option<Bench> {
-    let mut reader = Reader { area, at: RECORD_AT };
+    read(area).filter(|said| !said.past_grant).map(|said| said.bench)
+}
+
+/// The same, also where credits are past a grant: a call on a damaged bench may leave that.
+pub fn read(area: &[u8]) -> Option<Said> {
+    let mut reader = Reader { area, at: RECORD_AT, past_grant: false };
     let profile = reader.profile()?;
     let mut host = reader.host()?;
     host.control_run = reader.control_run(HEARING_AT)?;
@@ -53,7 +65,14 @@ pub fn load(area: &[u8]) -> Option<Bench> {
     let down_wire = reader.ring(DOWN_AT, WIRE_SLOTS)?;
     let up_wire = reader.ring(UP_AT, WIRE_SLOTS)?;
     debug_assert_eq!(reader.at, RECORD_AT + RECORD);
-    Some(Bench { profile, down_wire, up_wire, host, controller })
+    let bench = Bench { profile, down_wire, up_wire, host, controller };
+    Some(Said { bench, past_grant: reader.past_grant })
+}
+
+/// Whether an open connection of this bench has more credits held or owed than granted.
+pub fn past_grant(bench: &Bench) -> bool {
+    let held = bench.host.connections.iter().flatten().any(|open| open.held > open.terms.credits);
+    held || bench.controller.connections.iter().flatten().any(|open| open.owed > open.terms.credits)
 }
 
 /// Reads the record from its first octet to its last, and goes to the parts of the
@@ -61,6 +80,7 @@ pub fn load(area: &[u8]) -> Option<Bench> {
 struct Reader<'a> {
     area: &'a [u8],
     at: usize,
+    past_grant: bool,
 }
 
 fn only_if(holds: bool) -> Option<()> {
@@ -194,7 +214,8 @@ impl Reader<'_> {
         let held = self.octet();
         let in_hand = self.in_hand(HANDS_AT + place * MESSAGE)?;
         let run = self.data_run(HOST_RUNS_AT + place * MESSAGE)?;
-        only_if(held <= terms.credits && (!open || terms.payload >= 1))?;
+        self.past_grant |= held > terms.credits;
+        only_if(!open || terms.payload >= 1)?;
         Some(open.then_some(host::Connection { terms, held, in_hand, run }))
     }
 
@@ -206,7 +227,7 @@ impl Reader<'_> {
         let owed = self.octet();
         let store = self.ring(STORES_AT + place * STORE_SLOTS * SLOT, STORE_SLOTS)?;
         let run = self.data_run(CONTROLLER_RUNS_AT + place * MESSAGE)?;
-        only_if(owed <= terms.credits)?;
+        self.past_grant |= owed > terms.credits;
         Some(open.then_some(controller::Connection { terms, store, owed, run }))
     }
 

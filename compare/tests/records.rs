@@ -9,8 +9,16 @@ const PROFILE: [u8; 5] = [0x20, 4, 2, 4, 1];
 const UP_HEAD: usize = RECORD_AT + 158;
 const UP_COUNT: usize = RECORD_AT + 159;
 
-/// Which slot of connection 2's store is first; its count follows.
-const STORE_HEAD_2: usize = RECORD_AT + 56 + 20 + 15;
+/// Where it has the numbers of a connection, by the connection's place.
+fn numbers(place: usize) -> usize {
+    RECORD_AT + 56 + 20 * place
+}
+
+/// Among them the grant at each end, after which credits held or owed stand, and the first
+/// slot of the store, after which its count stands.
+const HOST_GRANT: usize = 2;
+const CONTROLLER_GRANT: usize = 13;
+const STORE_HEAD: usize = 15;
 
 /// Where it has the RF state, and the pairs with their count.
 const RF: usize = RECORD_AT + 24;
@@ -49,13 +57,30 @@ fn forge_up(both: &mut Both, packet: &[u8]) {
     both.put(&octets);
 }
 
-/// Puts a packet that nobody wrote into the empty store of connection 2.
-fn store(both: &mut Both, packet: &[u8]) {
+/// Puts a packet that nobody wrote into the empty store of a connection.
+fn store(both: &mut Both, place: usize, packet: &[u8]) {
     let mut octets = both.lent.octets().to_vec();
-    let slot = usize::from(octets[STORE_HEAD_2]);
-    octets[STORES_AT + (STORE_SLOTS + slot) * SLOT..][..packet.len()].copy_from_slice(packet);
-    octets[STORE_HEAD_2 + 1] = 1;
+    let head = numbers(place) + STORE_HEAD;
+    let slot = place * STORE_SLOTS + usize::from(octets[head]);
+    octets[STORES_AT + slot * SLOT..][..packet.len()].copy_from_slice(packet);
+    octets[head + 1] = 1;
     both.put(&octets);
+}
+
+/// Gives a connection a grant, and so many credits held or owed.
+fn grant(both: &mut Both, at: usize, grant: u8, count: u8) {
+    let mut octets = both.lent.octets().to_vec();
+    octets[at..at + 2].copy_from_slice(&[grant, count]);
+    both.put(&octets);
+}
+
+/// Connection 2 open at both ends besides.
+fn with_loopback() -> Both {
+    let mut both = active();
+    step(&mut both, Call::Command { gid: 0, oid: 4, payload: vec![1, 0] });
+    step(&mut both, Call::Down);
+    step(&mut both, Call::Up);
+    both
 }
 
 /// Only on a damaged bench: a sound controller answers a CONN_CLOSE without octets by 05.
@@ -76,16 +101,91 @@ fn a_close_that_names_0_closes_it() {
     assert!(both.second.is_some_and(|bench| bench.host.connection(0).is_none()));
 }
 
-/// A notice, or data, that would bring a connection past its grant: no list of calls
-/// meets 13.
+/// What a call that brought credits past a grant left: the sum modulo 256 after the grant in
+/// the record. Past the grant that is damage, and all that is taken next is fresh.
+fn check_sum(both: &mut Both, at: usize, grant: u8, sum: u8) {
+    assert_eq!(both.lent.octets()[at..at + 2], [grant, sum]);
+    let damaged = sum > grant;
+    assert_eq!(both.second.is_none(), damaged, "{sum} of {grant}");
+    assert_eq!(both.past_grant.left, u64::from(damaged));
+    let (send, air) = (Call::Send { conn: 0, message: vec![] }, Call::Air(vec![4]));
+    let command = Call::Command { gid: 0, oid: 0, payload: vec![0] };
+    let host = [Call::Power, command, send, Call::Push(0), Call::Up, Call::Report(0)];
+    let controller = [Call::Down, Call::Consume(0), Call::Credit, air, Call::Reply];
+    if damaged {
+        let left = both.lent.octets().to_vec();
+        host.iter().chain(&controller).for_each(|call| both.step(call).unwrap());
+        assert_eq!(both.damaged, 11, "each is refused with 1");
+        assert_eq!(both.lent.octets(), left);
+        step(both, Call::Fresh(PROFILE));
+    } else {
+        step(both, Call::Report(0));
+    }
+}
+
+/// A notice, or data, that brings a connection to its grant, past it, and past 255.
 #[test]
-fn credits_past_the_grant_are_refused() {
-    for packet in [&[0x60, 0x06, 0x03, 0x01, 0x00, 0x01][..], &[0x00, 0x01, 0x00], &[0x10, 0xFF, 0x01, 0x07]]
+fn credits_that_the_host_reads_are_added_modulo_256() {
+    let notice = &[0x60, 0x06, 0x03, 0x01, 0x00, 0x05][..];
+    for (packet, credits, source) in
+        [(notice, 5, 0), (&[0x00, 0x03, 0x00], 3, 1), (&[0x10, 0xFF, 0x01, 0x07], 3, 1)]
     {
+        for (granted, held) in
+            [(0, 0), (1, 1), (8, 3), (8, 8), (200, 199), (254, 248), (254, 252), (254, 253), (254, 254)]
+        {
+            let mut both = active();
+            let at = numbers(0) + HOST_GRANT;
+            grant(&mut both, at, granted, held);
+            forge_up(&mut both, packet);
+            step(&mut both, Call::Up);
+            let sum = u16::from(held) + credits;
+            let (past, wrapped) = (u64::from(sum > u16::from(granted)), u64::from(sum > 255));
+            assert_eq!((both.past_grant.calls[source], both.past_grant.wrapped[source]), (past, wrapped));
+            check_sum(&mut both, at, granted, (sum % 256) as u8);
+        }
+    }
+}
+
+/// Five entries, each past its grant by itself or not: one is damage enough.
+#[test]
+fn a_notice_is_added_entry_by_entry() {
+    let mut both = with_loopback();
+    let notice = [0x60, 0x06, 0x0B, 0x05, 0x00, 0x05, 0x02, 0x08, 0x03, 0x01, 0x04, 0x01, 0x05, 0x01];
+    for (held, sum) in [(254, 6), (246, 254), (247, 255)] {
+        grant(&mut both, numbers(0) + HOST_GRANT, 254, 254);
+        grant(&mut both, numbers(1) + HOST_GRANT, 254, held);
+        forge_up(&mut both, &notice);
+        step(&mut both, Call::Up);
+        assert_eq!(both.lent.octets()[numbers(0) + HOST_GRANT..][..2], [254, 3]);
+        assert_eq!(both.lent.octets()[numbers(1) + HOST_GRANT..][..2], [254, sum]);
+        assert_eq!(both.second.is_none(), sum == 255);
+    }
+    assert_eq!((both.past_grant.calls[0], both.past_grant.wrapped[0], both.past_grant.left), (3, 3, 1));
+}
+
+/// On 0 the packet's credit stays owed; on 2 the packet carries it and up to two more, and
+/// what is left is within the grant again.
+#[test]
+fn a_packet_consumed_past_the_grant_is_added() {
+    for (granted, owed, past) in [(0, 0, 1), (1, 0, 0), (1, 1, 1), (8, 7, 0), (8, 8, 1), (254, 254, 1)] {
         let mut both = active();
-        forge_up(&mut both, packet);
-        both.step(&Call::Up).unwrap();
-        assert_eq!(both.tally.refusals(13), 1);
+        let at = numbers(0) + CONTROLLER_GRANT;
+        grant(&mut both, at, granted, owed);
+        store(&mut both, 0, &[0x00, 0x00, 0x01, 0x07]);
+        step(&mut both, Call::Consume(0));
+        assert_eq!(both.past_grant.calls, [0, 0, past]);
+        check_sum(&mut both, at, granted, owed + 1);
+
+        let mut both = with_loopback();
+        let at = numbers(1) + CONTROLLER_GRANT;
+        grant(&mut both, at, granted, owed);
+        store(&mut both, 1, &[0x02, 0x00, 0x01, 0x07]);
+        step(&mut both, Call::Consume(2));
+        assert_eq!(both.past_grant.calls, [0, 0, past]);
+        let carried = (owed + 1).min(3);
+        let put = [0x02, carried, 0x01, 0x07];
+        assert!(both.second.as_ref().is_some_and(|bench| bench.up_wire.back().unwrap()[..] == put));
+        check_sum(&mut both, at, granted, owed + 1 - carried);
     }
 }
 
@@ -108,11 +208,8 @@ fn credits_inside_data_count_where_the_connection_is_open() {
 fn a_loopback_replaces_the_credits_of_any_packet() {
     for first in [0x02, 0x13, 0x22, 0x62, 0x82] {
         for second in [0x00, 0x03, 0x40, 0xFF] {
-            let mut both = active();
-            step(&mut both, Call::Command { gid: 0, oid: 4, payload: vec![1, 0] });
-            step(&mut both, Call::Down);
-            step(&mut both, Call::Up);
-            store(&mut both, &[first, second, 0x01, 0x07]);
+            let mut both = with_loopback();
+            store(&mut both, 1, &[first, second, 0x01, 0x07]);
             step(&mut both, Call::Consume(2));
             let put = [first, second / 4 * 4 + 1, 0x01, 0x07];
             assert!(both.second.is_some_and(|bench| bench.up_wire.back().unwrap()[..] == put));

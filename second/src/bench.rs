@@ -213,14 +213,11 @@ impl Bench {
         self.conclude(result)
     }
 
-    /// 13 is judged on the credit that the packet adds, before a returned packet
-    /// carries any of what is owed.
     fn try_consume(&mut self, conn: u8) -> Result<Outcome, Refusal> {
         check_conn(conn)?;
         refuse_if(is_dynamic(conn) && self.up_slots() < 1, Refusal::TooFewSlots)?;
         let open = self.controller.connection(conn).ok_or(Refusal::NotOpen)?;
         refuse_if(open.stored() == 0, Refusal::NothingToMove)?;
-        refuse_if(open.owes_whole_grant(), Refusal::PastGrant)?;
         let consumed = self.controller.consume(conn).ok_or(Refusal::NothingToMove)?;
         Ok(Outcome {
             drop: consumed.drop,
@@ -277,8 +274,6 @@ impl Bench {
     }
 
     fn try_up(&mut self) -> Result<Outcome, Refusal> {
-        let first = self.up_wire.front().ok_or(Refusal::NothingToMove)?;
-        refuse_if(self.host.would_pass_grant(first), Refusal::PastGrant)?;
         let first = self.up_wire.pop_front().ok_or(Refusal::NothingToMove)?;
         let taken = self.host.take(&first);
         Ok(Outcome { drop: taken.drop, message: taken.message, ..Outcome::default() })

@@ -61,16 +61,14 @@ pub enum Refusal {
     CloseUnanswered = 10,
     AirNotTaken = 11,
     StoreFull = 12,
-    PastGrant = 13,
     WiresNotEmpty = 14,
     SendDuringClose = 15,
 }
 
-/// The first and the last number that a call here can answer.
-pub const FIRST_REFUSAL: u8 = Refusal::ArgumentOutsideLimit as u8;
-pub const LAST_REFUSAL: u8 = Refusal::SendDuringClose as u8;
+/// The numbers that a call here can answer: those of the card from 3 on, which has no 13.
+pub const REFUSALS: [u8; 12] = [3, 4, 5, 6, 7, 8, 9, 10, 11, 12, 14, 15];
 /// Places for a count of each answer, 0 and every number.
-pub const ANSWERS: usize = LAST_REFUSAL as usize + 1;
+pub const ANSWERS: usize = Refusal::SendDuringClose as usize + 1;
 
 /// What a call did. A refused call has a number for its answer and nothing else.
 #[derive(Clone, Debug, Default, PartialEq, Eq)]

@@ -60,11 +60,6 @@ impl Connection {
         self.terms.flow_controlled()
     }
 
-    /// Refusal 13 of consume: one credit more owed than was ever granted.
-    pub fn owes_whole_grant(&self) -> bool {
-        self.flow_controlled() && self.owed >= self.terms.credits
-    }
-
     /// The credits that a data packet going up returns: what is owed, at most three.
     /// They are owed no longer; where nothing is owed the count stays as it is.
     fn carry(&mut self) -> u8 {

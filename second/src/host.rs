@@ -47,11 +47,6 @@ impl Connection {
         self.terms.flow_controlled() && self.held == 0
     }
 
-    fn would_pass_grant(&self, credits: u8) -> bool {
-        self.terms.flow_controlled()
-            && u16::from(self.held) + u16::from(credits) > u16::from(self.terms.credits)
-    }
-
     fn add_credits(&mut self, credits: u8) {
         if self.terms.flow_controlled() {
             self.held = self.held.wrapping_add(credits);
@@ -160,35 +155,6 @@ impl Host {
     }
 
     // Coming up.
-
-    /// Refusal 13: the packet brings credits that would take a connection above its
-    /// grant.
-    pub fn would_pass_grant(&self, octets: &[u8]) -> bool {
-        let Reading::Packet(packet) = packet::read(octets) else {
-            return false;
-        };
-        let passes =
-            |conn: u8, credits: u8| self.connection(conn).is_some_and(|open| open.would_pass_grant(credits));
-        match packet.message_type {
-            MessageType::Data => passes(packet.id, packet.credits),
-            MessageType::Notification => {
-                self.credits_noticed(&packet).iter().any(|(conn, credits)| passes(*conn, *credits))
-            }
-            MessageType::Command | MessageType::Response => false,
-        }
-    }
-
-    /// The entries of the credit notice that this notification ends, if it ends one.
-    /// The control run itself is left alone.
-    fn credits_noticed(&self, packet: &Packet) -> Vec<(u8, u8)> {
-        let Joined::Whole(payload) = self.control_run.clone().join(packet) else {
-            return Vec::new();
-        };
-        match layout::read_notification(packet.id, packet.oid, &payload) {
-            Some(Notification::Credits(entries)) => entries,
-            _ => Vec::new(),
-        }
-    }
 
     /// Takes a packet off the up wire. A command is dropped by its MT and neither
     /// joins nor ends a run (decision on control runs).

@@ -12,8 +12,9 @@
 //! `host` are the two ends; `call` and `bench` join them by the twelve calls;
 //! `sheet` is the text front end. `observer` holds demand 3's account and that of
 //! messages in hand, which see calls and outcomes alone, `player` deals random lists
-//! of calls, `trial` plays them, checks each call and counts what was met, and
-//! `bad_line` makes the lines of a sheet that are no calls.
+//! of calls, `trial` plays them, checks each call and counts what was met, with
+//! `trial::grants` for credits past a grant, and `bad_line` makes the lines of a sheet
+//! that are no calls.
 //!
 //! What a bench holds is public, so that a test can load one in any state.
 

@@ -14,7 +14,7 @@ mod hand;
 
 use std::collections::VecDeque;
 
-use crate::call::{Call, Outcome, FIRST_REFUSAL, LAST_REFUSAL};
+use crate::call::{Call, Outcome, REFUSALS};
 use hand::Hand;
 
 /// A call and what came of it.
@@ -498,7 +498,7 @@ impl HostSide {
 /// A refused call counts for nothing, and does nothing.
 fn nothing_happened(outcome: &Outcome) -> Result<(), String> {
     let refusal = Outcome { answer: outcome.answer, ..Outcome::default() };
-    if *outcome == refusal && (FIRST_REFUSAL..=LAST_REFUSAL).contains(&outcome.answer) {
+    if *outcome == refusal && REFUSALS.contains(&outcome.answer) {
         Ok(())
     } else {
         Err(format!("refused, yet {outcome:?}"))

@@ -1,12 +1,16 @@
 //! A trial: a list of calls played on a bench with the observer watching, and the
-//! tally of what has been met.
+//! tally of what has been met. `grants` asks what no call asks: whether credits stay
+//! within the grant.
+
+pub mod grants;
 
 use crate::bench::Bench;
-use crate::call::{Call, Outcome, ANSWERS, FIRST_REFUSAL, LAST_REFUSAL};
+use crate::call::{Call, Outcome, ANSWERS, REFUSALS};
 use crate::layout::{self, Notification};
 use crate::observer::{Event, Observer};
 use crate::packet::{self, MessageType, Reading, MOST_CARRIED};
 use crate::sheet;
+use grants::{Source, Sum};
 
 /// The refusals that each call knows here, 1 and 2 left out (decision on
 /// refusals), each list in the order in which they are judged; the calls in the
@@ -18,16 +22,13 @@ pub const REFUSALS_OF: [&[u8]; 12] = [
     &[3, 15, 6, 7],
     &[3, 4, 6, 8, 9, 10],
     &[4, 8, 12],
-    &[3, 4, 6, 8, 13],
+    &[3, 4, 6, 8],
     &[4, 8],
     &[3, 4, 7, 11, 14],
     &[4, 8],
-    &[8, 13],
+    &[8],
     &[3, 6],
 ];
-
-/// The one refusal that no list of calls from fresh should reach.
-pub const UNREACHED: u8 = 13;
 
 /// What a number of lists has met.
 #[derive(Clone, Debug, Default)]
@@ -44,6 +45,9 @@ pub struct Tally {
     pub carriers: [u64; MOST_CARRIED as usize + 1],
     /// Credits in notices put up.
     pub noticed: u64,
+    /// Sums of credits that came to the whole grant, by what added to them: one more
+    /// would have passed it.
+    pub whole: [u64; Source::NAMES.len()],
     /// Messages that a close or reset response discarded from hand at the host.
     pub discards: u64,
     /// Lists brought to rest.
@@ -80,6 +84,13 @@ impl Tally {
         }
     }
 
+    /// The sums of a call that was taken.
+    pub fn count_sums(&mut self, sums: &[Sum]) {
+        for sum in sums.iter().filter(|sum| sum.comes_to_grant()) {
+            self.whole[sum.source as usize] += 1;
+        }
+    }
+
     /// Credits that came back inside data packets.
     pub fn carried(&self) -> u64 {
         self.carriers.iter().zip(0..).map(|(packets, credits)| packets * credits).sum()
@@ -91,19 +102,19 @@ impl Tally {
 
     /// Refusals that never occurred.
     pub fn never(&self) -> Vec<u8> {
-        (FIRST_REFUSAL..=LAST_REFUSAL).filter(|number| self.refusals(*number) == 0).collect()
+        REFUSALS.into_iter().filter(|number| self.refusals(*number) == 0).collect()
     }
 
     /// Calls never taken, and pairs of call and refusal never met, as `call` and
-    /// `call:number`, those of 13 left out; then numbers of credits that no data packet
-    /// carried, as `carried:number`.
+    /// `call:number`; then numbers of credits that no data packet carried, as
+    /// `carried:number`, and what never added up to a whole grant, as `whole:source`.
     pub fn gaps(&self) -> Vec<String> {
         let mut gaps = Vec::new();
         for (index, name) in Call::NAMES.iter().enumerate() {
             if self.taken[index] == 0 {
                 gaps.push(name.to_string());
             }
-            for number in REFUSALS_OF[index].iter().filter(|number| **number != UNREACHED) {
+            for number in REFUSALS_OF[index] {
                 if self.refused[index][usize::from(*number)] == 0 {
                     gaps.push(format!("{name}:{number}"));
                 }
@@ -111,6 +122,8 @@ impl Tally {
         }
         let uncarried = self.carriers.iter().enumerate().filter(|(_, packets)| **packets == 0);
         gaps.extend(uncarried.map(|(credits, _)| format!("carried:{credits}")));
+        let unmet = Source::NAMES.iter().zip(self.whole).filter(|(_, sums)| *sums == 0);
+        gaps.extend(unmet.map(|(source, _)| format!("whole:{source}")));
         gaps
     }
 
@@ -120,12 +133,15 @@ impl Tally {
         for (index, name) in Call::NAMES.iter().enumerate() {
             fields += &format!(" {name}={}", self.taken[index]);
         }
-        for number in FIRST_REFUSAL..=LAST_REFUSAL {
+        for number in REFUSALS {
             fields += &format!(" refusal{number}={}", self.refusals(number));
         }
         let never: Vec<String> = self.never().iter().map(u8::to_string).collect();
         fields += &format!(" messages={} drops={}", self.messages, self.drops);
         fields += &format!(" carried={} noticed={}", self.carried(), self.noticed);
+        for (source, sums) in Source::NAMES.iter().zip(self.whole) {
+            fields += &format!(" whole-{source}={sums}");
+        }
         fields += &format!(" discards={} rests={}", self.discards, self.rests);
         fields + &format!(" never={} gaps={}", list_or_none(&never), list_or_none(&self.gaps()))
     }
@@ -156,14 +172,18 @@ impl Trial {
         Ok(trial)
     }
 
-    /// Makes a call and checks all that demand 3 says of it.
+    /// Makes a call and checks all that demand 3 says of it, and that credits stay within
+    /// the grant.
     pub fn step(&mut self, call: Call, tally: &mut Tally) -> Result<&Event, String> {
         let before = self.bench.clone();
         let outcome = self.bench.play(&call);
+        let sums = if outcome.taken() { grants::sums(&before, &call) } else { Vec::new() };
         tally.count(&call, &outcome);
+        tally.count_sums(&sums);
         self.events.push(Event { call, outcome });
         let event = &self.events[self.events.len() - 1];
         check_refusal(event, &before, &self.bench)?;
+        grants::check_grants(&sums)?;
         let discards = self.observer.discards();
         self.observer.see(event)?;
         tally.discards += self.observer.discards() - discards;
@@ -185,14 +205,13 @@ impl Trial {
     }
 }
 
-/// A refused call changes nothing, its number is one of the call's own, and 13
-/// does not occur.
+/// A refused call changes nothing, and its number is one of the call's own.
 fn check_refusal(event: &Event, before: &Bench, after: &Bench) -> Result<(), String> {
     let answer = event.outcome.answer;
     if answer == 0 {
         return Ok(());
     }
-    if answer == UNREACHED || !REFUSALS_OF[event.call.index()].contains(&answer) {
+    if !REFUSALS_OF[event.call.index()].contains(&answer) {
         return Err(format!("{} answered {answer}", event.call.name()));
     }
     if before != after {

@@ -59,18 +59,18 @@ fn a_returned_packet_carries_what_is_owed_and_at_most_three() {
     }
 }
 
+/// Past the grant too, and modulo 256: of 256 an octet counts none.
 #[test]
-fn refusal_13_is_judged_before_anything_is_carried() {
-    for grant in 1..=8 {
-        for owed in 0..=grant {
+fn the_packet_s_own_credit_is_added_before_anything_is_carried() {
+    for grant in [1, 2, 8, 254] {
+        for owed in 0..=255u8 {
             let mut bench = loopbacks(PROFILE, 1);
             bench.forge_owing(2, grant, owed);
             bench.forge_stored(2, &[2, 0, 0]);
-            if owed == grant {
-                refuses(&bench, 13, |bench| bench.consume(2));
-            } else {
-                takes(&bench, |bench| bench.consume(2));
-            }
+            let sum = (u16::from(owed) + 1) % 256;
+            let carried = sum.min(3) as u8;
+            assert_eq!(taken(bench.consume(2)).up, [[2, carried, 0]]);
+            assert_eq!(report(&bench, 2), [2, 0, 0, sum as u8 - carried, carried]);
         }
     }
 }
@@ -175,21 +175,20 @@ fn a_reply_carries_nothing_of_another_connection() {
 // The host
 
 #[test]
-fn the_host_takes_credits_up_to_the_grant_and_up_refuses_more() {
-    for held in 0..=8u8 {
-        for credits in 0..4u8 {
-            for first in [0x02, 0x12] {
-                let mut bench = ready(PROFILE);
-                bench.forge_holding(2, 8, held);
-                bench.forge_owing(2, 8, 0);
-                bench.forge_up(&[first, 0xFC | credits, 1, 7]);
-                assert_eq!(report(&bench, 2), [held, 0, 0, 0, credits]);
-                if held + credits > 8 {
-                    refuses(&bench, 13, |bench| bench.up());
-                    continue;
+fn the_host_adds_credits_up_to_the_grant_past_it_and_modulo_256() {
+    for grant in [8, 254] {
+        for held in 0..=255u8 {
+            for credits in 0..4u8 {
+                for first in [0x02, 0x12] {
+                    let mut bench = ready(PROFILE);
+                    bench.forge_holding(2, grant, held);
+                    bench.forge_owing(2, grant, 0);
+                    bench.forge_up(&[first, 0xFC | credits, 1, 7]);
+                    assert_eq!(report(&bench, 2), [held, 0, 0, 0, credits]);
+                    assert!(!taken(bench.up()).drop);
+                    let sum = (u16::from(held) + u16::from(credits)) % 256;
+                    assert_eq!(report(&bench, 2), [sum as u8, 0, 0, 0, 0]);
                 }
-                assert!(!taken(bench.up()).drop);
-                assert_eq!(report(&bench, 2), [held + credits, 0, 0, 0, 0]);
             }
         }
     }

@@ -5,7 +5,7 @@ use common::*;
 use exam_bench::bench::Bench;
 use exam_bench::call::{Call, Outcome};
 use exam_bench::controller::Rf;
-use exam_bench::observer::Event;
+use exam_bench::observer::{Event, Observer};
 use exam_bench::player::{Lengths, Player};
 use exam_bench::trial::{check_reports, Tally, Trial};
 use std::collections::BTreeSet;
@@ -31,7 +31,7 @@ fn play(seed: u64, calls: u64, lengths: Lengths, mut watch: impl FnMut(&Event, &
 #[test]
 fn random_lists_keep_the_account_and_meet_every_call_and_refusal() {
     let tally = play(11, 150_000, Lengths::Any, |_, _| {});
-    assert_eq!(tally.never(), [13]);
+    assert_eq!(tally.never(), Vec::<u8>::new());
     assert_eq!(tally.gaps(), Vec::<String>::new());
     assert!(tally.discards > 0);
     // Most credits come back inside data packets, and yet some in notices.
@@ -116,6 +116,76 @@ fn every_call_of_short_lists_fits_a_sheet_line() {
         let line = exam_bench::sheet::write_call(&event.call);
         assert_eq!(exam_bench::sheet::read_line(line.as_bytes()), Some(event.call.clone()));
     });
+}
+
+// Credits past a grant, which the trial must notice. No list of calls comes to that, so
+// the benches are made by hand.
+
+/// Whether the trial finds credits past a grant in this call. What else it finds in a
+/// bench that it has not seen from fresh on does not count.
+fn passes_grant(bench: &Bench, call: Call) -> bool {
+    let mut trial = Trial { bench: bench.clone(), observer: Observer::new(), events: Vec::new() };
+    let fault = trial.step(call, &mut Tally::default()).err();
+    assert!(trial.events[0].outcome.taken());
+    fault.is_some_and(|fault| fault.contains("past the grant"))
+}
+
+#[test]
+fn credits_past_the_grant_at_the_host_are_noticed() {
+    for (read, credits) in [
+        ("60 06 03 01 02 05", 5),
+        ("60 06 07 03 00 08 02 01 05 08", 1),
+        ("70 06 02 01 02 | 60 06 01 05", 5),
+        ("02 03 00", 3),
+        ("12 FD 01 AA", 1),
+    ] {
+        for grant in [8, 200, 254] {
+            for held in [0, grant - credits, grant - credits + 1, grant] {
+                let mut bench = ready(PROFILE);
+                bench.forge_holding(2, grant, held);
+                packets(read).iter().for_each(|packet| bench.forge_up(packet));
+                while bench.up_wire().len() > 1 {
+                    assert!(!passes_grant(&bench, Call::Up), "not whole yet");
+                    taken(bench.up());
+                }
+                let past = held > grant - credits;
+                assert_eq!(passes_grant(&bench, Call::Up), past, "{read}, {held} of {grant}");
+            }
+        }
+    }
+}
+
+/// On 2 the packet that goes up brings them within the grant again.
+#[test]
+fn credits_past_the_grant_at_the_controller_are_noticed_before_any_are_carried() {
+    for conn in [0, 2] {
+        for grant in [1, 2, 8, 254] {
+            for owed in [0, grant - 1, grant] {
+                let mut bench = ready(PROFILE);
+                bench.forge_owing(conn, grant, owed);
+                bench.forge_stored(conn, &[conn, 0, 0]);
+                assert_eq!(passes_grant(&bench, Call::Consume(conn)), owed == grant, "{owed} of {grant}");
+            }
+        }
+    }
+}
+
+#[test]
+fn without_flow_control_no_credits_pass_a_grant() {
+    for conn in [0, 2] {
+        for count in [0, 254, 255] {
+            let mut bench = ready(PROFILE);
+            bench.forge_holding(conn, 255, count);
+            bench.forge_owing(conn, 255, count);
+            bench.forge_stored(conn, &[conn, 0, 0]);
+            assert!(!passes_grant(&bench, Call::Consume(conn)));
+            for packet in [&[0x60, 0x06, 0x03, 1, conn, 8][..], &[conn, 3, 0]] {
+                bench.forge_up(packet);
+                assert!(!passes_grant(&bench, Call::Up));
+                taken(bench.up());
+            }
+        }
+    }
 }
 
 // Faults that the observer must notice.

@@ -1,10 +1,9 @@
-//! Wires with any octets: every call still answers, refused calls change nothing
-//! and the numbers stay inside their limits.
+//! Wires with any octets: every call still answers, refused calls change nothing,
+//! wires and stores stay inside their limits and credits are sums modulo 256.
 
 mod common;
 use common::*;
 use exam_bench::bench::{Bench, WIRE_SLOTS};
-use exam_bench::call::{Call, ANSWERS};
 use exam_bench::controller::STORE_PACKETS;
 use exam_bench::player::{Lengths, Player, Random};
 
@@ -61,7 +60,6 @@ fn check_limits(bench: &Bench) {
     for conn in [0, 2, 3, 4, 5] {
         if let Some(open) = bench.controller().connection(conn) {
             assert!(open.stored() <= STORE_PACKETS);
-            assert!(open.owed() <= 8);
             assert_eq!(report(bench, conn).len(), 5);
         }
     }
@@ -71,9 +69,8 @@ fn check_limits(bench: &Bench) {
 fn any_octets_on_the_wires() {
     let mut random = Random::new(5);
     let mut player = Player::new(6, Lengths::Any);
-    let mut refusals = [0u32; ANSWERS];
-    // 13 by credits in a notice, and by those inside data.
-    let mut past_grant = [0u32; 2];
+    // Sums past the grant, by what added to them.
+    let mut past_grant = [0u32; 3];
     for _ in 0..300 {
         let mut bench = fresh(player.begin());
         for _ in 0..200 {
@@ -86,18 +83,17 @@ fn any_octets_on_the_wires() {
             let before = bench.clone();
             let call = player.next_call(&before);
             let outcome = bench.play(&call);
-            refusals[usize::from(outcome.answer)] += 1;
-            if !outcome.taken() {
+            if outcome.taken() {
+                for sum in check_sums(&before, &call, &bench) {
+                    past_grant[sum.source as usize] += u32::from(sum.passes_grant());
+                }
+            } else {
                 assert_eq!(bench, before);
-            }
-            if let (Call::Up, 13) = (&call, outcome.answer) {
-                past_grant[usize::from(bench.up_wire()[0][0] < 0x20)] += 1;
             }
             check_limits(&bench);
         }
     }
-    assert!(refusals[13] > 0, "forged wires reach refusal 13");
-    assert!(!past_grant.contains(&0), "by notices and by data");
+    assert!(!past_grant.contains(&0), "by notices, data and consume: {past_grant:?}");
 }
 
 // Openings that the host reads twice: the later one begins the connection anew.

@@ -12,7 +12,7 @@
 mod common;
 use common::*;
 use exam_bench::bench::{Bench, WIRE_SLOTS};
-use exam_bench::call::ANSWERS;
+use exam_bench::call::Outcome;
 use exam_bench::connection::CONN_IDS;
 use exam_bench::controller::STORE_PACKETS;
 use exam_bench::player::{Lengths, Player, Random};
@@ -181,61 +181,66 @@ fn all_that_the_up_wire_can_carry_fits_the_fifth_number() {
     }
 }
 
-// Sums modulo 256. On the bench 13 stands before them, so the ends are asked alone.
+// Sums modulo 256, whatever the grant
+
+const GRANTS: [u8; 5] = [0, 1, 8, 200, 254];
+
+fn modulo_256(count: u8, more: u8) -> u8 {
+    ((u16::from(count) + u16::from(more)) % 256) as u8
+}
+
+/// The bench after up has taken this packet: nothing is another but what is held on 2.
+fn check_read(bench: &Bench, packet: &[u8], drop: bool, grant: u8, held: u8) {
+    let (mut read, mut due) = (bench.clone(), bench.clone());
+    read.forge_up(packet);
+    assert_eq!(taken(read.up()).drop, drop);
+    due.forge_holding(2, grant, held);
+    assert_eq!(read, due);
+}
 
 #[test]
 fn credits_that_the_host_reads_are_added_modulo_256() {
-    for held in 0..=255u8 {
-        for credits in 1..=8u8 {
-            let mut bench = ready(PROFILE);
-            bench.forge_holding(2, 254, held);
-            bench.forge_holding(3, NO_FLOW_CONTROL, held);
-            let mut host = bench.host().clone();
-            let taken = host.take(&[0x60, 0x06, 0x07, 3, 2, credits, 3, credits, 4, credits]);
-            assert!(taken.drop, "4 is not open");
-            let sum = (u16::from(held) + u16::from(credits)) % 256;
-            assert_eq!(u16::from(host.connection(2).unwrap().held()), sum);
-            assert_eq!(host.connection(3).unwrap().held(), held);
-            let mut host = bench.host().clone();
-            host.take(&[0x02, credits % 4, 0]);
-            let sum = (u16::from(held) + u16::from(credits % 4)) % 256;
-            assert_eq!(u16::from(host.connection(2).unwrap().held()), sum);
+    for grant in GRANTS {
+        for held in 0..=255u8 {
+            for credits in 1..=8u8 {
+                let mut bench = ready(PROFILE);
+                bench.forge_holding(2, grant, held);
+                bench.forge_holding(3, NO_FLOW_CONTROL, held);
+                // 4 is not open.
+                let notice = [0x60, 0x06, 0x07, 3, 2, credits, 3, credits, 4, credits];
+                check_read(&bench, &notice, true, grant, modulo_256(held, credits));
+                let data = [0x02, credits % 4, 0];
+                check_read(&bench, &data, false, grant, modulo_256(held, credits % 4));
+            }
         }
     }
 }
 
 #[test]
-fn a_packet_consumed_is_added_modulo_256() {
-    for owed in 0..=255u8 {
-        let mut bench = ready(PROFILE);
-        bench.forge_owing(0, 254, owed);
-        bench.forge_stored(0, &[0, 0, 0]);
-        let mut controller = bench.controller().clone();
-        assert!(controller.consume(0).is_some());
-        let sum = (u16::from(owed) + 1) % 256;
-        assert_eq!(u16::from(controller.connection(0).unwrap().owed()), sum);
-    }
+fn five_credits_to_254_held_leave_3() {
+    let mut bench = ready(PROFILE);
+    bench.forge_holding(2, 254, 254);
+    bench.forge_owing(2, 254, 0);
+    bench.forge_up(&octets("60 06 03 01 02 05"));
+    bench.forge_up(&octets("02 03 01 AA"));
+    assert_eq!(report(&bench, 2), [254, 0, 0, 0, 8]);
+    assert_eq!(taken(bench.up()), Outcome::default());
+    assert_eq!(report(&bench, 2), [3, 0, 0, 0, 3]);
+    taken(bench.up());
+    assert_eq!(report(&bench, 2), [6, 0, 0, 0, 0]);
 }
 
 #[test]
-fn refusal_13_stands_before_every_sum_past_the_grant() {
-    for grant in [1, 8, 200, 254] {
-        for count in 0..=255u8 {
+fn a_packet_consumed_is_added_modulo_256() {
+    for grant in GRANTS {
+        for owed in 0..=255u8 {
             let mut bench = ready(PROFILE);
-            bench.forge_holding(2, grant, count);
-            bench.forge_up(&octets("60 06 03 01 02 08"));
-            if u16::from(count) + 8 > u16::from(grant) {
-                refuses(&bench, 13, |bench| bench.up());
-            } else {
-                takes(&bench, |bench| bench.up());
-            }
-            bench.forge_owing(2, grant, count);
-            bench.forge_stored(2, &[2, 0, 0]);
-            if count >= grant {
-                refuses(&bench, 13, |bench| bench.consume(2));
-            } else {
-                takes(&bench, |bench| bench.consume(2));
-            }
+            bench.forge_owing(0, grant, owed);
+            let mut due = bench.clone();
+            due.forge_owing(0, grant, modulo_256(owed, 1));
+            bench.forge_stored(0, &[0, 0, 1, 7]);
+            assert_eq!(taken(bench.consume(0)).message, Some(vec![7]));
+            assert_eq!(bench, due);
         }
     }
 }
@@ -335,18 +340,21 @@ fn a_close_that_the_controller_rejects_leaves_what_only_the_host_has_open() {
 
 // Any numbers at all
 
-/// Makes one number of the bench another one.
+/// Makes one number of the bench another one, or puts a notice up.
 fn forge_any(bench: &mut Bench, random: &mut Random) {
     let conn = random.pick(&CONN_IDS);
     let grant = random.pick(&[1, 2, 8, 200, 254, NO_FLOW_CONTROL]);
+    let (any, near_256, credits) = (random.octet(), 255 - random.octet() % 8, 1 + random.octet() % 8);
+    let count = random.pick(&[any, near_256]);
     let message = random.octets(300);
     let gone = random.below(message.len() + 1);
-    match random.below(5) {
-        0 => bench.forge_owing(conn, grant, random.octet()),
-        1 => bench.forge_holding(conn, grant, random.octet()),
+    match random.below(6) {
+        0 => bench.forge_owing(conn, grant, count),
+        1 => bench.forge_holding(conn, grant, count),
         2 => bench.forge_endpoint_message(&message, gone),
         3 if bench.host().connection(conn).is_some() => bench.forge_in_hand(conn, &message, gone),
         4 if has_room(bench, conn) => bench.forge_stored(conn, &[conn, 0, 0]),
+        5 if bench.up_wire().len() < WIRE_SLOTS => bench.forge_up(&[0x60, 0x06, 3, 1, conn, credits]),
         _ => {}
     }
 }
@@ -373,7 +381,8 @@ fn check_report(bench: &Bench, conn: u8) {
 fn any_numbers_in_the_record() {
     let mut random = Random::new(8);
     let mut player = Player::new(9, Lengths::Any);
-    let mut met = [0u32; ANSWERS];
+    // Sums past the grant, by what added to them, and sums past 255.
+    let (mut past_grant, mut past_octet) = ([0u32; 3], [0u32; 3]);
     for _ in 0..300 {
         let mut bench = fresh(player.begin());
         for _ in 0..200 {
@@ -381,14 +390,19 @@ fn any_numbers_in_the_record() {
                 forge_any(&mut bench, &mut random);
             }
             let before = bench.clone();
-            let outcome = bench.play(&player.next_call(&before));
-            met[usize::from(outcome.answer)] += 1;
-            if !outcome.taken() {
+            let call = player.next_call(&before);
+            if bench.play(&call).taken() {
+                for sum in check_sums(&before, &call, &bench) {
+                    past_grant[sum.source as usize] += u32::from(sum.passes_grant());
+                    past_octet[sum.source as usize] += u32::from(sum.passes_octet());
+                }
+            } else {
                 assert_eq!(bench, before);
             }
             assert!(bench.down_wire().len() <= WIRE_SLOTS && bench.up_wire().len() <= WIRE_SLOTS);
             CONN_IDS.iter().for_each(|conn| check_report(&bench, *conn));
         }
     }
-    assert!(met[13] > 0, "forged counts reach refusal 13");
+    assert!(!past_grant.contains(&0), "by notices, data and consume: {past_grant:?}");
+    assert!(!past_octet.contains(&0), "by notices, data and consume: {past_octet:?}");
 }

@@ -481,7 +481,7 @@ fn report_is_of_the_controller_s_opening() {
     refuses(&bench, 8, |bench| bench.push(2));
 }
 
-// 13, which no list of calls reaches
+// Credits past the grant, to which no list of calls brings them: no call refuses them
 
 fn three_stored_of_two_granted() -> Bench {
     let mut bench = active([0x20, 4, 2, 4, 2], 0);
@@ -493,13 +493,13 @@ fn three_stored_of_two_granted() -> Bench {
 }
 
 #[test]
-fn consume_refuses_to_owe_more_than_the_grant() {
+fn consume_takes_a_packet_past_the_grant() {
     let mut bench = three_stored_of_two_granted();
-    taken(bench.consume(0));
-    taken(bench.consume(0));
-    refuses(&bench, 13, |bench| bench.consume(0));
-    taken(bench.credit());
-    taken(bench.consume(0));
+    for owed in 1..=3 {
+        taken(bench.consume(0));
+        assert_eq!(report(&bench, 0), [2, 0, 3 - owed, owed, 0]);
+    }
+    assert_eq!(taken(bench.credit()).up, packets("60 06 03 01 00 03"));
 }
 
 #[test]
@@ -516,32 +516,30 @@ fn without_flow_control_nothing_is_owed() {
 }
 
 #[test]
-fn up_refuses_credits_past_the_grant() {
+fn up_takes_credits_past_the_grant() {
     let mut bench = loopbacks(PROFILE, 2);
     taken(bench.send(2, &[1]));
     taken(bench.push(2));
     bench.forge_up(&octets("60 06 03 01 02 02"));
-    refuses(&bench, 13, |bench| bench.up());
-    let mut one = loopbacks(PROFILE, 2);
-    taken(one.send(2, &[1]));
-    taken(one.push(2));
-    one.forge_up(&octets("60 06 03 01 02 01"));
-    taken(one.up());
-    // One entry past the grant refuses the whole notice, one for a closed
-    // connection does not mend it.
-    one.forge_up(&octets("60 06 05 02 02 01 05 01"));
-    refuses(&one, 13, |bench| bench.up());
+    assert!(!taken(bench.up()).drop);
+    assert_eq!(report(&bench, 2), [3, 1, 0, 0, 0]);
+    // Each entry counts by itself, and the one for a closed connection is dropped.
+    bench.forge_up(&octets("60 06 07 03 02 01 03 08 05 01"));
+    assert!(taken(bench.up()).drop);
+    assert_eq!(report(&bench, 2), [4, 1, 0, 0, 0]);
+    assert_eq!(report(&bench, 3), [10, 0, 0, 0, 0]);
+    bench.forge_up(&octets("02 03 01 AA"));
+    assert_eq!(taken(bench.up()).message, Some(vec![0xAA]));
+    assert_eq!(report(&bench, 2), [7, 1, 0, 0, 0]);
 }
 
 #[test]
-fn up_judges_a_notice_in_segments_when_it_is_whole() {
+fn up_takes_a_notice_in_segments_past_the_grant_when_it_is_whole() {
     let mut bench = loopbacks(PROFILE, 1);
     bench.forge_up(&octets("70 06 02 01 02"));
     bench.forge_up(&octets("60 06 01 01"));
     taken(bench.up());
-    refuses(&bench, 13, |bench| bench.up());
-    taken(bench.send(2, &[1]));
-    taken(bench.push(2));
-    taken(bench.up());
     assert_eq!(report(&bench, 2)[0], 2);
+    taken(bench.up());
+    assert_eq!(report(&bench, 2)[0], 3);
 }

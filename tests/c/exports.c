@@ -113,6 +113,7 @@ static int refuse(void) {
     area[NCI_AREA_SIZE - 512] = 0;
     HOLDS(nci_down(BENCH) == NCI_RECORD_DAMAGED && nci_packet(BENCH, 0, 0) == NCI_RECORD_DAMAGED);
     HOLDS(strcmp(nci_card(NCI_NOTHING_TO_MOVE), "there is nothing to move") == 0);
+    HOLDS(strcmp(nci_card(13), "no answer of the bench") == 0 && strcmp(nci_card(16), nci_card(13)) == 0);
     HOLDS(area[NCI_AREA_SIZE] == 0x5A);
     return 0;
 }

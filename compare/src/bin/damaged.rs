@@ -23,15 +23,15 @@ fn main() -> ExitCode {
     }
     let both = &damage.after.both;
     println!(
-        "difference=none seed={seed} made={} benches={} passed={} refusal1={} short={} looks={} pastgrant={} replaced={} {}",
+        "difference=none seed={seed} made={} benches={} passed={} refusal1={} short={} looks={} replaced={} {} {}",
         damage.calls(),
         damage.benches,
         damage.passed,
         both.damaged,
         both.short,
         both.looks,
-        both.past_grant,
         both.replaced,
+        both.past_grant.fields(),
         both.tally.fields()
     );
     ExitCode::SUCCESS

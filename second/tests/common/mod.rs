@@ -5,6 +5,7 @@ use exam_bench::bench::{Bench, WIRE_SLOTS};
 use exam_bench::call::{Call, Outcome};
 use exam_bench::controller::Rf;
 use exam_bench::observer::{Event, Observer};
+use exam_bench::trial::grants::{self, Source, Sum};
 
 /// The profile that a sheet starts with: control 32, dynamic 4 and 2 credits,
 /// static 4 and 1 credit.
@@ -163,6 +164,22 @@ pub fn takes(bench: &Bench, call: impl FnOnce(&mut Bench) -> Outcome) -> Outcome
 
 pub fn report(bench: &Bench, conn: u8) -> Vec<u8> {
     taken(bench.report(conn)).message.unwrap()
+}
+
+/// The sums of credits that a taken call made. Each has come to its octet, less what the
+/// packet that a loopback returned carries of it.
+pub fn check_sums(before: &Bench, call: &Call, after: &Bench) -> Vec<Sum> {
+    let sums = grants::sums(before, call);
+    for sum in &sums {
+        let count = match sum.source {
+            Source::Notice | Source::Data => after.host().connection(sum.conn).unwrap().held(),
+            Source::Consume => after.controller().connection(sum.conn).unwrap().owed(),
+        };
+        let loops_back = sum.source == Source::Consume && sum.conn != 0;
+        let carried = if loops_back { sum.as_octet().min(3) } else { 0 };
+        assert_eq!(count, sum.as_octet() - carried, "{sum:?}");
+    }
+    sums
 }
 
 // Histories.
