@@ -70,7 +70,7 @@ extern "C" {
 #define NCI_OID_MAX 63u           /* greatest opcode identifier */
 #define NCI_NO_FLOW_CONTROL 255u  /* credits of a connection without flow control */
 
-/* ---- answers: 0, or why a call was not taken. nci_card says each in words. There is no 13. */
+/* ---- answers: 0, or why a call was not taken. nci_card says each in words. */
 
 #define NCI_TAKEN 0u
 #define NCI_RECORD_DAMAGED 1u

@@ -37,8 +37,8 @@ DAMAGED_CALLS = 1_000_000
 SANITIZED_CALLS = 100_000
 VALGRIND_CALLS = 3_000
 # of calls on damaged benches at least so many bring credits past a grant, and past 255, by each of what adds credits
-PAST_GRANT = 200
-PAST_255 = 50
+PAST_GRANT = 500
+PAST_255 = 100
 # octets of stack that suffice for every call
 STACK = 12_288
 

@@ -1,4 +1,5 @@
-//! The observer's account on random lists, and that the observer notices faults.
+//! The observer's account on random lists, that the trial notices credits past a grant,
+//! and the observer faults.
 
 mod common;
 use common::*;
@@ -332,4 +333,15 @@ fn a_refusal_that_did_something_is_noticed() {
         events[place].outcome.answer = 8;
     });
     assert!(fault.unwrap_err().contains("refused"));
+}
+
+/// 1 and 2 are about octets, 13 and 16 are not on the card.
+#[test]
+fn an_answer_that_no_call_gives_here_is_noticed() {
+    for answer in 1..=255 {
+        let outcome = Outcome { answer, ..Outcome::default() };
+        let given = (3..=15).contains(&answer) && answer != 13;
+        let verdict = verdict(|events| events.push(Event { call: Call::Credit, outcome }));
+        assert_eq!(verdict.is_ok(), given, "{answer}");
+    }
 }

@@ -1,6 +1,6 @@
-//! Plays random lists of calls with demand 3's observer checking after each call:
-//! `demand3 [calls] [seed]`. Prints one line of fields; on a mismatch prints the
-//! list that shows it and fails.
+//! Plays random lists of calls with demand 3's observer checking after each call, and
+//! that credits stay within the grant: `demand3 [calls] [seed]`. Prints one line of
+//! fields; on a mismatch prints the list that shows it and fails.
 
 use std::process::ExitCode;
 

@@ -1,12 +1,10 @@
 -- `bench::exports::nci_up` meets its contract: not entered, refused, or taken.
 -- Assumes nothing.
-use Rattle.views.specs.Moves.{Sound}
-use Rattle.state.specs.declared.kinds.Record.{Record}
 use Rattle.model.specs.calls.Up.{upRules}
 use Rattle.calls.specs.calls.Up.{upped, upCall}
 use Rattle.calls.proofs.Able.{up-able}
 use mathlib.Core.Path.{subst}
-use Rattle.record.specs.Fit.{Fit}
+use Rattle.views.specs.Moves.{Sound}
 use mathlib.Core.Path.{refl, sym, _∙_}
 use denote.Ref.{now}
 use lib.ListN.{length}
@@ -33,12 +31,7 @@ returns c =
     called-unentered _ _ (now (s .args .area)) (now (s .args .out)) (c .before .enter .result .answer) (c .before .enter .ensures .answer) (c .if1 .taken)
 
 refusal-requires : tie.Need-refusal-requires
-refusal-requires c κs =
-    let s = c .before .before .before .before .before .before .before in
-    let e = c .before .before .before .enter .ensures in
-    let z = c .before .before .if1 .left in
-    let x = entered (now (s .args .area)) (length (now (s .args .out))) (sym z ∙ e .answer) in
-    subst (λ (r : Record). Sound (now (s .args .area)) r) (sym (e .loads z)) (x .sound)
+refusal-requires c κs = search needs
 
 cast-result-2 : tie.Need-cast-result-2
 cast-result-2 c = search needs
@@ -49,25 +42,24 @@ same-length-2 c = search needs
 returns-2 : tie.Need-returns-2
 unfolding upCall
 returns-2 c =
-    let s = c .before .before .before .before .before .before .before .before .before in
+    let s = c .before .before .before .before .before .before .before .before in
     let a = now (s .args .area) in
     let out = now (s .args .out) in
-    let e = c .before .before .before .before .before .enter .ensures in
-    let same = e .loads (c .before .before .before .before .if1 .left) in
-    let n = c .before .refusal .ensures ∙ (λ i. lowest (upRules (view a (same i)))) in
-    called-refused _ _ a out (sym (c .before .before .before .before .if1 .left) ∙ e .answer) (c .before .refusal .result) n (c .if2 .taken)
+    let e = c .before .before .before .before .enter .ensures in
+    let same = e .loads (c .before .before .before .if1 .left) in
+    let n = c .before .refusal .ensures a ∙ (λ i. lowest (upRules (view a (same i)))) in
+    called-refused _ _ a out (sym (c .before .before .before .if1 .left) ∙ e .answer) (c .before .refusal .result) n (c .if2 .taken)
 
 act-requires : tie.Need-act-requires
 act-requires c κs =
-    let s = c .before .before .before .before .before .before .before .before .before .before .before in
+    let s = c .before .before .before .before .before .before .before .before .before .before in
     let a = now (s .args .area) in
     let out = now (s .args .out) in
-    let e = c .before .before .before .before .before .before .before .enter .ensures in
-    let z = c .before .before .before .before .before .before .if1 .left in
+    let e = c .before .before .before .before .before .before .enter .ensures in
+    let z = c .before .before .before .before .before .if1 .left in
     let x = entered a (length out) (sym z ∙ e .answer) in
-    let r = c .before .before .before .before .before .before .before .enter .result .«record» in
-    let fit = subst Fit (sym (e .loads z)) (x .sound .fit) in
-    (x .long, x .room, up-able a r (subst (λ (r : Record). Sound a r) (sym (e .loads z)) (x .sound)) (sym (c .before .before .if2 .left) ∙ c .before .before .before .refusal .ensures))
+    let r = c .before .before .before .before .before .before .enter .result .«record» in
+    (x .long, x .room, up-able a r (subst (Sound a) (sym (e .loads z)) (x .sound)) (sym (c .before .before .if2 .left) ∙ c .before .before .before .refusal .ensures a))
 
 same-length-3 : tie.Need-same-length-3
 same-length-3 c = search needs
@@ -78,13 +70,13 @@ same-length-4 c = search needs
 returns-3 : tie.Need-returns-3
 unfolding upCall
 returns-3 c =
-    let s = c .before .before .before .before .before .before .before .before .before .before .before .before .before .before .before .before in
+    let s = c .before .before .before .before .before .before .before .before .before .before .before .before .before .before .before in
     let a = now (s .args .area) in
     let out = now (s .args .out) in
-    let e = c .before .before .before .before .before .before .before .before .before .before .before .before .enter .ensures in
-    let z = c .before .before .before .before .before .before .before .before .before .before .before .if1 .left in
+    let e = c .before .before .before .before .before .before .before .before .before .before .before .enter .ensures in
+    let z = c .before .before .before .before .before .before .before .before .before .before .if1 .left in
     let same = e .loads z in
-    let none = sym (c .before .before .before .before .before .before .before .if2 .left) ∙ c .before .before .before .before .before .before .before .before .refusal .ensures ∙ (λ i. lowest (upRules (view a (same i)))) in
+    let none = sym (c .before .before .before .before .before .before .before .if2 .left) ∙ c .before .before .before .before .before .before .before .before .refusal .ensures a ∙ (λ i. lowest (upRules (view a (same i)))) in
     c .before .before .before .before .act .ensures
     ∙ (λ i. upped (same i) a out)
     ∙ called-taken _ _ a out (sym z ∙ e .answer) refl none

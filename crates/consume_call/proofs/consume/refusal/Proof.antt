@@ -34,10 +34,10 @@ returns c =
       c .before .choose3 .ensures,
       c .before .before .choose2 .ensures,
       c .before .before .before .before .choose .ensures,
-      c .before .before .before .before .before .place-of .ensures,
-      c .before .before .before .before .before .before .before .counts-of .ensures,
+      c .before .before .before .before .before .before .place-of .ensures,
+      c .before .before .before .before .before .before .before .before .counts-of .ensures,
     )
-    (sym (ap lowest (consume-tests a (c .before .before .before .before .before .before .before .before .before .before .args .r) (c .before .before .before .before .before .before .before .before .before .before .args .conn))))
+    (sym (ap lowest (consume-tests a (c .before .before .before .before .before .before .before .before .before .before .before .args .r) (c .before .before .before .before .before .before .before .before .before .before .before .args .conn))))
 
 pub refusal-spec : {M : Type 1} → statement M
 refusal-spec =
