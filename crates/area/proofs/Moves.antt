@@ -3,14 +3,14 @@
 use Prim.Native.Nat.{ℕ, zero, suc, _+_, _-_, _≤_, _<_}
 use native.Mathlib.Omega.{arith}
 use mathlib.Core.Path.{_≡_, refl, sym, ap, _∙_}
-use mathlib.Core.Bool.{Bool, true}
+use mathlib.Core.Bool.{Bool}
 use mathlib.Core.List.{List, [], _∷_, _++_, map}
 use lib.ListN.{length, take, drop, set, length-take}
 use lib.Dec.{ltb}
 use borrow.Author.Tests.{lt-ltb, le-ltb}
 use Rattle.octets.specs.Octets.{Octets, pick, cut, over, splice}
 use Rattle.octets.specs.Octal.{Octal}
-use Rattle.octets.proofs.Octets.{cut-part, length-cut, length-splice, splice-nil, splice-lent, drop-splice, cut-grown}
+use Rattle.octets.proofs.Octets.{cut-part, length-cut, length-splice, splice-nil, splice-lent, drop-splice}
 use Rattle.octets.proofs.Octal.{octal-splice}
 use Rattle.packets.specs.declared.Header.{Header}
 use Rattle.packets.specs.declared.Reading.the-variants.{Packet}
@@ -21,7 +21,6 @@ use Rattle.packets.proofs.Segments.{body-segment, segments-step}
 use Rattle.state.specs.declared.kinds.Progress.{Progress}
 use Rattle.state.specs.declared.kinds.Ring.{Ring}
 use Rattle.state.specs.Runs.{within}
-use Rattle.state.proofs.Progress.{within-room}
 use Rattle.state.proofs.Chains.{on}
 use Rattle.area.specs.Map.{payloadSize, slotSize, wireSlots, areaSize}
 use Rattle.area.specs.Ring.{freeAt, putInto}
@@ -71,14 +70,6 @@ module _ (limit base : ℕ) (a : Octets) (p : Progress) (v : Octets) where
   pub octal-run : Octal a → Octal v → Octal (runArea limit base a p v)
   unfolding runArea
   octal-run o k = on Octal (within limit p (length v)) (λ _. octal-splice (base + p .len) o k) (λ _. o)
-
-  -- where the segment is within the limit, the run's octets are those before it and its own
-  pub run-grown : within limit p (length v) ≡ true → base + limit ≤ length a
-      → cut base (p .len + length v) (runArea limit base a p v) ≡ cut base (p .len) a ++ v
-  unfolding runArea
-  run-grown e room =
-      let fits = within-room limit p (length v) e in
-      ap (λ (b : Bool). cut base (p .len + length v) (pick b (splice a (base + p .len) v) a)) e ∙ cut-grown a base (p .len) v (omega arith)
 
 -- ---- zeros
 

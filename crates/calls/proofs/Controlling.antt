@@ -36,7 +36,7 @@ use Rattle.model.specs.Connection as connection
 use Rattle.model.specs.State as bench
 use Rattle.model.specs.Changes.{atHost}
 use Rattle.model.specs.Effects.{Effect, up, taken}
-use Rattle.model.specs.Runs.{runAfter, wholeBy, flagBy}
+use Rattle.model.specs.Runs.{runAfter, flagBy}
 use Rattle.model.specs.calls.Up.{understanding, hearing, heard}
 use Rattle.calls.specs.Word.{wordOf}
 use Rattle.calls.specs.Outcome.{outcome}

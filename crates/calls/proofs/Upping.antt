@@ -34,7 +34,7 @@ use Rattle.model.specs.Runs.{wholeBy, flagBy}
 use Rattle.model.specs.Bench.{act}
 use Rattle.model.specs.calls.Up.{coming, reading, upRules}
 use Rattle.model.proofs.Order.{need}
-use Rattle.calls.specs.calls.Up.{upSlot, upRead, upPayload, upRecord, heardJoin, heardArea, heardMessage, Uppable}
+use Rattle.calls.specs.calls.Up.{upSlot, upRead, upPayload, upRecord, heardJoin, heardMessage, Uppable}
 
 -- ---- the first packet
 

@@ -5,7 +5,7 @@ use Prim.Native.Nat.{ℕ, zero, suc, _+_}
 use mathlib.Core.Bool.{Bool, true, false, _&&_, _||_, not}
 use mathlib.Core.List.{List}
 use lib.ListN.{getD}
-use lib.Dec.{eqb, ltb}
+use lib.Dec.{eqb}
 use Rattle.octets.specs.Octets.{Octets, pick}
 use Rattle.state.specs.Names.{gidCore, oidReset, oidConnClose, statusOk}
 use Rattle.packets.specs.Types.{mtResponse, mtNotification}

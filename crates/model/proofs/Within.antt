@@ -1,10 +1,10 @@
 -- On any bench, whether calls made it or not: a call that number 13 would not have refused leaves credits within the grants.
 -- Assumes nothing.
-use Prim.Native.Nat.{ℕ, _+_, _-_, _%_, _≤_, _<_}
+use Prim.Native.Nat.{ℕ, _+_, _≤_}
 use native.Mathlib.Omega.{arith}
-use mathlib.Core.Path.{_≡_, refl, ap, _∙_, sym, subst}
-use mathlib.Core.Bool.{Bool, true, false, not, _&&_, _||_}
-use mathlib.Core.List.{List, [], _∷_, _++_}
+use mathlib.Core.Path.{_≡_}
+use mathlib.Core.Bool.{Bool, true, false, not, _&&_}
+use mathlib.Core.List.{List, [], _∷_}
 use lib.Dec.{eqb, ltb, leb}
 use lib.ListN.{drop}
 use borrow.Author.Tests.{leb-false, ltb-false}
@@ -19,7 +19,7 @@ use Rattle.nfcc.specs.Controller.{judgeOf}
 use Rattle.dh.specs.Host.{hearOf}
 use Rattle.ends.specs.Changes.{Change, stays, opens, closes, gives, changeBy, changeAired, changeHeard, creditsOf}
 use Rattle.wires.specs.Meaning.{Meaning, datum, control, junk, meaning}
-use Rattle.model.specs.Connection.{HostEnd, ControllerEnd, Connection, withHost, withController, sent, pushed, heardData, credited, stored, paid, noticed, spoken}
+use Rattle.model.specs.Connection.{HostEnd, ControllerEnd, Connection, withHost, withController, sent, pushed, heardData, credited, stored, paid, spoken}
 use Rattle.model.specs.State.{State, ControlRun, isOpen, at, withDown, withUp, withHearing, withAsking}
 use Rattle.model.specs.Effects.{Call, fresh, power, command, send, push, down, consume, credit, air, reply, up, report, Result, Effect, flaggedAs, taken, refused}
 use Rattle.model.specs.Refusals.{first, noConn, ids, isHeld}

@@ -234,16 +234,6 @@ cut-copied z m v n long room e =
     ∙ ap (λ (k : ℕ). take k (splice z 0 v)) (sym long)
     ∙ cut-same z 0 v (omega arith))
 
--- `&m[0..n + k]`: two parts, copied one after the other
-pub cut-joined : (z y m v w : Octets) (n k : ℕ) → length v ≡ n → length w ≡ k → n + k ≤ length z → y ≡ splice z 0 v → m ≡ splice y n w
-    → take (n + k - 0) (drop 0 m) ≡ v ++ w
-cut-joined z y m v w n k lv lw room ey em =
-    cut-copied z m (v ++ w) (n + k) (length-append v w ∙ (λ i. lv i + lw i)) room
-    (em
-    ∙ (λ i. splice (ey i) (sym lv i) w)
-    ∙ ap (λ (j : ℕ). splice (splice z 0 v) j w) (omega arith)
-    ∙ splice-next z 0 v w)
-
 -- `&m[i..i + n]`: a part of what was copied
 pub cut-of-copy : (z m v : Octets) (i n : ℕ) → i + n ≤ length v → length v ≤ length z → m ≡ splice z 0 v
     → take (i + n - i) (drop i m) ≡ cut i n v

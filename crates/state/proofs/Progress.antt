@@ -92,7 +92,7 @@ module _ (k : ControlRun) (h : Header) (n : ℕ) where
   unfolding controlJoined
   control-fits = joined-fits controlLimit (runFor k h) (h .pbf) n
 
-  pub control-within : controlJoined k h n .done ≡ true → within controlLimit (runFor k h) n ≡ true
+  control-within : controlJoined k h n .done ≡ true → within controlLimit (runFor k h) n ≡ true
   unfolding controlJoined
   control-within e = done-within controlLimit (runFor k h) (h .pbf) n e
 
