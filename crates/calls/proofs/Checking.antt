@@ -1,10 +1,10 @@
 -- Number 13, which the card had: a call that it would not have stopped leaves a good record; and with it and without, the bench answers every list of calls
 -- from a fresh one the same.
 -- Assumes nothing.
-use Prim.Native.Nat.{_+_}
+use Prim.Native.Nat.{_+_, _≤_}
 use mathlib.Core.Path.{_≡_, refl, sym, ap, _∙_, subst}
 use mathlib.Core.Bool.{Bool, true, false}
-use mathlib.Core.List.{List, [], _∷_}
+use mathlib.Core.List.{List, [], _∷_, _++_}
 use lib.ListN.{length}
 use lib.Dec.{ltb}
 use borrow.Author.Tests.{ltb-true, ltb-false}
@@ -14,12 +14,14 @@ use Rattle.record.specs.Reading.{decodeOf}
 use Rattle.record.proofs.Fits.{judged-granted}
 use Rattle.views.specs.View.{viewOf}
 use Rattle.views.proofs.Credits.{granted-view}
-use Rattle.model.specs.Effects.{Call, fresh, power, command, send, push, down, consume, credit, air, reply, up, report, Result}
-use Rattle.model.specs.Refusals.{Rule, first}
+use Rattle.model.specs.Effects.{Call, fresh, power, command, send, push, down, consume, credit, air, reply, up, report, Result, taken, refused}
+use Rattle.model.specs.Refusals.{Rule, rule, first}
 use Rattle.model.specs.Observer.{Account, opening, observe}
-use Rattle.model.specs.Grants.{WithinGrants}
+use Rattle.model.specs.Bench.{rules}
+use Rattle.model.specs.Grants.{WithinGrants, pastGrant}
 use Rattle.model.proofs.Never.{kept-rules}
 use Rattle.model.proofs.Within.{step-within}
+use Rattle.calls.specs.Word.{answerIn}
 use Rattle.calls.specs.Outcome.{Outcome, decided, entryRules, called}
 use Rattle.calls.specs.Seen.{Puts, noPuts, putsAfter, seenBy}
 use Rattle.calls.specs.Refines.{Good}
@@ -29,6 +31,7 @@ use Rattle.calls.specs.calls.Fresh.{freshCall}
 use Rattle.calls.specs.Demand.{Key, perform, pressed, AllOctal}
 use Rattle.calls.specs.Checked.{performChecked, pressedChecked, outcomes, StaysGood, SameAsChecked}
 use Rattle.calls.proofs.Rules.{orElse, first-append}
+use Rattle.calls.proofs.Called.{enters, called-own}
 use Rattle.calls.proofs.Demanding.{all-refine, short-buffer, Stands, press, starts-standing}
 
 -- ---- on any good record
@@ -40,14 +43,43 @@ good-within a g = granted-view a (decodeOf a) (judged-granted a (g .judged))
 abbrev putsOf : Octets → Puts
 putsOf a = record { down = decodeOf a .down .head + decodeOf a .down .count; up = decodeOf a .up .head + decodeOf a .up .count }
 
+module _ (a out : Octets) (g : Good a) (room : messageSize ≤ length out) where
+  -- where none of the others applies, a last rule of 13 does
+  answers-13 : (rs : List Rule) (o : Outcome) → first rs ≡ taken → answerIn (called (rs ++ (rule 13 true ∷ [])) o a out .word) ≡ refused 13
+  unfolding first answerIn
+  answers-13 rs o t =
+      ap (λ (x : Outcome). answerIn (x .word))
+      (sym (called-own (rs ++ (rule 13 true ∷ [])) o a out (refused 13) (enters a (length out) (g .long) (g .judged) room)
+      (first-append rs (rule 13 true ∷ []) ∙ ap (λ (x : Result). orElse x (refused 13)) t)))
+
+  -- so the question was answered no where the call did not answer 13
+  answered-no : (rs : List Rule) (o : Outcome) (b : Bool) → (answerIn (called (rs ++ (rule 13 b ∷ [])) o a out .word) ≡ refused 13 → ⊥) → first rs ≡ taken → b ≡ false
+  answered-no rs o true e t = absurd (e (answers-13 rs o t))
+  answered-no rs o false e t = refl
+
+  not-past : (c : Call) → (answerIn (performChecked c a out .word) ≡ refused 13 → ⊥) → first (rules c (viewOf a)) ≡ taken → pastGrant c (viewOf a) ≡ false
+  not-past (fresh m) e t = refl
+  not-past power e t = refl
+  not-past (command gid oid m) e t = refl
+  not-past (send c m) e t = refl
+  not-past (push c) e t = refl
+  not-past down e t = refl
+  not-past (consume c) e t = answered-no _ _ _ e t
+  not-past credit e t = refl
+  not-past (air m) e t = refl
+  not-past reply e t = refl
+  not-past up e t = answered-no _ _ _ e t
+  not-past (report c) e t = refl
+
 pub stays-good : StaysGood
 stays-good k a v g e = go (ltb (length (k .out)) messageSize) refl
   where
     go : (b : Bool) → ltb (length (k .out)) messageSize ≡ b → Good (pressed k a .area)
     go true t = subst (λ (x : Outcome). Good (x .area)) (short-buffer a (k .out) g (ltb-true (length (k .out)) messageSize t) (k .call)) g
     go false t =
-        all-refine (k .call) (putsOf a) a (k .out) v g (ltb-false (length (k .out)) messageSize t) (record { down = refl; up = refl })
-        .good (step-within (k .call) (viewOf a) e (good-within a g))
+        let room = ltb-false (length (k .out)) messageSize t in
+        all-refine (k .call) (putsOf a) a (k .out) v g room (record { down = refl; up = refl })
+        .good (step-within (k .call) (viewOf a) (not-past a (k .out) g room (k .call) e) (good-within a g))
 
 -- ---- from a fresh bench
 

@@ -3,14 +3,13 @@
 -- Assumes nothing.
 use Prim.Native.Nat.{ℕ}
 use mathlib.Core.Path.{_≡_}
-use mathlib.Core.Bool.{false}
 use mathlib.Core.List.{List, [], _∷_}
 use Rattle.octets.specs.Octets.{Octets}
 use Rattle.octets.specs.Octal.{Octal}
 use Rattle.record.specs.Reading.{decodeOf}
 use Rattle.views.specs.View.{viewOf}
-use Rattle.model.specs.Effects.{Call, fresh, power, command, send, push, down, consume, credit, air, reply, up, report, taken}
-use Rattle.model.specs.Grants.{pastGrant, checkedRules}
+use Rattle.model.specs.Effects.{Call, fresh, power, command, send, push, down, consume, credit, air, reply, up, report, taken, refused}
+use Rattle.model.specs.Grants.{checkedRules}
 use Rattle.calls.specs.Word.{answerIn}
 use Rattle.calls.specs.Outcome.{Outcome, called}
 use Rattle.calls.specs.Refines.{Good}
@@ -54,9 +53,9 @@ outcomes press (k ∷ ks) a = press k a ∷ outcomes press ks (press k a .area)
 
 -- ---- the claims
 
--- on any area with a good record, whether calls made it or not: a call that the question would not have stopped leaves a good record
+-- on any area with a good record, whether calls made it or not: a call that did not answer 13 leaves a good record
 abbrev pub StaysGood : Type 0
-StaysGood = (k : Key) (a : Octets) → Octal (slice (k .call)) → Good a → pastGrant (k .call) (viewOf a) ≡ false → Good (pressed k a .area)
+StaysGood = (k : Key) (a : Octets) → Octal (slice (k .call)) → Good a → (answerIn (pressedChecked k a .word) ≡ refused 13 → ⊥) → Good (pressed k a .area)
 
 -- from a fresh bench every word, every area and every buffer is the same, octet for octet
 abbrev pub SameAsChecked : Type 0

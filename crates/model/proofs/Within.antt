@@ -2,7 +2,7 @@
 -- Assumes nothing.
 use Prim.Native.Nat.{ℕ, _+_, _≤_}
 use native.Mathlib.Omega.{arith}
-use mathlib.Core.Path.{_≡_}
+use mathlib.Core.Path.{_≡_, refl}
 use mathlib.Core.Bool.{Bool, true, false, not, _&&_}
 use mathlib.Core.List.{List, [], _∷_}
 use lib.Dec.{eqb, ltb, leb}
@@ -188,10 +188,11 @@ act-within reply s e h = reply-within s (s .conns 0 .controller .speech) h
 act-within up s e h = up-within s h (s .up) e
 act-within (report c) s e h = h
 
-pub step-within : (c : Call) (s : State) → pastGrant c s ≡ false → WithinGrants s → WithinGrants (step c s .effect .next)
+-- one that is refused changes nothing
+pub step-within : (c : Call) (s : State) → (first (rules c s) ≡ taken → pastGrant c s ≡ false) → WithinGrants s → WithinGrants (step c s .effect .next)
 unfolding step
-step-within c s e h = go (first (rules c s))
+step-within c s e h = go (first (rules c s)) refl
   where
-    go : (r : Result) → WithinGrants (judged r c s .effect .next)
-    go taken = act-within c s e h
-    go (refused n) = h
+    go : (r : Result) → first (rules c s) ≡ r → WithinGrants (judged r c s .effect .next)
+    go taken t = act-within c s (e t) h
+    go (refused n) t = h
