@@ -3,6 +3,7 @@
 use compare::both::Both;
 use compare::record::{RECORD_AT, SLOT, STORES_AT, STORE_SLOTS, UP_AT};
 use exam_bench::call::Call;
+use exam_bench::connection::CONN_IDS;
 
 const PROFILE: [u8; 5] = [0x20, 4, 2, 4, 1];
 /// Where the record says how many packets are on the up wire, and which slot is first.
@@ -168,24 +169,20 @@ fn a_notice_is_added_entry_by_entry() {
 #[test]
 fn a_packet_consumed_past_the_grant_is_added() {
     for (granted, owed, past) in [(0, 0, 1), (1, 0, 0), (1, 1, 1), (8, 7, 0), (8, 8, 1), (254, 254, 1)] {
-        let mut both = active();
-        let at = numbers(0) + CONTROLLER_GRANT;
-        grant(&mut both, at, granted, owed);
-        store(&mut both, 0, &[0x00, 0x00, 0x01, 0x07]);
-        step(&mut both, Call::Consume(0));
-        assert_eq!(both.past_grant.calls, [0, 0, past]);
-        check_sum(&mut both, at, granted, owed + 1);
-
-        let mut both = with_loopback();
-        let at = numbers(1) + CONTROLLER_GRANT;
-        grant(&mut both, at, granted, owed);
-        store(&mut both, 1, &[0x02, 0x00, 0x01, 0x07]);
-        step(&mut both, Call::Consume(2));
-        assert_eq!(both.past_grant.calls, [0, 0, past]);
-        let carried = (owed + 1).min(3);
-        let put = [0x02, carried, 0x01, 0x07];
-        assert!(both.second.as_ref().is_some_and(|bench| bench.up_wire.back().unwrap()[..] == put));
-        check_sum(&mut both, at, granted, owed + 1 - carried);
+        for place in [0, 1] {
+            let (mut both, conn) = (with_loopback(), CONN_IDS[place]);
+            let at = numbers(place) + CONTROLLER_GRANT;
+            grant(&mut both, at, granted, owed);
+            store(&mut both, place, &[conn, 0x00, 0x01, 0x07]);
+            step(&mut both, Call::Consume(conn));
+            assert_eq!(both.past_grant.calls, [0, 0, past]);
+            let carried = if place == 0 { 0 } else { (owed + 1).min(3) };
+            if place == 1 {
+                let put = [conn, carried, 0x01, 0x07];
+                assert!(both.second.as_ref().is_some_and(|bench| bench.up_wire.back().unwrap()[..] == put));
+            }
+            check_sum(&mut both, at, granted, owed + 1 - carried);
+        }
     }
 }
 

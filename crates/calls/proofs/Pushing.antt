@@ -22,42 +22,34 @@ use Rattle.state.specs.Conn.{placeOf, countsOf, flows, handAfter}
 use Rattle.state.proofs.Chains.{on}
 use Rattle.dh.specs.Host.{isClosing}
 use Rattle.area.specs.Map.{areaSize, messageSize, wireSlots, places, downAt, handAt}
-use Rattle.area.specs.Ring.{freeAt, packetsFrom, tab}
-use Rattle.area.proofs.Rings.{length-packets}
+use Rattle.area.specs.Ring.{freeAt}
 use Rattle.area.proofs.Moves.{segment-short}
 use Rattle.record.specs.Reading.{decodeOf}
-use Rattle.record.specs.Layout.{bit}
-use Rattle.record.specs.Claims.{stored}
 use Rattle.record.specs.Fit.{Shape, Fit, FitCounts, FitHand}
 use Rattle.record.specs.Small.{SmallCounts, Small}
 use Rattle.record.specs.Plan.{withConns}
 use Rattle.record.proofs.Small.{small-decode}
 use Rattle.record.proofs.Conns.{conns-set}
-use Rattle.record.proofs.Stored.{stored-long, stored-record, stored-judged, stored-octal}
-use Rattle.views.specs.View.{handOf, downOf, view, viewOf}
+use Rattle.views.specs.View.{handOf, downOf, view}
 use Rattle.views.specs.Moves.{Sound}
 use Rattle.views.proofs.Whole.{moves}
 use Rattle.views.proofs.Tests.{down-full-one, hand-nil}
-use Rattle.views.proofs.Stored.{stored-view}
-use Rattle.views.proofs.Credits.{view-granted}
 use Rattle.model.specs.Connection.{Connection}
 use Rattle.model.specs.Connection as connection
 use Rattle.model.specs.State as bench
-use Rattle.model.specs.Effects.{push, taken}
+use Rattle.model.specs.Effects.{Effect, push, taken}
 use Rattle.model.specs.Refusals.{Rule, rule, first, noConn}
 use Rattle.model.specs.calls.Push.{pushing, pushRules}
 use Rattle.model.specs.Bench.{act, judged}
-use Rattle.model.specs.Grants.{WithinGrants}
-use Rattle.model.specs.Observer.{eventOf}
 use Rattle.model.proofs.Needs.{need}
-use Rattle.calls.specs.Word.{wordOf, answerIn, droppedIn, handedIn, lengthIn, downIn, upIn}
 use Rattle.calls.specs.Outcome.{lowest}
-use Rattle.calls.specs.Seen.{Puts, putsAfter, seenBy}
-use Rattle.calls.specs.Refines.{Good, Follows, Along, OnWires, RefinesTo, Refines}
-use Rattle.calls.specs.calls.Push.{hostSide, pushedSide, pushedRecord, pushedSegment, pushedPacket, pushedSlot, pushedWord, pushed, pushCall, Pushable}
+use Rattle.calls.specs.Seen.{Puts}
+use Rattle.calls.specs.Refines.{Good, Follows, Along, RefinesTo, Refines}
+use Rattle.calls.specs.calls.Push.{hostSide, pushedSide, pushedRecord, pushedSegment, pushedPacket, pushedSlot, pushed, pushCall, Pushable}
 use Rattle.calls.proofs.Rules.{first-taken}
 use Rattle.calls.proofs.Called.{sound-area}
-use Rattle.calls.proofs.Refining.{puts-seen, at-const, called-refines}
+use Rattle.calls.proofs.Refining.{at-const, called-refines}
+use Rattle.calls.proofs.Taken.{added-none, added-one, took-refines}
 
 -- ---- the rules on numbers
 
@@ -173,12 +165,6 @@ module _ (a out : Octets) (r : Record) (c : ℕ) (s : Sound a r) (small : Small 
   shape : Shape (pushedRecord r c)
   shape = push-shape r c p (s .shape)
 
-  abbrev area : Octets
-  area = stored (pushedSlot r c a) (pushedRecord r c)
-
-  after : decodeOf area ≡ pushedRecord r c
-  after = stored-record (pushedSlot r c a) (pushedRecord r c) moved-long fit shape
-
   -- first the connection's numbers, then the packet
   abbrev between : Record
   between = withConns (conn.withHost (r .ends .conns) c (pushedSide (hostSide r c))) r
@@ -205,69 +191,45 @@ module _ (a out : Octets) (r : Record) (c : ℕ) (s : Sound a r) (small : Small 
       moves a r s .counts-set c (new r c p (s .shape)) (p .place)
       ∙ (λ i. bench.withConns (at-const c becomes (view a r .conns) i) (view a r))
 
-  next-moved : view (pushedSlot r c a) (pushedRecord r c) ≡ bench.withDown (downOf a r ++ (pushedPacket r c a ∷ [])) (bench.withConns (bench.at c becomes (view a r .conns)) (view a r))
-  next-moved =
+  -- what the model does
+  abbrev does : Effect
+  does = pushing c (pushedSegment r c a ∷ rest) (view a r)
+
+  acts : act (push c) (view a r) ≡ does
+  acts i = pushing c (gone i) (view a r)
+
+  next-view : view (pushedSlot r c a) (pushedRecord r c) ≡ does .next
+  next-view =
       moves a between between-sound .put-down (marked (dataHeader c 0) (flag (pushedSegment r c a))) (body (pushedSegment r c a)) short (p .free)
       ∙ (λ i. bench.withDown (downOf a r ++ (pushedPacket r c a ∷ [])) (next-between i))
 
-  next-view : viewOf area ≡ bench.withDown (downOf a r ++ (pushedPacket r c a ∷ [])) (bench.withConns (bench.at c becomes (view a r .conns)) (view a r))
-  next-view = stored-view (pushedSlot r c a) (pushedRecord r c) moved-long fit shape ∙ next-moved
-
-  acts : act (push c) (view a r) ≡ pushing c (pushedSegment r c a ∷ rest) (view a r)
-  acts i = pushing c (gone i) (view a r)
-
-  octets-after : Octal a → Octal area
+  octets-after : Octal a → Octal (pushedSlot r c a)
   octets-after o =
       let message : Octets = cut (handAt (placeOf c)) (hostSide r c .hand .len) a in
       let part : Octal (body (pushedSegment r c a)) =
       subst Octal (sym (body-segment (ltb (hostSide r c .hand .at + hostSide r c .payload) (length message)) (cut (hostSide r c .hand .at) (hostSide r c .payload) message)))
       (octal-cut (hostSide r c .hand .at) (hostSide r c .payload) (octal-cut (handAt (placeOf c)) (hostSide r c .hand .len) o))
       in
-      stored-octal (pushedSlot r c a) (pushedRecord r c)
-      (octal-splice (freeAt downAt wireSlots (r .down)) o (octal-packet (marked (dataHeader c 0) (flag (pushedSegment r c a))) (body (pushedSegment r c a)) short part))
-      (push-small r c p (s .shape) small)
+      octal-splice (freeAt downAt wireSlots (r .down)) o (octal-packet (marked (dataHeader c 0) (flag (pushedSegment r c a))) (body (pushedSegment r c a)) short part)
 
-  module _ (q : Puts) (follows : Follows (q .down) (r .down)) (other : Follows (q .up) (r .up)) where
-    put-seen : packetsFrom downAt wireSlots area (q .down) 1 ≡ pushedPacket r c a ∷ []
-    put-seen =
-        puts-seen downAt area (r .down) (decodeOf area .down) (q .down) 1 (downOf a r) (pushedPacket r c a ∷ []) follows
-        (ap (λ (x : Record). x .down .head) after) (ap (λ (x : Record). x .down .count) after) (length-packets downAt wireSlots a (r .down)) (ap (λ (x : bench.State). x .down) next-view)
-
-    seen : seenBy (push c) q (pushed r c a out) ≡ eventOf (push c) (judged taken (push c) (view a r))
-    unfolding wordOf bit answerIn droppedIn handedIn lengthIn downIn upIn packetsFrom tab
-    seen =
-        (λ i. record { call = push c; answer = taken; dropped = false; toDown = put-seen i; toUp = []; message = [] })
-        ∙ sym (λ i. eventOf (push c) (record { answer = taken; effect = acts i }))
-
-    along : Along (putsAfter (push c) q pushedWord) area
-    unfolding wordOf bit answerIn downIn upIn
-    along =
-        record {
-          down = subst (λ (x : Record). Follows (q .down + 1) (x .down)) (sym after) (omega (arith, follows));
-          up = subst (λ (x : Record). Follows (q .up + 0) (x .up)) (sym after) (omega (arith, other));
-        }
-
-    on-wires : OnWires pushedWord area
-    unfolding wordOf bit downIn upIn
-    on-wires = record { down = omega (arith, ap (λ (x : Record). x .down .count) after); up = omega arith }
-
-    done : Octal a → RefinesTo (push c) q (pushed r c a out) (judged taken (push c) (view a r))
-    done o =
-        record {
-          good =
-              λ w.
-              record {
-                long = stored-long (pushedSlot r c a) (pushedRecord r c) moved-long;
-                judged =
-                    stored-judged (pushedSlot r c a) (pushedRecord r c) moved-long fit shape
-                    (view-granted (pushedSlot r c a) (pushedRecord r c) (subst WithinGrants ((λ i. acts i .next) ∙ sym next-moved) w));
-                octal = octets-after o;
-              };
-          event = seen;
-          next = next-view ∙ sym (λ i. acts i .next);
-          along = along;
-          there = on-wires;
-        }
+  done : (q : Puts) → Follows (q .down) (r .down) → Follows (q .up) (r .up) → Octal a → RefinesTo (push c) q (pushed r c a out) (judged taken (push c) (view a r))
+  done q down up o =
+      subst (λ (e : Effect). RefinesTo (push c) q (pushed r c a out) (record { answer = taken; effect = e })) (sym acts)
+      (took-refines (push c) q (pushedSlot r c a) out (pushedRecord r c) _ _ 0 1 0 does
+      (record {
+        long = moved-long;
+        fit = fit;
+        shape = shape;
+        octal = octets-after o;
+        small = push-small r c p (s .shape) small;
+        short = omega arith;
+        drop = refl;
+        message = refl;
+        next = next-view;
+        toDown = added-one (q .down) (r .down) (downOf a r) (pushedPacket r c a) down;
+        toUp = added-none (q .up) (r .up) (view a r .up) up;
+      })
+      refl)
 
 -- a push on octets is the model's push
 pub push-refines : (c : ℕ) (q : Puts) (a out : Octets) → Good a → messageSize ≤ length out → Along q a → Refines (push c) q a (pushCall a out c)

@@ -1,4 +1,4 @@
--- How a call's refinement is shown: refusals once for all calls, and packets put on a wire.
+-- How a call's refinement is shown: refusals once for all calls, packets put on a wire, and an area in which the record was written last.
 -- Assumes nothing.
 use Prim.Native.Nat.{ℕ, zero, suc, _+_, _%_, _/_, _≤_, _<_}
 use native.Mathlib.Nat.{add-zero, add-suc, suc-add, zero-add}
@@ -11,17 +11,24 @@ use lib.Seq.{drop-at}
 use lib.Dec.{eqb, ltb}
 use borrow.Author.Tests.{ltb-true, ne-eqb, eqb-true}
 use Rattle.octets.specs.Octets.{Octets, pick, cut}
-use Rattle.calls.specs.Kinds.{Ring}
+use Rattle.octets.specs.Octal.{Octal}
+use Rattle.calls.specs.Kinds.{Ring, Record}
 use Rattle.state.proofs.Chains.{and-left, and-right}
-use Rattle.area.specs.Map.{downAt, upAt, wireSlots, messageSize}
+use Rattle.area.specs.Map.{areaSize, downAt, upAt, wireSlots, messageSize}
 use Rattle.area.specs.Ring.{slotPacket, tab, packetsFrom, packetsIn}
 use Rattle.area.proofs.Rings.{tab-ext, length-tab}
-use Rattle.views.specs.View.{viewOf}
+use Rattle.record.specs.Claims.{stored}
+use Rattle.record.specs.Fit.{Shape, Fit}
+use Rattle.record.specs.Small.{Small}
+use Rattle.record.proofs.Stored.{stored-long, stored-judged, stored-octal}
+use Rattle.views.specs.View.{view, viewOf}
+use Rattle.views.proofs.Credits.{view-granted}
 use Rattle.model.specs.Connection.{Connection}
 use Rattle.model.specs.State.{at}
 use Rattle.model.specs.Effects.{Call, Result, taken, refused}
 use Rattle.model.specs.Refusals.{first}
 use Rattle.model.specs.Bench.{rules, judged, step}
+use Rattle.model.specs.Grants.{WithinGrants}
 use Rattle.calls.specs.Word.{answerIn, droppedIn, handedIn, lengthIn, downIn, upIn}
 use Rattle.calls.specs.Outcome.{Outcome, outcome, decided, called}
 use Rattle.calls.specs.Seen.{Puts, noPuts, restarts, putsAfter}
@@ -60,6 +67,16 @@ module _ (n : ℕ) (s : small n ≡ true) where
   refusal-up : upIn n ≡ 0
   unfolding upIn
   refusal-up = omega (arith, below)
+
+-- ---- an area in which the record n was written last
+
+pub stored-good : (x : Octets) (n : Record) → areaSize ≤ length x → Fit n → Shape n → Octal x → Small n → WithinGrants (view x n) → Good (stored x n)
+stored-good x n long fit shape octal small within =
+    record {
+      long = stored-long x n long;
+      judged = stored-judged x n long fit shape (view-granted x n within);
+      octal = stored-octal x n octal small;
+    }
 
 -- ---- packets put on a wire
 

@@ -24,10 +24,10 @@ use Rattle.record.specs.Reading.{decodeOf}
 use Rattle.record.specs.Layout.{bit}
 use Rattle.record.specs.Writing.{profileOctets, hostOctets, pendingOctets, controlRunOctets, controllerOctets, phaseOctet, rfOctets, pairsOctets}
 use Rattle.record.specs.Claims.{stored}
-use Rattle.record.specs.Fit.{Shape, Fit, FitCounts, Each, GrantedCounts, Granted}
+use Rattle.record.specs.Fit.{Shape, Fit, FitCounts, Each}
 use Rattle.record.specs.Small.{SmallCounts, Small}
 use Rattle.record.specs.Plan.{coldRecord}
-use Rattle.record.proofs.Stored.{stored-long, stored-record, stored-judged, stored-octal}
+use Rattle.record.proofs.Stored.{stored-record}
 use Rattle.views.specs.View.{viewOf}
 use Rattle.views.proofs.Stored.{stored-view}
 use Rattle.views.proofs.Others as views
@@ -35,6 +35,7 @@ use Rattle.model.specs.State.{cold}
 use Rattle.model.specs.Effects.{fresh, power, Result, taken, refused}
 use Rattle.model.specs.Refusals.{first}
 use Rattle.model.specs.Bench.{rules, judged}
+use Rattle.model.specs.Grants.{WithinGrants}
 use Rattle.calls.specs.Word.{wordOf, answerIn, droppedIn, handedIn, lengthIn, downIn, upIn}
 use Rattle.calls.specs.Outcome.{outcome, decided, lowest}
 use Rattle.calls.specs.Seen.{Puts, noPuts}
@@ -43,7 +44,7 @@ use Rattle.calls.specs.calls.Fresh.{roomRules, freshed, freshCall}
 use Rattle.calls.specs.calls.Power.{powered, powerCall}
 use Rattle.calls.proofs.Rules.{first-refused, first-taken}
 use Rattle.calls.proofs.Called.{sound-area}
-use Rattle.calls.proofs.Refining.{called-refines, decided-refines}
+use Rattle.calls.proofs.Refining.{stored-good, called-refines, decided-refines}
 
 -- ---- the cold record, for a profile within its limits
 
@@ -86,9 +87,6 @@ module _ (p : Profile) (w : ProfileWithin p) where
             });
       }
 
-  cold-granted : Granted (coldRecord p)
-  cold-granted = closed-all GrantedCounts p (record { held = omega arith; owed = omega arith })
-
   pub cold-shape : Shape (coldRecord p)
   cold-shape = record { pairs = refl; conns = refl }
 
@@ -115,11 +113,8 @@ module _ (p : Profile) (w : ProfileWithin p) where
   module _ (x : Octets) (long : areaSize ≤ length x) (o : Octal x) where
     pub cold-good : Good (stored x (coldRecord p))
     cold-good =
-        record {
-          long = stored-long x (coldRecord p) long;
-          judged = stored-judged x (coldRecord p) long cold-fit cold-shape cold-granted;
-          octal = stored-octal x (coldRecord p) o cold-small;
-        }
+        stored-good x (coldRecord p) long cold-fit cold-shape o cold-small
+        (subst WithinGrants (sym (views.cold-view x p)) (λ d five. record { held = omega arith; owed = omega arith }))
 
     pub cold-view : viewOf (stored x (coldRecord p)) ≡ cold p
     cold-view = stored-view x (coldRecord p) long cold-fit cold-shape ∙ views.cold-view x p

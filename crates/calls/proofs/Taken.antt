@@ -17,10 +17,9 @@ use Rattle.record.specs.Reading.{decodeOf}
 use Rattle.record.specs.Claims.{stored}
 use Rattle.record.specs.Fit.{Shape, Fit, FitRing}
 use Rattle.record.specs.Small.{Small}
-use Rattle.record.proofs.Stored.{stored-long, stored-record, stored-judged, stored-octal}
+use Rattle.record.proofs.Stored.{stored-record}
 use Rattle.views.specs.View.{view, viewOf}
 use Rattle.views.proofs.Stored.{stored-view}
-use Rattle.views.proofs.Credits.{view-granted}
 use Rattle.model.specs.State.{State}
 use Rattle.model.specs.Effects.{Call, Effect, taken}
 use Rattle.model.specs.Grants.{WithinGrants}
@@ -29,7 +28,7 @@ use Rattle.calls.specs.Outcome.{outcome}
 use Rattle.calls.specs.Seen.{Puts, starts}
 use Rattle.calls.specs.Refines.{Follows, Along, RefinesTo}
 use Rattle.calls.proofs.Words.{word-down, word-up, word-seen, word-puts}
-use Rattle.calls.proofs.Refining.{puts-seen}
+use Rattle.calls.proofs.Refining.{stored-good, puts-seen}
 
 -- ---- a wire
 
@@ -109,13 +108,7 @@ module _ (c : Call) (q : Puts) (x t : Octets) (n : Record) where
         let few-down = added-few downAt area (q .down) down (decodeOf area .down) (e .next .down) (e .toDown) downs on-down (fits .down) in
         let few-up = added-few upAt area (q .up) up (decodeOf area .up) (e .next .up) (e .toUp) ups on-up (fits .up) in
         record {
-          good =
-              λ w.
-              record {
-                long = stored-long x n (k .long);
-                judged = stored-judged x n (k .long) (k .fit) (k .shape) (view-granted x n (subst WithinGrants (sym (k .next)) w));
-                octal = stored-octal x n (k .octal) (k .small);
-              };
+          good = λ w. stored-good x n (k .long) (k .fit) (k .shape) (k .octal) (k .small) (subst WithinGrants (sym (k .next)) w);
           event =
               word-seen d h len down up (k .short) few-down few-up c q area t
               ∙ (λ i.

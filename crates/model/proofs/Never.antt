@@ -92,8 +92,8 @@ module _ (s : State) (aim : ℕ) (l : ℕ → Ledger) (f : Fine s aim l) (c : �
       go true y = lt-leb (s .conns c .controller .grant) (s .conns c .controller .owed) (room-owed o y (omega (arith, ap length e)) (f .good c .numbers))
       go false y = refl
 
-  consume-within : first (rules (consume c) s) ≡ taken → owesAll s c ≡ false
-  consume-within t =
+  consume-never : first (rules (consume c) s) ≡ taken → owesAll s c ≡ false
+  consume-never t =
       not-all-owed (s .conns c .controller .store) refl (need 8 (rules (consume c) s) t) (not-false _ (need 6 (rules (consume c) s) t))
 
 -- ---- up
@@ -170,8 +170,8 @@ module _ (s : State) (aim : ℕ) (l : ℕ → Ledger) (p : Octets) (w : List Oct
       go (inr e) = subst Spared (sym e) (spared 3 (notice-room gid oid m (means ∙ ap (λ (n : ℕ). control n gid oid (last m)) e)))
   not-too-many junk means k = refl
 
-up-within : (s : State) (aim : ℕ) (l : ℕ → Ledger) → Fine s aim l → firstTooMany s (s .up) ≡ false
-up-within s aim l f = go (s .up) f
+up-never : (s : State) (aim : ℕ) (l : ℕ → Ledger) → Fine s aim l → firstTooMany s (s .up) ≡ false
+up-never s aim l f = go (s .up) f
   where
     go : (w : List Octets) → Fine (withUp w s) aim l → firstTooMany (withUp w s) w ≡ false
     go [] f = refl
@@ -186,11 +186,11 @@ never (command gid oid m) s aim l f t = refl
 never (send c m) s aim l f t = refl
 never (push c) s aim l f t = refl
 never down s aim l f t = refl
-never (consume c) s aim l f t = consume-within s aim l f c t
+never (consume c) s aim l f t = consume-never s aim l f c t
 never credit s aim l f t = refl
 never (air m) s aim l f t = refl
 never reply s aim l f t = refl
-never up s aim l f t = up-within s aim l f
+never up s aim l f t = up-never s aim l f
 never (report c) s aim l f t = refl
 
 -- they follow from the invariant, whatever made it hold

@@ -39,8 +39,8 @@ abbrev GrantsIn : (ℕ → Connection) → Type 0
 GrantsIn g = (d : ℕ) → noConn d ≡ false → ConnWithin (g d)
 
 -- one of them changes
-at-within : (c : ℕ) (f : Connection → Connection) (g : ℕ → Connection) → (noConn c ≡ false → ConnWithin (g c) → ConnWithin (f (g c))) → GrantsIn g → GrantsIn (at c f g)
-at-within c f g k h = each c (λ d b. noConn d ≡ false → ConnWithin (pick b (f (g d)) (g d))) (λ e. k e (h c e)) h
+at-within : (c : ℕ) (f : Connection → Connection) (g : ℕ → Connection) → (ConnWithin (g c) → ConnWithin (f (g c))) → GrantsIn g → GrantsIn (at c f g)
+at-within c f g k h = each c (λ d b. noConn d ≡ false → ConnWithin (pick b (f (g d)) (g d))) (λ e. k (h c e)) h
 
 -- ---- what a change leaves
 
@@ -82,7 +82,7 @@ consume-within : (s : State) (c : ℕ) (st : List Octets) → pastGrant (consume
 consume-within s c [] e h = h
 consume-within s c (p ∷ st) e h =
     at-within c (λ k. withController (echoed (isLoop c) (joinedEnd (segmentIn (meaning p)) st (k .controller))) k) (s .conns)
-    (λ _ w. record { held = w .held; owed = consumed-within (isLoop c) (segmentIn (meaning p)) st (s .conns c .controller) e (w .owed) }) h
+    (λ w. record { held = w .held; owed = consumed-within (isLoop c) (segmentIn (meaning p)) st (s .conns c .controller) e (w .owed) }) h
 
 -- ---- up
 
@@ -90,7 +90,7 @@ module _ (s : State) (h : WithinGrants s) where
   data-within : (c n : ℕ) (x : Segment) → passing s c n ≡ false → GrantsIn (at c (λ k. withHost (heardData x (credited n (k .host))) k) (s .conns))
   data-within c n x e =
       at-within c (λ k. withHost (heardData x (credited n (k .host))) k) (s .conns)
-      (λ _ w. record { held = credited-within n (s .conns c .host) e (w .held); owed = w .owed }) h
+      (λ w. record { held = credited-within n (s .conns c .host) e (w .held); owed = w .owed }) h
 
   -- none of the five is above its grant
   each-below : (x : Heard) (m : Octets) → anyOf (above s x m) ids ≡ false → (d : ℕ) → noConn d ≡ false → above s x m d ≡ false
@@ -133,7 +133,7 @@ push-within : (s : State) (c : ℕ) (ss : List Segment) → WithinGrants s → W
 push-within s c [] h = h
 push-within s c (x ∷ ss) h =
     at-within c (λ k. withHost (pushed ss (k .host)) k) (s .conns)
-    (λ _ w. record { held = on (λ (n : ℕ). n ≤ s .conns c .host .grant) (flows (s .conns c .host .grant)) (λ _. omega (arith, w .held)) (λ _. w .held); owed = w .owed }) h
+    (λ w. record { held = on (λ (n : ℕ). n ≤ s .conns c .host .grant) (flows (s .conns c .host .grant)) (λ _. omega (arith, w .held)) (λ _. w .held); owed = w .owed }) h
 
 answering-within : (s : State) (gid oid : ℕ) (ms : List Octets) (b : Bool) → WithinGrants s → WithinGrants (answering gid oid ms b s .next)
 answering-within s gid oid [] b h = h
@@ -143,7 +143,7 @@ answering-within s gid oid (m ∷ ms) b h =
 arriving-within : (s : State) (q : Meaning) (p : Octets) → WithinGrants s → WithinGrants (arriving q p s .next)
 arriving-within s (datum c n x) p h =
     on (λ (e : Effect). WithinGrants (e .next)) (isOpen s c)
-    (λ _. at-within c (λ k. withController (stored p (k .controller)) k) (s .conns) (λ _ w. record { held = w .held; owed = w .owed }) h) (λ _. h)
+    (λ _. at-within c (λ k. withController (stored p (k .controller)) k) (s .conns) (λ w. record { held = w .held; owed = w .owed }) h) (λ _. h)
 arriving-within s (control mt gid oid x) p h =
     on (λ (e : Effect). WithinGrants (e .next)) (eqb mt 1)
     (λ _. answering-within (withAsking (runAfter (s .asking) 1 gid oid x) s) gid oid (wholeBy (s .asking) 1 gid oid x) (flagBy (s .asking) 1 gid oid x) h) (λ _. h)
@@ -165,12 +165,12 @@ air-within s (Goes rf l) m h = h
 air-within s (Activates rf l) m h = λ d five. controller-within (changeAired (termsOf (s .profile) 0) (Activates rf l) d) (s .conns d) (h d five)
 air-within s (Ends rf) m h = λ d five. controller-within (changeAired (termsOf (s .profile) 0) (Ends rf) d) (s .conns d) (h d five)
 air-within s Speaks m h =
-    at-within 0 (λ k. withController (spoken (segments 255 (drop 1 m)) (k .controller)) k) (s .conns) (λ _ w. record { held = w .held; owed = w .owed }) h
+    at-within 0 (λ k. withController (spoken (segments 255 (drop 1 m)) (k .controller)) k) (s .conns) (λ w. record { held = w .held; owed = w .owed }) h
 
 reply-within : (s : State) (ss : List Segment) → WithinGrants s → WithinGrants (replying ss s .next)
 reply-within s [] h = h
 reply-within s (x ∷ ss) h =
-    at-within 0 (λ k. withController (paid (spoken ss (k .controller))) k) (s .conns) (λ _ w. record { held = w .held; owed = omega (arith, w .owed) }) h
+    at-within 0 (λ k. withController (paid (spoken ss (k .controller))) k) (s .conns) (λ w. record { held = w .held; owed = omega (arith, w .owed) }) h
 
 -- ---- every call
 
@@ -178,7 +178,7 @@ act-within : (c : Call) (s : State) → pastGrant c s ≡ false → WithinGrants
 act-within (fresh m) s e h = λ d five. record { held = omega arith; owed = omega arith }
 act-within power s e h = λ d five. record { held = omega arith; owed = omega arith }
 act-within (command gid oid m) s e h = h
-act-within (send c m) s e h = at-within c (λ k. withHost (sent m (k .host)) k) (s .conns) (λ _ w. record { held = w .held; owed = w .owed }) h
+act-within (send c m) s e h = at-within c (λ k. withHost (sent m (k .host)) k) (s .conns) (λ w. record { held = w .held; owed = w .owed }) h
 act-within (push c) s e h = push-within s c (s .conns c .host .hand) h
 act-within down s e h = down-within s (s .down) h
 act-within (consume c) s e h = consume-within s c (s .conns c .controller .store) e h

@@ -1,5 +1,5 @@
 -- Credits within the grant. Until change 7 a consume or an up that would bring credits past a grant was refused with number 13; no list of calls from a
--- fresh bench ever meets that (`NeverPast` in Reachable), so the bench no longer asks. What 13 asked stays here, for that statement alone.
+-- fresh bench ever meets that (`NeverPast` in Reachable), so the bench no longer asks. What 13 asked stays here, for what is proved of it.
 -- Assumes nothing.
 use Prim.Native.Nat.{ℕ, _+_, _≤_}
 use mathlib.Core.Path.{_≡_}
