@@ -29,7 +29,7 @@ ghost use Rattle.calls.specs.calls.Air.{airCall};
 ghost use Rattle.calls.specs.calls.Report.{reportCall};
 ghost use Rattle.calls.specs.Packet.{packetCall};
 
-// A new bench with a profile of five octets.
+// A new bench with a profile of five octets or eleven.
 #[no_mangle]
 pub extern "C" fn nci_fresh(area: &mut [u8], out: &mut [u8], profile: &[u8]) -> u64
     ensures { λ w. ⌜ outcome w (now (area .exit)) (now (out .exit)) ≡ freshCall (now (area .entry)) (now (out .entry)) (now (profile .entry)) ⌝ }

@@ -26,7 +26,7 @@ ghost use lib.ListN.{length};
 ghost use Rattle.octets.specs.Octets.{splice};
 ghost use Rattle.state.specs.Conn.{closedCounts};
 ghost use Rattle.state.specs.Cold.{coldRun, coldEnds};
-ghost use Rattle.state.specs.Profile.{profileIn, profileOctetsOk};
+ghost use Rattle.state.specs.Profile.{termsPlace, termsIn, profileIn, profileOctetsOk};
 ghost use Rattle.area.specs.Map.{areaSize};
 ghost use Rattle.area.specs.Movers.{zeros};
 ghost use Rattle.record.specs.Claims.{stored};
@@ -37,25 +37,36 @@ ghost use Rattle.calls.specs.Outcome.{Lowest};
 ghost use Rattle.calls.specs.calls.Fresh.{quietWord, roomRules};
 ghost use Rattle.views.specs.View.{viewOf};
 
-// The profile that five octets are.
+// The terms that stand at one place in five octets, at another in eleven.
+fn terms_in(m: &[u8], five: u8, eleven: u8) -> Terms
+    ensures { λ t. ⌜ t ≡ termsIn (now (m .entry)) (termsPlace (now (m .entry)) five eleven) ⌝ }
+{
+    let at = choose(m.len() == 5, five, eleven) as usize;
+    let payload = octet_at(m, at);
+    let credits = octet_at(m, at + 1);
+    Terms {
+        payload: payload,
+        credits: credits,
+    }
+}
+
+// The profile that five or eleven octets are.
 fn profile_in(m: &[u8]) -> Profile
     ensures { λ p. ⌜ p ≡ profileIn (now (m .entry)) ⌝ }
 {
     let control = octet_at(m, 0);
-    let payload = octet_at(m, 1);
-    let credits = octet_at(m, 2);
-    let fixed_payload = octet_at(m, 3);
-    let fixed_credits = octet_at(m, 4);
+    let two = terms_in(m, 1, 1);
+    let three = terms_in(m, 1, 3);
+    let four = terms_in(m, 1, 5);
+    let five = terms_in(m, 1, 7);
+    let fixed = terms_in(m, 3, 9);
     Profile {
         control: control,
-        dynamic: Terms {
-            payload: payload,
-            credits: credits,
-        },
-        fixed: Terms {
-            payload: fixed_payload,
-            credits: fixed_credits,
-        },
+        two: two,
+        three: three,
+        four: four,
+        five: five,
+        fixed: fixed,
     }
 }
 
@@ -65,7 +76,7 @@ fn profile_ok(m: &[u8]) -> bool
 {
     let p = profile_in(m);
     let ok = profile::profile_ok(p);
-    (m.len() == 5) & ok
+    ((m.len() == 5) | (m.len() == 11)) & ok
 }
 
 // The number for which a fresh is not taken, 0 for none: for areas and buffers of these lengths.

@@ -25,7 +25,7 @@ use Rattle.model.specs.Observer.{Event, Account, opening, observe, observed, ev
 use Rattle.model.specs.Claim.{numbersOf, Claim}
 use Rattle.model.specs.invariant.Bench.{Kept}
 use Rattle.model.proofs.Fine.{kept, cold-fine}
-use Rattle.model.proofs.Messages.{profile-limits}
+use Rattle.state.proofs.Limits.{profile-limits}
 use Rattle.model.proofs.Trace.{step-keeps, kept-claim}
 use Rattle.model.proofs.Never.{answer-first, kept-within}
 use Rattle.calls.specs.Word.{answerIn, downIn, upIn}

@@ -10,7 +10,7 @@ use Rattle.views.specs.View.{viewOf}
 use Rattle.model.specs.State.{State, cold}
 use Rattle.model.specs.Observer.{Account, opening, observe}
 use Rattle.model.specs.Reachable.{LoopbacksPaid}
-use Rattle.model.proofs.Messages.{profile-limits}
+use Rattle.state.proofs.Limits.{profile-limits}
 use Rattle.model.proofs.Always.{Stays, step-stays}
 use Rattle.model.proofs.Paid.{act-paid, cold-paid}
 use Rattle.calls.specs.Outcome.{Outcome}

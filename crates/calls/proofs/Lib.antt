@@ -37,3 +37,4 @@ pub mod Lasting
 pub mod Displaying
 pub mod Playing
 pub mod Discarding
+pub mod Profiles

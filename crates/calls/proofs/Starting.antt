@@ -3,7 +3,7 @@
 use Prim.Native.Nat.{ℕ, zero, suc, _≤_}
 use mathlib.Core.Path.{_≡_, refl, sym, ap, _∙_, subst}
 use mathlib.Core.Bool.{Bool, true, false, not, false≢true}
-use mathlib.Core.List.{_++_}
+use mathlib.Core.List.{_∷_, _++_}
 use native.Mathlib.Omega.{arith}
 use lib.ListN.{length}
 use lib.Dec.{ltb, eqb}
@@ -13,10 +13,9 @@ use Rattle.octets.specs.Octal.{Octal, octal-nil, octal-cons}
 use Rattle.octets.proofs.Octets.{length-splice}
 use Rattle.octets.proofs.Octal.{octal-splice}
 use Rattle.calls.specs.Kinds.{Profile, Counts, Record}
-use Rattle.state.specs.Conn.{closedCounts}
-use Rattle.state.specs.Profile.{ProfileWithin, profileOk, profileIn, profileOctetsOk}
-use Rattle.state.proofs.Chains.{and-right}
-use Rattle.state.proofs.Limits.{profile-within, credits-small}
+use Rattle.state.specs.Conn.{termsOf, closedCounts}
+use Rattle.state.specs.Profile.{ProfileWithin, profileIn, profileOctetsOk}
+use Rattle.state.proofs.Limits.{profile-limits, credits-small}
 use Rattle.area.specs.Map.{areaSize, messageSize}
 use Rattle.area.specs.Movers.{zeros}
 use Rattle.area.specs.Ring.{packetsFrom, tab}
@@ -90,16 +89,17 @@ module _ (p : Profile) (w : ProfileWithin p) where
   pub cold-shape : Shape (coldRecord p)
   cold-shape = record { pairs = refl; conns = refl }
 
+  terms-octets : (c : ℕ) {l : Octets} → Octal l → Octal (termsOf p c .payload ∷ termsOf p c .credits ∷ l)
+  terms-octets c o = octal-cons (w .terms c .most) (octal-cons (credits-small _ (w .terms c .credits-ok)) o)
+
   pub cold-small : Small (coldRecord p)
-  unfolding profileOctets hostOctets pendingOctets controlRunOctets controllerOctets phaseOctet rfOctets pairsOctets bit zeros
+  unfolding termsOf profileOctets hostOctets pendingOctets controlRunOctets controllerOctets phaseOctet rfOctets pairsOctets bit zeros
   cold-small =
       record {
         own =
             record {
               profile =
-                  octal-cons (w .control-most)
-                  (octal-cons (w .dynamic .most) (octal-cons (credits-small _ (w .dynamic .credits-ok))
-                  (octal-cons (w .fixed .most) (octal-cons (credits-small _ (w .fixed .credits-ok)) (zero-octets 6)))));
+                  octal-cons (w .control-most) (terms-octets 2 (terms-octets 3 (terms-octets 4 (terms-octets 5 (terms-octets 0 octal-nil)))));
               host = octal-cons {x = 32} (omega arith) (zero-octets 4);
               hearing = zero-octets 6;
               controller = zero-octets 23;
@@ -154,9 +154,6 @@ module _ (a out m : Octets) where
   fresh-taken e = fresh-as taken (first-taken (roomRules (length a) (length out) ++ rules (fresh m) (viewOf a)) refl e)
 
 -- a profile that fresh takes is within its limits
-pub fresh-within : (m : Octets) → profileOctetsOk m ≡ true → ProfileWithin (profileIn m)
-fresh-within m ok = profile-within (profileIn m) (and-right (eqb (length m) 5) (profileOk (profileIn m)) ok)
-
 module _ (a m : Octets) (long : areaSize ≤ length a) (o : Octal a) (ok : profileOctetsOk m ≡ true) where
   abbrev cleared : Octets
   cleared = splice a 0 (zeros areaSize)
@@ -168,13 +165,13 @@ module _ (a m : Octets) (long : areaSize ≤ length a) (o : Octal a) (ok : profi
   cleared-octal = octal-splice 0 o (zero-octets areaSize)
 
   pub fresh-good : (out : Octets) → Good (freshed m a out .area)
-  fresh-good out = cold-good (profileIn m) (fresh-within m ok) cleared cleared-long cleared-octal
+  fresh-good out = cold-good (profileIn m) (profile-limits m ok) cleared cleared-long cleared-octal
 
   pub fresh-view : (out : Octets) → viewOf (freshed m a out .area) ≡ cold (profileIn m)
-  fresh-view out = cold-view (profileIn m) (fresh-within m ok) cleared cleared-long cleared-octal
+  fresh-view out = cold-view (profileIn m) (profile-limits m ok) cleared cleared-long cleared-octal
 
   pub fresh-along : (out : Octets) → Along noPuts (freshed m a out .area)
-  fresh-along out = cold-along (profileIn m) (fresh-within m ok) cleared cleared-long cleared-octal
+  fresh-along out = cold-along (profileIn m) (profile-limits m ok) cleared cleared-long cleared-octal
 
   pub fresh-done : (p : Puts) (out : Octets) → RefinesTo (fresh m) p (freshed m a out) (judged taken (fresh m) (viewOf a))
   unfolding wordOf bit answerIn droppedIn handedIn lengthIn downIn upIn packetsFrom tab

@@ -10,3 +10,4 @@ pub mod Reached
 pub mod Checked
 pub mod Played
 pub mod Discards
+pub mod Profiles

@@ -2,7 +2,7 @@
 -- Assumes nothing.
 use Prim.Native.Nat.{ℕ}
 use mathlib.Core.Path.{_≡_}
-use mathlib.Core.Bool.{Bool, false, _&&_}
+use mathlib.Core.Bool.{Bool, false, _&&_, _||_}
 use mathlib.Core.List.{[], _∷_}
 use lib.ListN.{length, drop, getD}
 use lib.Dec.{eqb, leb, ltb}
@@ -52,7 +52,7 @@ kindFits kind n =
     (pick (eqb kind 1) (leb 5 n) (pick (ltb kind 4) (leb 4 n) (pick (ltb kind 8) (eqb n 1) (leb 1 n))))
 
 abbrev pub fits : Name → Octets → Bool
-fits Fresh m = eqb (length m) 5
+fits Fresh m = eqb (length m) 5 || eqb (length m) 11
 fits Power m = eqb (length m) 0
 fits Command m = leb 2 (length m)
 fits Send m = leb 1 (length m)

@@ -74,7 +74,7 @@ fn fits(name: Name, args: &[u8]) -> bool
 {
     let n = args.len();
     match name {
-        Name::Fresh => n == 5,
+        Name::Fresh => (n == 5) | (n == 11),
         Name::Power => n == 0,
         Name::Command => 2 <= n,
         Name::Send => 1 <= n,

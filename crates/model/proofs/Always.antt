@@ -11,7 +11,7 @@ use Rattle.model.specs.Refusals.{first}
 use Rattle.model.specs.Bench.{rules, act, judged, step}
 use Rattle.model.specs.Observer.{Ledger, Account, opening, observe, eventOf, after}
 use Rattle.model.specs.Reachable.{Always}
-use Rattle.model.proofs.Messages.{profile-limits}
+use Rattle.state.proofs.Limits.{profile-limits}
 use Rattle.model.specs.invariant.Bench.{Fine, Kept}
 use Rattle.model.proofs.Fine.{kept, cold-fine}
 use Rattle.model.proofs.Trace.{step-keeps}

@@ -45,7 +45,7 @@ use Rattle.model.proofs.Cases.{clash, each}
 use Rattle.model.proofs.Needs.{need}
 use Rattle.model.proofs.Order.{Only}
 use Rattle.model.proofs.Closing.{closing, closed-by, closing-pending}
-use Rattle.model.proofs.Messages.{profile-limits}
+use Rattle.state.proofs.Limits.{profile-limits}
 use Rattle.model.proofs.Fine.{kept, cold-fine, at-keeps}
 use Rattle.model.proofs.Hearing as hearing
 use Rattle.model.proofs.Meanings.{hear-notice}

@@ -32,7 +32,7 @@ use Rattle.model.proofs.Needs.{need}
 use Rattle.model.proofs.Link.{credit-left}
 use Rattle.model.proofs.Acts.{send-good, push-good}
 use Rattle.model.proofs.Meanings.{meaning-data, meaning-command, segsOf-append, segsOf-command, segsOf-data}
-use Rattle.model.proofs.Messages.{profile-limits}
+use Rattle.state.proofs.Limits.{profile-limits}
 use Rattle.model.proofs.Order.{heads-append, idle-pending, no-data-tidy, tidy-append, ordered-heads, ordered-no-data, command-way, data-way, heads-data}
 use Rattle.model.proofs.Closing.{no-close, free-right, free-pending, live-stays, items-aim}
 use Rattle.model.proofs.Fine.{kept, cold-fine, conn-small, order-open, at-keeps, standing-same}

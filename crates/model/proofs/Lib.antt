@@ -34,3 +34,4 @@ pub mod Discards
 pub mod Whole
 pub mod Limits
 pub mod Discarded
+pub mod Profiles

@@ -22,11 +22,10 @@ use Rattle.state.specs.Conn.{placeOf, connOf, termsOf}
 use Rattle.state.specs.Commands.{commandOf}
 use Rattle.messages.specs.Layout.{Message, resetNtf, creditsNtf, entriesFrom, genericErrorNtf, discoverNtf, activatedNtf, deactivateNtf, responseOf, responseMessage, noticeMessage}
 use Rattle.state.specs.Radio.{isActive, isListening, isAsleep, polls}
-use Rattle.state.specs.Profile.{profileOk, profileIn, profileOctetsOk, ProfileWithin, TermsWithin}
+use Rattle.state.specs.Profile.{ProfileWithin}
 use Rattle.dh.specs.Contents.{written, noticeOf, entryId, entryCredits, entryOk, entriesOk, creditsWritten}
 use Rattle.dh.specs.Host.{answerOf, heardAlone, creditsFor, creditsIn}
 use Rattle.air.specs.Air.{airMessage, airedBy, isRefused}
-use Rattle.state.proofs.Limits.{profile-within}
 use Rattle.ends.specs.RoundTrips.{TermsOk, TargetOk}
 use Rattle.state.proofs.Chains.{and-right, every-at, on}
 use Rattle.ends.proofs.RoundTrips.{round-trips}
@@ -44,18 +43,9 @@ use Rattle.air.proofs.Taken.{Within, found-by, poll-by, listen-by, failed-by}
 
 -- ---- a profile within its limits
 
--- that of a profile which `fresh` takes
-pub profile-limits : (m : Octets) → profileOctetsOk m ≡ true → ProfileWithin (profileIn m)
-profile-limits m h = profile-within (profileIn m) (and-right (eqb (length m) 5) (profileOk (profileIn m)) h)
-
--- terms that it gives
-pub terms-bounded : (p : Profile) (c : ℕ) → ProfileWithin p → TermsWithin (termsOf p c .payload) (termsOf p c .credits)
-unfolding termsOf
-terms-bounded p c l = on (λ (t : Terms). TermsWithin (t .payload) (t .credits)) (eqb c 0) (λ e. l .fixed) (λ e. l .dynamic)
-
--- as the other end reads them
+-- terms that it gives, as the other end reads them
 pub terms-within : (p : Profile) (c : ℕ) → ProfileWithin p → TermsOk (termsOf p c)
-terms-within p c l = let t = terms-bounded p c l in record { payload = t .least; credits = t .credits-ok }
+terms-within p c l = let t = l .terms c in record { payload = t .least; credits = t .credits-ok }
 
 -- ---- what the answer to a verdict says
 

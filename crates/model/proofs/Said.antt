@@ -31,7 +31,7 @@ use Rattle.ends.specs.Changes.{Change, stays, opens, closes, gives, changeHeard
 use Rattle.model.specs.calls.Down.{answers}
 use Rattle.nfcc.proofs.Verdicts.{Fits}
 use Rattle.model.proofs.Meanings.{meaning-notice}
-use Rattle.model.proofs.Messages.{answeredBy, says-response, meaning-answer, terms-bounded}
+use Rattle.model.proofs.Messages.{answeredBy, says-response, meaning-answer}
 use Rattle.model.proofs.Cases.{each}
 use Rattle.model.proofs.Deciding.{dynamic-conn}
 
@@ -106,7 +106,7 @@ verdict-bounded : (p : Profile) (gid oid aim : ℕ) (v : Verdict) → ProfileWit
 verdict-bounded p gid oid aim (verdict.Refuses status) l f = tt
 verdict-bounded p gid oid aim (verdict.Resets type) l f = tt
 verdict-bounded p gid oid aim verdict.Initialises l f = (l .control-least, l .control-most)
-verdict-bounded p gid oid aim (verdict.Opens c t) l f = (dynamic-conn c (f .2) (f .3), rw (f .4) (terms-bounded p c l))
+verdict-bounded p gid oid aim (verdict.Opens c t) l f = (dynamic-conn c (f .2) (f .3), rw (f .4) (l .terms c))
 verdict-bounded p gid oid aim (verdict.Closes c) l f = tt
 verdict-bounded p gid oid aim (verdict.Turns rf) l f = tt
 verdict-bounded p gid oid aim (verdict.Selects pair) l f = tt
@@ -147,8 +147,8 @@ pub air-said : (p : Profile) (m : Octets) (e : Event) → ProfileWithin p → Sa
 unfolding airMessage noticeOf Said
 air-said p m Bad l = tt
 air-said p m (Found a type) l = notices-said 1 3 (discoverNtf a type (drop 5 m)) (omega arith) (omega arith) tt
-air-said p m (Poll a) l = notices-said 1 5 (activatedNtf a (termsOf p 0) (drop 4 m)) (omega arith) (omega arith) (terms-bounded p 0 l)
-air-said p m (Listen a) l = notices-said 1 5 (activatedNtf a (termsOf p 0) (drop 4 m)) (omega arith) (omega arith) (terms-bounded p 0 l)
+air-said p m (Poll a) l = notices-said 1 5 (activatedNtf a (termsOf p 0) (drop 4 m)) (omega arith) (omega arith) (l .terms 0)
+air-said p m (Listen a) l = notices-said 1 5 (activatedNtf a (termsOf p 0) (drop 4 m)) (omega arith) (omega arith) (l .terms 0)
 air-said p m Failed l = notices-said 0 7 genericErrorNtf (omega arith) (omega arith) tt
 air-said p m Sleeps l = notices-said 1 6 (deactivateNtf 0x01 0x01) (omega arith) (omega arith) tt
 air-said p m LinkLost l = notices-said 1 6 (deactivateNtf 0x03 0x02) (omega arith) (omega arith) tt

@@ -50,7 +50,8 @@ use Rattle.model.proofs.Needs.{need}
 use Rattle.model.proofs.Link.{held-le, owed-le}
 use Rattle.air.proofs.Taken.{Within, event-within, aired-steady}
 use Rattle.model.proofs.Meanings.{meaning-data}
-use Rattle.model.proofs.Messages.{profile-limits, notices-few, terms-bounded}
+use Rattle.state.proofs.Limits.{profile-limits}
+use Rattle.model.proofs.Messages.{notices-few}
 use Rattle.model.proofs.Airing.{Suits, aired-suits, kind-eight, notifies}
 use Rattle.model.proofs.Trace.{reachable}
 use Rattle.model.proofs.Always.{Stays, always}
@@ -238,7 +239,7 @@ air-conns s o e Refused l w t m d = m .conns d
 air-conns s o e (Goes rf ls) l w t m d = m .conns d
 air-conns s o e (Activates rf ls) l w t m d =
     change-controller d (pick (eqb 0 d) (opens (termsOf (s .profile) 0)) stays) (s .conns d)
-    (each 0 (λ d b. OpensWithin d (pick b (opens (termsOf (s .profile) 0)) stays)) (refl, terms-bounded (s .profile) 0 l) (λ d. tt) d) (m .conns d)
+    (each 0 (λ d b. OpensWithin d (pick b (opens (termsOf (s .profile) 0)) stays)) (refl, l .terms 0) (λ d. tt) d) (m .conns d)
 air-conns s o e (Ends rf) l w t m d =
     change-controller d (pick (eqb 0 d) closes stays) (s .conns d) (on (OpensWithin d) (eqb 0 d) (λ e. tt) (λ e. tt)) (m .conns d)
 air-conns s o e Speaks l w t m d =
@@ -374,7 +375,7 @@ sizes s aim l f m =
             speech = m .conns d .controller .speech;
             reassembly = m .conns d .controller .reassembly;
             credits = owed-le (f .good d .numbers);
-            terms = λ o. rw (f .standing .granted d o) (terms-bounded (s .profile) d (f .limits) .credits-ok);
+            terms = λ o. rw (f .standing .granted d o) (f .limits .terms d .credits-ok);
           };
       others = λ d. m .conns d .other;
       command-least = m .size-least;

@@ -32,7 +32,7 @@ use Rattle.model.specs.invariant.Bench.{Fine}
 use Rattle.model.proofs.Cases.{clash, each}
 use Rattle.model.proofs.Needs.{need}
 use Rattle.nfcc.proofs.Verdicts.{Fits, judge-fits, after-steady}
-use Rattle.model.proofs.Messages.{notices-few, terms-bounded}
+use Rattle.model.proofs.Messages.{notices-few}
 use Rattle.model.proofs.Order.{way-low, way-small}
 use Rattle.model.proofs.Deciding.{dynamic-conn}
 use Rattle.model.proofs.Said.{said-append, answers-said, OpensWithin}
@@ -47,7 +47,7 @@ verdict-opens gid oid aim p (verdict.Refuses status) l f d = tt
 verdict-opens gid oid aim p (verdict.Resets type) l f d = tt
 verdict-opens gid oid aim p verdict.Initialises l f d = tt
 verdict-opens gid oid aim p (verdict.Opens c t) l f d =
-    each c (λ d b. OpensWithin d (pick b (opens t) stays)) (dynamic-conn c (f .2) (f .3), rw (f .4) (terms-bounded p c l)) (λ d. tt) d
+    each c (λ d b. OpensWithin d (pick b (opens t) stays)) (dynamic-conn c (f .2) (f .3), rw (f .4) (l .terms c)) (λ d. tt) d
 verdict-opens gid oid aim p (verdict.Closes c) l f d = on (OpensWithin d) (eqb c d) (λ e. tt) (λ e. tt)
 verdict-opens gid oid aim p (verdict.Turns rf) l f d = tt
 verdict-opens gid oid aim p (verdict.Selects pair) l f d = tt

@@ -8,7 +8,7 @@ use mathlib.Core.List.{List, [], _∷_}
 use Rattle.octets.specs.Octets.{Octets, pick}
 use Rattle.packets.specs.Reassembly.{Prefix}
 use Rattle.packets.proofs.Reassembly.{flow-prefix}
-use Rattle.state.specs.Conn.{flows}
+use Rattle.state.specs.Conn.{termsOf, flows}
 use Rattle.wires.specs.Tally.{dataCount, creditsUp}
 use Rattle.model.specs.Connection.{owedOn}
 use Rattle.model.specs.State.{State, cold}
@@ -26,7 +26,7 @@ use Rattle.model.specs.invariant.Bench.{Fine, Kept, Keeps, accountOf}
 use Rattle.model.proofs.Cases.{clash}
 use Rattle.model.proofs.Link.{held-counted, held-shown, stored-counted, owed-counted}
 use Rattle.model.proofs.Meanings.{dataCount-segs, creditsUp-items}
-use Rattle.model.proofs.Messages.{profile-limits}
+use Rattle.state.proofs.Limits.{profile-limits}
 use Rattle.model.proofs.Fine.{kept, cold-fine}
 use Rattle.model.proofs.Keeping.{fresh-keeps, power-keeps, command-keeps, send-keeps, push-keeps, report-keeps}
 use Rattle.model.proofs.Returning.{consume-keeps, credit-keeps, reply-keeps}
@@ -178,6 +178,12 @@ module _ (c : ℕ) (s : State) (aim : ℕ) (l : ℕ → Ledger) (f : Fine s aim 
 -- the claim follows from the invariant, whatever made it hold
 pub kept-claim : (c : ℕ) (s : State) (o : Account) → Kept s o → Claim c s o
 kept-claim c s o k = subst (Claim c s) (sym (same-account s o k)) (claim c s (o .aim) (o .ledger) (k .fine))
+
+-- the grant that the account counts is the profile's for this Conn ID
+pub own-grant : (c : ℕ) (s : State) (o : Account) → Kept s o → o .ledger c .controller .opened ≡ true → o .ledger c .controller .grant ≡ termsOf (s .profile) c .credits
+own-grant c s o k e =
+    let there = open-there c s (o .aim) (o .ledger) (k .fine) e in
+    live c s (o .aim) (o .ledger) (k .fine) there .counts .granted ∙ k .fine .standing .granted c there
 
 pub demand : Demand
 demand profile ok calls c = kept-claim c _ _ (reachable profile ok calls)

@@ -16,3 +16,4 @@ pub mod invariant
 pub mod Table
 pub mod Limits
 pub mod Discarded
+pub mod Profiles

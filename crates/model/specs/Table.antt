@@ -7,6 +7,7 @@ use mathlib.Core.Path.{_≡_}
 use mathlib.Core.Bool.{false}
 use mathlib.Core.List.{List, [], _∷_, _++_, map}
 use Rattle.octets.specs.Octets.{Octets}
+use Rattle.model.specs.Kinds.{Terms}
 use Rattle.model.specs.State.{State, cold, withDown}
 use Rattle.model.specs.Effects.{Call, fresh, command, send, push, down, consume, credit, air, up, report, taken, refused}
 use Rattle.model.specs.Refusals.{full}
@@ -134,11 +135,15 @@ twoOwed =
 
 -- ---- the table, in the words of document 01
 
+-- "payload 4, credits 2"
+abbrev pub fourTwo : Terms
+fourTwo = record { payload = 4; credits = 2 }
+
 pub record Table (P : List Event → Type 0) : Type 0 where
-  -- "payload 4, credits 2": fresh makes any bench a cold one with these
+  -- fresh makes any bench a cold one with these on each of 2 to 5
   pub start : (s : State)
       → after (fresh profile ∷ []) s
-      ≡ cold (record { control = 32; dynamic = record { payload = 4; credits = 2 }; fixed = record { payload = 4; credits = 1 } })
+      ≡ cold (record { control = 32; two = fourTwo; three = fourTwo; four = fourTwo; five = fourTwo; fixed = record { payload = 4; credits = 1 } })
   -- "empty message on 2: 02 00 00"; then nothing is left to move
   pub empty : P (onTwo ++ quietly (send 2 []) ∷ goesDown (push 2) (0x02 ∷ 0x00 ∷ 0x00 ∷ []) ∷ refusal (push 2) 8 ∷ [])
   -- "Octets 01-09: 12 00 04 01 02 03 04, 12 00 04 05 06 07 08, 02 00 01 09"; the third goes with a credit that came back

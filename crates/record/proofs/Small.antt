@@ -114,13 +114,13 @@ module _ (s : Octets) (h : Octal s) where
   o : (i : ℕ) → getD s i 0 ≤ 255
   o = octal-at h
 
+  two : (k : ℕ) {l : Octets} → Octal l → Octal (getD s k 0 ∷ getD s (k + 1) 0 ∷ l)
+  two k t = octal-cons (o k) (octal-cons (o (k + 1)) t)
+
   pairs-small : (at : ℕ) → Octal (pairsOctets (pairsAt s at))
   unfolding pairsAt pairAt pairsOctets
   pairs-small at =
       two at (two (at + 2) (two (at + 4) (two (at + 6) (two (at + 8) (two (at + 10) (two (at + 12) (two (at + 14) (octal-cons (low-small (getD s (at + 16) 0)) octal-nil))))))))
-    where
-      two : (k : ℕ) {l : Octets} → Octal l → Octal (getD s k 0 ∷ getD s (k + 1) 0 ∷ l)
-      two k t = octal-cons (o k) (octal-cons (o (k + 1)) t)
 
   run-small : (at : ℕ) → Octal (controlRunOctets (controlRunAt s at))
   unfolding controlRunAt controlRunOctets
@@ -136,9 +136,7 @@ module _ (s : Octets) (h : Octal s) where
 
   profile-small : (at : ℕ) → Octal (profileOctets (profileAt s at))
   unfolding profileAt profileOctets
-  profile-small at =
-      octal-cons (o at)
-      (octal-cons (o (at + 1)) (octal-cons (o (at + 2)) (octal-cons (o (at + 3)) (octal-cons (o (at + 4)) (octal-cons {x = 0} (omega arith) (octal-cons {x = 0} (omega arith) (case 0 (omega arith))))))))
+  profile-small at = octal-cons (o at) (two (at + 1) (two (at + 3) (two (at + 5) (two (at + 7) (two (at + 9) octal-nil)))))
 
   host-small : (at : ℕ) → Octal (hostOctets (hostAt s at))
   unfolding hostAt hostOctets
@@ -183,9 +181,10 @@ profile-control p o = octal-at o 0
 pub profile-terms : (p : Profile) → Octal (profileOctets p) → (c : ℕ) → SmallTerms (termsOf p c)
 unfolding profileOctets termsOf
 profile-terms p o c =
-    on SmallTerms (eqb c 0)
-    (λ _. record { payload = octal-at o 3; credits = octal-at o 4 })
-    (λ _. record { payload = octal-at o 1; credits = octal-at o 2 })
+    on SmallTerms (eqb c 0) (λ _. record { payload = octal-at o 9; credits = octal-at o 10 })
+    (λ _. on SmallTerms (eqb c 2) (λ _. record { payload = octal-at o 1; credits = octal-at o 2 })
+    (λ _. on SmallTerms (eqb c 3) (λ _. record { payload = octal-at o 3; credits = octal-at o 4 })
+    (λ _. on SmallTerms (eqb c 4) (λ _. record { payload = octal-at o 5; credits = octal-at o 6 }) (λ _. record { payload = octal-at o 7; credits = octal-at o 8 }))))
 
 -- of the controller, apart from its phase
 pub record SmallController (k : Controller) : Type 0 where

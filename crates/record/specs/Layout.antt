@@ -17,7 +17,7 @@ slot area = cut recordAt recordRoom area
 -- ---- the structs: how many octets each has (Size), and where what is more than one octet, or a tag, stands in it (Part).
 -- All else is one octet for each field, in the order of the struct.
 
--- control, dynamic payload, dynamic credits, fixed payload, fixed credits; six octets are free, and 0
+-- the profile, in the order of its eleven octets: control payload; payload and credits of 2, of 3, of 4, of 5; payload and credits of 0
 abbrev pub profileSize : ℕ
 profileSize = 11
 

@@ -10,6 +10,7 @@ use Rattle.record.specs.Kinds.selection as selection
 use Rattle.record.specs.Kinds.rf.{Idle, Discovery, W4AllDiscoveries, W4HostSelect, PollActive, ListenActive, ListenSleep}
 use Rattle.record.specs.Kinds.phase.{Cold, Reset, Ready}
 use Rattle.record.specs.Kinds.pending as pending
+use Rattle.state.specs.Profile.{termsIn}
 use Rattle.record.specs.Layout.{slot, profilePlace, hostPlace, hearingPlace, controllerPlace, askingPlace, endpointPlace, connsPlace, downPlace, upPlace, lostPart, runPart, pendingPart, rfPart, selectedPart, pairsPart, handPart, hostRunPart, storePart, controllerRunPart, hostSideSize, countsPart}
 
 -- ---- numbers
@@ -40,8 +41,11 @@ unfoldable pub profileAt : Octets → ℕ → Profile
 profileAt s at =
     record {
       control = getD s at 0;
-      dynamic = record { payload = getD s (at + 1) 0; credits = getD s (at + 2) 0 };
-      fixed = record { payload = getD s (at + 3) 0; credits = getD s (at + 4) 0 };
+      two = termsIn s (at + 1);
+      three = termsIn s (at + 3);
+      four = termsIn s (at + 5);
+      five = termsIn s (at + 7);
+      fixed = termsIn s (at + 9);
     }
 
 unfoldable pub progressAt : Octets → ℕ → Progress

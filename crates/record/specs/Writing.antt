@@ -35,11 +35,11 @@ rfOctets ListenSleep = 6 ∷ 0 ∷ 0 ∷ 0 ∷ []
 
 -- ---- parts of both ends
 
--- six octets are free
+-- of both forms that fresh takes the record has the longer
 unfoldable pub profileOctets : Profile → Octets
 profileOctets p =
-    p .control ∷ p .dynamic .payload ∷ p .dynamic .credits ∷ p .fixed .payload ∷ p .fixed .credits
-    ∷ 0 ∷ 0 ∷ 0 ∷ 0 ∷ 0 ∷ 0 ∷ []
+    p .control ∷ p .two .payload ∷ p .two .credits ∷ p .three .payload ∷ p .three .credits ∷ p .four .payload ∷ p .four .credits
+    ∷ p .five .payload ∷ p .five .credits ∷ p .fixed .payload ∷ p .fixed .credits ∷ []
 
 abbrev pub progressOctets : Progress → Octets
 progressOctets p = high (p .len) ∷ low (p .len) ∷ bit (p .lost) ∷ []

@@ -29,6 +29,7 @@ ghost use Prim.Native.Nat.{_+_, _≤_, _*_};
 ghost use lib.ListN.{length};
 ghost use Rattle.area.specs.Map.{areaSize};
 ghost use Rattle.record.specs.Layout.{profileSize, progressSize, controlRunSize, handSize, ringSize, hostSize, pairsSize, controllerSize, hostSideSize, controllerSideSize, countsSize, connsSize, recordEnd};
+ghost use Rattle.state.specs.Profile.{termsIn};
 ghost use Rattle.record.specs.Reading.{wideAt, pendingOf, phaseOf, rfOf, profileAt, progressAt, controlRunAt, handAt, ringAt, hostAt, pairAt, pairsAt, controllerAt, hostSideAt, controllerSideAt, countsAt, connsAt, endsOf, recordOf, decodeOf};
 
 // An octet as a count.
@@ -104,20 +105,33 @@ fn rf_of(tag: u8, a: u8, b: u8, c: u8) -> Rf
     }
 }
 
+fn terms_at(s: &[u8], at: usize) -> Terms
+    requires { ⌜ at + 2 ≤ length (now s) ⌝ }
+    ensures { λ r. ⌜ r ≡ termsIn (now (s .entry)) at ⌝ }
+{
+    Terms {
+        payload: s[at],
+        credits: s[at + 1],
+    }
+}
+
 fn profile_at(s: &[u8], at: usize) -> Profile
     requires { ⌜ at + profileSize ≤ length (now s) ⌝ }
     ensures { λ r. ⌜ r ≡ profileAt (now (s .entry)) at ⌝ }
 {
+    let control = s[at];
+    let two = terms_at(s, at + 1);
+    let three = terms_at(s, at + 3);
+    let four = terms_at(s, at + 5);
+    let five = terms_at(s, at + 7);
+    let fixed = terms_at(s, at + 9);
     Profile {
-        control: s[at],
-        dynamic: Terms {
-            payload: s[at + 1],
-            credits: s[at + 2],
-        },
-        fixed: Terms {
-            payload: s[at + 3],
-            credits: s[at + 4],
-        },
+        control: control,
+        two: two,
+        three: three,
+        four: four,
+        five: five,
+        fixed: fixed,
     }
 }
 

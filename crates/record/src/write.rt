@@ -47,16 +47,16 @@ fn profile_octets(p: Profile) -> [u8; places::PROFILE_SIZE]
 {
     [
         p.control,
-        p.dynamic.payload,
-        p.dynamic.credits,
+        p.two.payload,
+        p.two.credits,
+        p.three.payload,
+        p.three.credits,
+        p.four.payload,
+        p.four.credits,
+        p.five.payload,
+        p.five.credits,
         p.fixed.payload,
         p.fixed.credits,
-        0,
-        0,
-        0,
-        0,
-        0,
-        0,
     ]
 }
 

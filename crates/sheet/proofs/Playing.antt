@@ -25,7 +25,7 @@ use Rattle.model.specs.Observer.{Account, opening, observe, eventOf}
 use Rattle.model.specs.Grants.{WithinGrants}
 use Rattle.model.specs.invariant.Bench as bench
 use Rattle.model.proofs.Fine.{kept, cold-fine}
-use Rattle.model.proofs.Messages.{profile-limits}
+use Rattle.state.proofs.Limits.{profile-limits}
 use Rattle.model.proofs.Trace.{step-keeps}
 use Rattle.model.proofs.Never.{kept-within}
 use Rattle.calls.specs.Kinds.{Record, Reading}

@@ -4,11 +4,15 @@ use Prim.Native.Nat.{ℕ, _≤_}
 use native.Mathlib.Omega.{arith}
 use mathlib.Core.Path.{_≡_, refl, sym}
 use mathlib.Core.Bool.{Bool, true, false, _&&_, _||_, false≢true}
+use mathlib.Core.List.{List, [], _∷_}
+use lib.ListN.{length}
 use lib.Dec.{eqb, leb}
 use borrow.Author.Tests.{leb-true, le-leb, eqb-true, eqb-false, ne-eqb}
+use Rattle.octets.specs.Octets.{Octets}
 use Rattle.state.specs.Kinds.{Terms, Profile}
-use Rattle.state.specs.Profile.{leastSize, payloadOk, creditsOk, termsOk, controlOk, profileOk, TermsWithin, ProfileWithin}
-use Rattle.state.proofs.Chains.{and-left, and-right}
+use Rattle.state.specs.Conn.{termsOf}
+use Rattle.state.specs.Profile.{leastSize, payloadOk, creditsOk, termsOk, controlOk, profileOk, profileLength, profileIn, profileOctetsOk, TermsWithin, ProfileWithin}
+use Rattle.state.proofs.Chains.{and-left, and-right, every-at, on}
 
 -- ---- a test that an octet passes by its type
 
@@ -72,22 +76,35 @@ pub within-terms : (t : Terms) → TermsWithin (t .payload) (t .credits) → ter
 within-terms t f = rw (le-leb 1 (t .payload) (f .least), le-leb (t .payload) 255 (f .most), f .credits-ok)
 
 pub profile-within : (p : Profile) → profileOk p ≡ true → ProfileWithin p
+unfolding termsOf
 profile-within p h =
     let n = p .control in
-    let front = and-left (controlOk n && termsOk (p .dynamic)) (termsOk (p .fixed)) h in
-    let control = and-left (controlOk n) (termsOk (p .dynamic)) front in
+    let pairs : List Bool = termsOk (p .two) ∷ termsOk (p .three) ∷ termsOk (p .four) ∷ termsOk (p .five) ∷ termsOk (p .fixed) ∷ [] in
+    let tests = every-at (controlOk n) pairs h in
+    let Bounded : Terms → Type 0 = λ t. TermsWithin (t .payload) (t .credits) in
     record {
-      control-least = leb-true leastSize n (and-left (leb leastSize n) (leb n 255) control);
-      control-most = leb-true n 255 (and-right (leb leastSize n) (leb n 255) control);
-      dynamic = terms-within (p .dynamic) (and-right (controlOk n) (termsOk (p .dynamic)) front);
-      fixed = terms-within (p .fixed) (and-right (controlOk n && termsOk (p .dynamic)) (termsOk (p .fixed)) h);
+      control-least = leb-true leastSize n (and-left (leb leastSize n) (leb n 255) (tests 0));
+      control-most = leb-true n 255 (and-right (leb leastSize n) (leb n 255) (tests 0));
+      terms =
+          λ c. on Bounded (eqb c 0) (λ _. terms-within (p .fixed) (tests 5))
+          (λ _. on Bounded (eqb c 2) (λ _. terms-within (p .two) (tests 1))
+          (λ _. on Bounded (eqb c 3) (λ _. terms-within (p .three) (tests 2))
+          (λ _. on Bounded (eqb c 4) (λ _. terms-within (p .four) (tests 3)) (λ _. terms-within (p .five) (tests 4)))));
     }
 
 pub within-profile : (p : Profile) → ProfileWithin p → profileOk p ≡ true
+unfolding termsOf
 within-profile p f =
     rw (
       le-leb leastSize (p .control) (f .control-least),
       le-leb (p .control) 255 (f .control-most),
-      within-terms (p .dynamic) (f .dynamic),
-      within-terms (p .fixed) (f .fixed),
+      within-terms (p .two) (f .terms 2),
+      within-terms (p .three) (f .terms 3),
+      within-terms (p .four) (f .terms 4),
+      within-terms (p .five) (f .terms 5),
+      within-terms (p .fixed) (f .terms 0),
     )
+
+-- that of a profile which `fresh` takes
+pub profile-limits : (m : Octets) → profileOctetsOk m ≡ true → ProfileWithin (profileIn m)
+profile-limits m h = profile-within (profileIn m) (and-right (profileLength (length m)) (profileOk (profileIn m)) h)

@@ -28,9 +28,13 @@ connOf p =
 
 -- ---- terms
 
--- the payload and credits that the profile has for a Conn ID
+-- the payload and credits that the profile has for a Conn ID; what it has for an ID that no connection has is never asked
 unfoldable pub termsOf : Profile → ℕ → Terms
-termsOf p c = pick (eqb c 0) (p .fixed) (p .dynamic)
+termsOf p c =
+    pick (eqb c 0) (p .fixed)
+    (pick (eqb c 2) (p .two)
+    (pick (eqb c 3) (p .three)
+    (pick (eqb c 4) (p .four) (p .five))))
 
 -- credits 255: no flow control
 abbrev pub flows : ℕ → Bool

@@ -44,12 +44,12 @@ pub fn conn_of(place: usize) -> u8
 pub fn terms_of(p: Profile, conn: u8) -> Terms
     ensures { λ r. ⌜ r ≡ termsOf p conn ⌝ }
 {
-    if conn == 0 {
-        let t = p.fixed;
-        t
-    } else {
-        let t = p.dynamic;
-        t
+    match conn {
+        0 => p.fixed,
+        2 => p.two,
+        3 => p.three,
+        4 => p.four,
+        _ => p.five,
     }
 }
 

@@ -6,10 +6,13 @@ pub struct Terms {
     pub credits: u8,
 }
 
-// The profile's five octets: most control payload, and the terms of dynamic connections and of the static RF connection.
+// The profile: most control payload, the terms of each of the dynamic connections 2, 3, 4 and 5, and those of the static RF connection.
 pub struct Profile {
     pub control: u8,
-    pub dynamic: Terms,
+    pub two: Terms,
+    pub three: Terms,
+    pub four: Terms,
+    pub five: Terms,
     pub fixed: Terms,
 }
 

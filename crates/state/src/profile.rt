@@ -25,5 +25,10 @@ pub fn terms_ok(t: Terms) -> bool
 pub fn profile_ok(p: Profile) -> bool
     ensures { λ r. ⌜ r ≡ profileOk p ⌝ }
 {
-    (LEAST_SIZE <= p.control) & terms_ok(p.dynamic) & terms_ok(p.fixed)
+    let two = terms_ok(p.two);
+    let three = terms_ok(p.three);
+    let four = terms_ok(p.four);
+    let five = terms_ok(p.five);
+    let fixed = terms_ok(p.fixed);
+    (LEAST_SIZE <= p.control) & two & three & four & five & fixed
 }

@@ -1,4 +1,4 @@
--- fresh on octets: a profile of five octets; all octets of the area are zeroed, and the record of a cold bench is written. The record that was
+-- fresh on octets: a profile of five octets or eleven; all octets of the area are zeroed, and the record of a cold bench is written. The record that was
 -- there is not judged.
 -- Assumes nothing.
 use Prim.Native.Nat.{ℕ}

@@ -1,53 +1,60 @@
 -- `record::read::profile_at` meets its contract.
 -- Assumes nothing.
 use Rattle.record.specs.Reading.{profileAt}
-use mathlib.Core.Path.{refl}
 use borrow.Author.Needs.{needs}
 use Rattle.record.proofs.read.profile_at.Statement.{statement}
 use Rattle.record.proofs.read.profile_at.Tie as tie
 
-shared-slice-read-t4 : tie.Need-shared-slice-read-t4
-shared-slice-read-t4 c = search needs
+shared-slice-read-control : tie.Need-shared-slice-read-control
+shared-slice-read-control c = search needs
 
-add-t5 : tie.Need-add-t5
-add-t5 c = search needs
+add-terms-at : tie.Need-add-terms-at
+add-terms-at c = search needs
 
-shared-slice-read-t7 : tie.Need-shared-slice-read-t7
-shared-slice-read-t7 c = search needs
+terms-at-requires : tie.Need-terms-at-requires
+terms-at-requires c κs = search needs
 
-add-t8 : tie.Need-add-t8
-add-t8 c = search needs
+add-terms-at-2 : tie.Need-add-terms-at-2
+add-terms-at-2 c = search needs
 
-shared-slice-read-t10 : tie.Need-shared-slice-read-t10
-shared-slice-read-t10 c = search needs
+terms-at-requires-2 : tie.Need-terms-at-requires-2
+terms-at-requires-2 c κs = search needs
 
-add-t12 : tie.Need-add-t12
-add-t12 c = search needs
+add-terms-at-3 : tie.Need-add-terms-at-3
+add-terms-at-3 c = search needs
 
-shared-slice-read-t14 : tie.Need-shared-slice-read-t14
-shared-slice-read-t14 c = search needs
+terms-at-requires-3 : tie.Need-terms-at-requires-3
+terms-at-requires-3 c κs = search needs
 
-add-t15 : tie.Need-add-t15
-add-t15 c = search needs
+add-terms-at-4 : tie.Need-add-terms-at-4
+add-terms-at-4 c = search needs
 
-shared-slice-read-t17 : tie.Need-shared-slice-read-t17
-shared-slice-read-t17 c = search needs
+terms-at-requires-4 : tie.Need-terms-at-requires-4
+terms-at-requires-4 c κs = search needs
+
+add-terms-at-5 : tie.Need-add-terms-at-5
+add-terms-at-5 c = search needs
+
+terms-at-requires-5 : tie.Need-terms-at-requires-5
+terms-at-requires-5 c κs = search needs
 
 returns : tie.Need-returns
 unfolding profileAt
-returns c = refl
+returns c = cc
 
 pub profile-at-spec : {M : Type 1} → statement M
 profile-at-spec =
     tie.close
     (tie.spec
-    shared-slice-read-t4
-    add-t5
-    shared-slice-read-t7
-    add-t8
-    shared-slice-read-t10
-    add-t12
-    shared-slice-read-t14
-    add-t15
-    shared-slice-read-t17
+    shared-slice-read-control
+    add-terms-at
+    terms-at-requires
+    add-terms-at-2
+    terms-at-requires-2
+    add-terms-at-3
+    terms-at-requires-3
+    add-terms-at-4
+    terms-at-requires-4
+    add-terms-at-5
+    terms-at-requires-5
     returns)

@@ -1,0 +1,31 @@
+-- A profile for each connection (document 02, item 4): the two forms that fresh takes, and what the profile says of every run.
+-- Assumes nothing.
+use Prim.Native.Nat.{ℕ}
+use mathlib.Core.Path.{_≡_}
+use mathlib.Core.Bool.{true}
+use mathlib.Core.List.{[], _∷_}
+use Rattle.octets.specs.Octets.{Octets}
+use Rattle.calls.specs.Kinds.{Profile}
+use Rattle.state.specs.Conn.{termsOf}
+use Rattle.state.specs.Profile.{profileIn}
+use Rattle.record.specs.Writing.{profileOctets}
+use Rattle.views.specs.View.{viewOf}
+use Rattle.calls.specs.calls.Fresh.{freshCall}
+use Rattle.calls.specs.Demand.{EveryRun}
+
+-- "The old five-octet profile stays valid and means four equal pairs": the word, every octet of the area and the buffer are those of the eleven octets
+-- that repeat its pair, where it is taken and where it is not
+abbrev pub FiveMeanEleven : Type 0
+FiveMeanEleven =
+    (area out : Octets) (control payload credits fixedPayload fixedCredits : ℕ)
+    → freshCall area out (control ∷ payload ∷ credits ∷ fixedPayload ∷ fixedCredits ∷ [])
+    ≡ freshCall area out
+      (control ∷ payload ∷ credits ∷ payload ∷ credits ∷ payload ∷ credits ∷ payload ∷ credits ∷ fixedPayload ∷ fixedCredits ∷ [])
+
+-- the record has the form of eleven: its octets, given to fresh, are the profile again
+abbrev pub OneForm : Type 0
+OneForm = (p : Profile) → profileIn (profileOctets p) ≡ p
+
+-- the grant that the five numbers sum to, as it was counted from the create response or the activation, is the profile's for this Conn ID
+abbrev pub OwnGrants : Type 0
+OwnGrants = EveryRun (λ a p o. (c : ℕ) → o .ledger c .controller .opened ≡ true → o .ledger c .controller .grant ≡ termsOf (viewOf a .profile) c .credits)
