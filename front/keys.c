@@ -7,6 +7,7 @@
 #include <stddef.h>
 #include <stdint.h>
 #include <stdio.h>
+#include <string.h>
 
 #include "nci_bench.h"
 #include "words.h"
@@ -82,11 +83,34 @@ static uint64_t make(struct bench *b, enum call call, const struct octets *arg) 
 
 /* ---- what is said of a call that was taken */
 
-static void say_fresh(const uint8_t *profile) {
-    printf("a new bench: control payload %u; connections 2 to 5: ", profile[0]);
-    say_terms(profile[1], profile[2]);
+enum { PAIR = 2, LOOPBACKS = 4 };
+
+/* Whether connections 2 to 5 have one pair, or four of which each is as the next. */
+static bool alike(const struct octets *profile) {
+    const uint8_t *pairs = profile->at + 1;
+    return profile->length < NCI_LONG_PROFILE_SIZE || memcmp(pairs, pairs + PAIR, PAIR * (LOOPBACKS - 1)) == 0;
+}
+
+/* The pairs of connections 2 to 5, each by itself. */
+static void say_each(const uint8_t *pairs) {
+    for (unsigned i = 0; i < LOOPBACKS; i++) {
+        printf("%sconnection %u: ", i > 0 ? "; " : "", 2 + i);
+        say_terms(pairs[PAIR * i], pairs[PAIR * i + 1]);
+    }
+}
+
+/* Pairs stand behind the control payload, and that of connection 0 is the last. */
+static void say_fresh(const struct octets *profile) {
+    const uint8_t *pairs = profile->at + 1, *last = profile->at + profile->length - PAIR;
+    printf("a new bench: control payload %u; ", profile->at[0]);
+    if (alike(profile)) {
+        printf("connections 2 to 5: ");
+        say_terms(pairs[0], pairs[1]);
+    } else {
+        say_each(pairs);
+    }
     printf("; connection 0: ");
-    say_terms(profile[3], profile[4]);
+    say_terms(last[0], last[1]);
 }
 
 static void say_message(size_t length) {
@@ -181,7 +205,7 @@ static void say_report(unsigned conn, const uint8_t *numbers) {
 static void say_taken(struct bench *b, enum call call, const struct octets *arg, uint64_t word) {
     const uint8_t *a = arg->at;
     switch (call) {
-    case FRESH: say_fresh(a); break;
+    case FRESH: say_fresh(arg); break;
     case POWER: printf("both ends cold, both wires empty"); break;
     case COMMAND: say_command(b, word); break;
     case SEND: say_send(a[0], arg->length - 1); break;
@@ -216,6 +240,7 @@ static const struct key {
     enum call call;
     struct few front, instead, back;
     unsigned least, most; /* octets typed */
+    unsigned longer;      /* or so many, where there is another form */
     bool modes;           /* each octet typed is a mode: frequency 01 joins it, their count goes first */
 } keys[] = {
     {"reset", "reset, or reset 0 to keep the configuration: CORE_RESET_CMD goes down",
@@ -270,8 +295,9 @@ static const struct key {
      .call = REPORT, .least = 1, .most = 1},
     {"power", "power: both ends cold, both wires empty, the profile kept",
      .call = POWER},
-    {"fresh", "fresh, or fresh 2004020401, a profile: a new bench",
-     .call = FRESH, .instead = {5, FIRST_PROFILE}, .least = 5, .most = 5},
+    {"fresh", "fresh, or fresh 2004020401, a profile of 5 octets, or of 11, a pair for each connection: a new bench",
+     .call = FRESH, .instead = {NCI_PROFILE_SIZE, FIRST_PROFILE}, .least = NCI_PROFILE_SIZE, .most = NCI_PROFILE_SIZE,
+     .longer = NCI_LONG_PROFILE_SIZE},
     {"card", "card 9: what number 9 of the card says",
      .call = CARD},
     {"help", "help names the keys, help push tells how push is typed",
@@ -378,6 +404,11 @@ static bool read_octets(struct octets *to, struct text rest) {
     return true;
 }
 
+/* Whether a key takes so many octets. */
+static bool takes(const struct key *key, size_t typed) {
+    return (typed >= key->least && typed <= key->most) || (typed > key->most && typed == key->longer);
+}
+
 /* The octets of a key's call, or false for some that it does not take. */
 static bool read_arguments(struct octets *arg, const struct key *key, struct text rest) {
     static struct octets typed;
@@ -385,7 +416,7 @@ static bool read_arguments(struct octets *arg, const struct key *key, struct tex
         return false;
     if (typed.length == 0)
         add_few(&typed, &key->instead);
-    if (typed.length < key->least || typed.length > key->most)
+    if (!takes(key, typed.length))
         return false;
     arg->length = 0;
     add_few(arg, &key->front);

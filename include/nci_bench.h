@@ -60,7 +60,8 @@ extern "C" {
 #define NCI_MESSAGE_MAX 1024u     /* longest data message */
 #define NCI_COMMAND_MAX 255u      /* longest payload of a command */
 #define NCI_PACKET_MAX 258u       /* longest packet: 3 of header, 255 of payload */
-#define NCI_PROFILE_SIZE 5u       /* a profile */
+#define NCI_PROFILE_SIZE 5u       /* a profile with one pair for connections 2 to 5 */
+#define NCI_LONG_PROFILE_SIZE 11u /* a profile with a pair for each of 2, 3, 4 and 5 */
 #define NCI_REPORT_SIZE 5u        /* the message of nci_report */
 #define NCI_PARAMETERS_MAX 32u    /* most parameter octets of an air event */
 #define NCI_PACKET_CREDITS_MAX 3u /* most credits that a data packet returns, going up */
@@ -152,12 +153,21 @@ static inline const char *nci_card(unsigned answer) {
 
 /* ---- the whole bench */
 
-/* A new bench. The profile is five octets: most control payload, 32 to 255; payload,
- * 1 to 255, and credits of dynamic connections; payload and credits of the static RF
- * connection. Credits are 1 to 8, or 255 for no flow control. All 36,864 octets of the
- * area are written, whatever they held. Puts no packet, hands out nothing.
- * Refusals in order: 2, if the area has fewer than 36,864 octets or the buffer fewer
- * than 1,024; 3, if the profile is not five octets inside these limits. */
+/* A new bench. The profile is eleven octets, in this order:
+ *   most control payload;
+ *   payload and credits of connection 2, of connection 3, of 4, of 5;
+ *   payload and credits of connection 0, the static RF connection.
+ * Or it is five octets, which mean four equal pairs:
+ *   most control payload;
+ *   payload and credits of each of 2 to 5;
+ *   payload and credits of connection 0.
+ * The control payload is 32 to 255, a payload 1 to 255; credits are 1 to 8, or 255 for no
+ * flow control. A connection opens with the pair of its own ID. All 36,864 octets of the
+ * area are written, whatever they held: of five octets the same as of the eleven that they
+ * mean. Puts no packet, hands out nothing.
+ * Refusals in order: 2, if the area has fewer than 36,864 octets or the buffer fewer than
+ * 1,024; 3, if the profile has neither five octets nor eleven, or one of them is outside
+ * its limits. */
 uint64_t nci_fresh(uint8_t *area, size_t area_len, uint8_t *out, size_t out_len, const uint8_t *profile,
                    size_t profile_len);
 

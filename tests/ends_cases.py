@@ -6,7 +6,9 @@ from ends_rules import (
     COLD, COMMANDS, CONNS, DISCOVERY, Host, LISTEN_ACTIVE, LISTEN_MODES, LISTEN_SLEEP, NOTIFICATION, NO_FLOW_CONTROL,
     POLL_ACTIVE, POLL_MODES, READY, RESET, RESPONSE, State, W4_ALL_DISCOVERIES, W4_HOST_SELECT, mask, opened, packet,
 )
-from records import AtController, AtHost, Hand, Record, Ring, Run, digits, octets
+from records import (
+    AtController, AtHost, DYNAMIC, Hand, PROFILED, Record, Ring, Run, UNLIKE, digits, octets, spelled_out, with_terms,
+)
 
 # ---- records: all that a step does not look at has octets of its own, so that one which is touched is seen
 
@@ -159,7 +161,8 @@ def values():
     for feature in (0, 1):
         yield from sweep(f"init-{feature}", State(phase=RESET), "init", b"\x00\x00", feature, EDGES)
     for control, payload, credits in product((32, 33, 254, 255), (1, 2, 255), (1, 8, 255)):
-        s = State(bytes([control, payload, credits, 256 - payload, 9 - credits if credits < 9 else 255]))
+        fixed = 256 - payload, 9 - credits if credits < 9 else 255
+        s = State(bytes(spelled_out((control, payload, credits, *fixed))))
         name = f"{digits(s.profile)}"
         yield command(f"init-{name}", replace(s, phase=RESET), "init", b"\x00\x00")
         yield command(f"create-{name}", s, "create", b"\x01\x00")
@@ -179,8 +182,18 @@ def values():
         yield from sweep(f"deactivate-{state}", STATES[state], "deactivate", b"\x00", 0, EDGES)
 
 
+def profiles():
+    """Each connection opens by its own pair, which is at its limits among others."""
+    for conn, payload, credits in product(PROFILED, (1, 255), (1, 8, NO_FLOW_CONTROL)):
+        s = State(bytes(with_terms(UNLIKE, conn, payload, credits)))
+        name = f"pair{conn}-{payload}-{credits}"
+        for given in DYNAMIC:
+            yield command(f"{name}-after{given}", replace(s, given=given), "create", b"\x01\x00")
+        yield event(f"{name}-active", s.to(DISCOVERY), b"\x02\x01\x04\x00")
+
+
 def conn_ids():
-    """The next Conn ID from each one given and each set of open connections."""
+    """The next Conn ID from each one given and each set of open connections, with the pair of that ID."""
     for given, m in product((0, 2, 3, 4, 5), range(32)):
         yield command(f"next-{given}-{m:02X}", State(given=given, opened=opened(m)), "create", b"\x01\x00")
 
@@ -449,6 +462,7 @@ CASES = {
     "commands of every length": lengths,
     "every GID and OID": unknown,
     "values of commands": values,
+    "a pair for each connection": profiles,
     "Conn IDs given": conn_ids,
     "configurations of DISCOVER": discoveries,
     "selections": selections,

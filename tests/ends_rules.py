@@ -28,7 +28,8 @@ def packet(mt, gid, oid, payload):
 
 @dataclass(frozen=True)
 class State:
-    profile: bytes = bytes.fromhex("2004020401")
+    # control payload; payload and credits of 2, 3, 4 and 5, each with others, and of 0
+    profile: bytes = bytes.fromhex("20 0402 0101 FF08 64FF 0401")
     phase: int = READY
     given: int = 0
     opened: frozenset = frozenset()
@@ -36,6 +37,10 @@ class State:
     # the selection, or the activation
     carries: tuple = ()
     pairs: tuple = ()
+
+    def terms_of(self, conn):
+        """Payload and credits that the profile has for a connection; those of 0 are the last."""
+        return self.profile[2 * conn - 3 :][:2] if conn else self.profile[-2:]
 
     def to(self, rf, *carries):
         """In another RF state. The list of pairs is emptied in IDLE."""
@@ -76,7 +81,8 @@ def core_conn_create(s, m):
     free = [conn for conn in ring[last + 1 :] + ring[: last + 1] if conn not in s.opened]
     if (m[0], m[1]) != (0x01, 0x00) or not free:
         raise Refusal(REJECTED)
-    return replace(s, given=free[0], opened=s.opened | {free[0]}), [*s.profile[1:3], free[0]], b""
+    # "the pair of the ID that it assigns"
+    return replace(s, given=free[0], opened=s.opened | {free[0]}), [*s.terms_of(free[0]), free[0]], b""
 
 
 def core_conn_close(s, m):
@@ -234,7 +240,7 @@ def found(s, m):
 
 
 def activated(s, rf, number, protocol, mode, params):
-    head = [number, 0x01, protocol, mode, *s.profile[3:], len(params)]
+    head = [number, 0x01, protocol, mode, *s.terms_of(0), len(params)]
     ntf = packet(NOTIFICATION, 1, 5, [*head, *params, mode, 0x00, 0x00, 0x00])
     return replace(s.to(rf, number, protocol, mode), opened=s.opened | {0}), ntf
 

@@ -32,7 +32,7 @@ def with_controller(r, s):
     reassembly, and connection 0 with no message of the endpoint in hand."""
     sides = dict(r.controller)
     for conn in opened(r.controller) ^ s.opened:
-        sides[conn] = AtController(1, s.profile[2 if conn else 4]) if conn in s.opened else AtController()
+        sides[conn] = AtController(1, s.terms_of(conn)[1]) if conn in s.opened else AtController()
     return replace(
         r,
         phase=s.phase,

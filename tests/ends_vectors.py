@@ -6,6 +6,7 @@ from dataclasses import replace
 from ends_cases import STATES, awaiting, digits, event, owing, to_controller, to_host
 from ends_rules import COLD, DISCOVERY, IDLE, LISTEN_SLEEP, RESET, State, W4_HOST_SELECT, opened
 from programs import ROOT
+from records import spelled_out
 
 VECTORS = ROOT / "tests" / "data" / "nci-vectors.txt"
 
@@ -22,7 +23,9 @@ def load():
 
 
 def profiled(hexes, **more):
-    return State(bytes.fromhex(hexes), **more)
+    """A state with a profile, which is given by its five octets or by eleven."""
+    octets = bytes.fromhex(hexes)
+    return State(bytes(spelled_out(octets)) if len(octets) == 5 else octets, **more)
 
 
 def vector_commands():
@@ -37,6 +40,9 @@ def vector_commands():
     yield from (("036", cold, "030", ""), ("036", after_reset, "030", ""))
     yield from (("031", idle, "032", ""), ("033", idle, "034", ""), ("200600", idle, "035", ""))
     yield from (("036", State(), "037", ""), ("036", profiled("20FFFF0401", given=4), "038", ""))
+    # the pair of the ID that is assigned, among others
+    yield "036", profiled("20 0402 FFFF 0101 6408 0305"), "037", ""
+    yield "036", profiled("20 0402 0101 6408 FFFF 0305", given=4), "038", ""
     yield from (("041", idle, "042", ""), ("043", idle, "042", ""), ("036", State(opened=opened(0x1E)), "042", ""))
     yield from (("044", some, "046", ""), ("045", some, "046", ""), ("044", State(), "047", ""))
     yield from ((number, idle, "060", "") for number in ("051", "052", "053", "055"))
@@ -61,6 +67,7 @@ def vector_events():
     yield from (("0103060601", all_found, "064"), ("04", STATES["chosen"], "070"))
     yield "02010400" + nfc_a, profiled("200402FF01", rf=DISCOVERY), "071"
     yield "02010200", profiled("20040204FF", rf=DISCOVERY), "072"
+    yield "02010400" + nfc_a, profiled("20 0402 0101 6408 FFFF FF01", rf=DISCOVERY), "071"
     yield "03010480", profiled("2004022002", rf=LISTEN_SLEEP), "073"
     yield "0301048100", profiled("2004022002", rf=DISCOVERY), "074"
     yield from (("05", listening, "084"), ("06", listening, "085"), ("06", STATES["sleep"], "085"))

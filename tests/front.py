@@ -32,6 +32,10 @@ MOST_CHARACTERS = 4096
 # the card's numbers: there is no 13
 NUMBERS = [*range(1, 13), 14, 15]
 HAS = "the card has numbers 0 to 12, 14 and 15; card 9: "
+# digits of a profile, one pair for connections 2 to 5 or one for each
+PROFILES = (10, 22)
+# the most characters that are to be heard of a line, octets aside, and of a fresh that names each connection
+MOST_HEARD, MOST_OF_FRESH = 200, 300
 
 HEX = "(?:[0-9A-F]{2})*"
 SAYS = r'says="[ !#-~]+"'
@@ -179,12 +183,13 @@ def key_of(name, arg):
 
 
 def lists():
-    """Keys, and the fields that the second implementation gives. A profile that is not five octets is no key."""
+    """Keys, and the fields that the second implementation gives. A profile that is neither five octets nor eleven is no
+    key."""
     text = (ROOT / "tests" / "data" / "lists.txt").read_text()
     lines = re.findall("^ev=.*$", text, re.M)
     for asked, answered in zip(lines[::2], lines[1::2]):
         name, arg = re.fullmatch(f"ev=([a-z]+) arg=({HEX})", asked).groups()
-        fits = name != "fresh" or len(arg) == 10
+        fits = name != "fresh" or len(arg) in PROFILES
         yield key_of(name, bytes.fromhex(arg)), answered if fits else "ev=bad ans=3"
 
 
@@ -254,7 +259,8 @@ def check_lists(checks, card):
     checks.equal("lists, exit status", (complaints, status), ("", 0))
     for key, line, answer in zip(keys, lines, answers):
         same = LINE.fullmatch(line) and line.split(" says=")[0] == answer
-        short = len(re.sub("(pkt|msg)=[0-9A-F]*", "", line)) <= 200
+        most = MOST_OF_FRESH if line.startswith("ev=fresh ") else MOST_HEARD
+        short = len(re.sub("(pkt|msg)=[0-9A-F]*", "", line)) <= most
         good = same and short and says_right(line, card)
         checks.check(f"lists, {key}", good, f"\n  {line}, expected\n  {answer}")
     met = {line.split()[0] for line in lines}
@@ -289,7 +295,7 @@ def check_help(checks):
         document = (ROOT / "docs" / "FRONT-ENDS.md").read_text()
         for name in names:
             line = worked.press(f"help {name}")
-            checks.check(f"help {name}", LINE.fullmatch(line) and name in line and len(line) <= 200, line)
+            checks.check(f"help {name}", LINE.fullmatch(line) and name in line and len(line) <= MOST_HEARD, line)
             checks.check(f"docs/FRONT-ENDS.md has {name}", re.search(f"^- `{name}[ `]", document, re.M))
         checks.equal("help for no key", worked.press("help nothing"), answer)
 
@@ -299,11 +305,13 @@ NO_KEYS = [
     "select 1", "select 1 4 1", "deactivate 0 0", "command", "command 0", "command 0 G", "command 0 0 1234567",
     "send", "send 2 48656C6C6", "send 2 4865-6C", "push", "push 2 2", "push two", "down 1", "up 1", "consume",
     "credit 2", "found 1 4 0", "poll 1 4", "listen 1 4", "failed 1", "sleeps 1", "lost 1", "releases 1", "says hello",
-    "air", "reply 0", "report", "power 1", "fresh 20", "fresh 200402040100", "quit 1", "ev=down arg=", "push\0 2",
-    "push\u00a02",
+    "air", "reply 0", "report", "power 1", "quit 1", "ev=down arg=", "push\0 2", "push\u00a02",
+    # profiles of 1, 4, 6, 10 and 12 octets
+    "fresh 20", "fresh 20040204", "fresh 200402040104", "fresh 20040204020402040204", "fresh 200402040204020402040104",
 ]
 SAME_KEYS = [
     ("PUSH 2", "push 2"), ("  push\t02\r", "push 2"), ("Fresh 20 04 02 04 01", "fresh"), ("discover 0 80", "discover"),
+    ("fresh 20 0402 0402 0402 0402 0401", "fresh"), ("fresh 200402040204020402ffFF", "fresh 20 0402 FFFF"),
     ("reset 1", "reset"), ("command 0 3f 4a4B", "Command 003F 4A 4B"), ("deactivate 00", "deactivate"),
     ("close 2", "command 0 5 2"), ("create", "command 0 4 01 00"),
 ]
@@ -313,7 +321,8 @@ def check_no_keys(checks):
     with Worked(checks, terminal=False) as worked:
         for key in NO_KEYS:
             line = worked.press(key)
-            checks.check(f"no key: {key!r}", LINE.fullmatch(line) and line.startswith("ev=bad ") and len(line) <= 200, line)
+            bad = LINE.fullmatch(line) and line.startswith("ev=bad ") and len(line) <= MOST_HEARD
+            checks.check(f"no key: {key!r}", bad, line)
         for keys in SAME_KEYS:
             one, other = [(worked.press(key), worked.press("power"))[0] for key in keys]
             checks.equal(" as ".join(keys), one, other)

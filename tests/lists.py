@@ -6,7 +6,7 @@
     lists.py --write    writes the answers and the statements
 
 Each paper becomes the statement that the model gives the same answers; `rt check opinions` proves it by computing. Together
-they meet every call and every refusal, and every number of credits inside a data packet."""
+they meet every call and every refusal, every number of credits inside a data packet, and both lengths of a profile."""
 import re
 import sys
 import textwrap
@@ -34,6 +34,8 @@ CALLS = {
     "up": (0, False, [8]),
     "report": (1, False, [3, 6]),
 }
+# octets of a profile
+PROFILES = (5, 11)
 # what crates/opinions/specs/Shown.antt lends to the statements
 SHOWN = ["hex", "line", "refusal", "done", "puts", "hands", "start", "lines"]
 
@@ -89,13 +91,17 @@ def load():
 
 
 def missing(papers):
-    """Calls never taken, refusals that a call never met, and numbers of credits that no data packet carried up."""
+    """Calls never taken, refusals that a call never met, numbers of credits that no data packet carried up, and numbers of
+    octets that no profile had, taken or refused."""
     calls = [call for paper in papers for call in paper.calls]
     met = Counter((call.name, call.answer) for call in calls)
     due = [(name, answer) for name, (_, _, refusals) in CALLS.items() for answer in [0, *refusals]]
     carried = {call.packets[1] for call in calls if call.name in ("consume", "reply") and call.packets}
+    profiles = {(len(call.octets), call.answer) for call in calls if call.name == "fresh"}
+    unmet = sorted({(n, answer) for n in PROFILES for answer in (0, 3)} - profiles)
     lacking = [f"no paper has {name} with answer {answer}" for name, answer in due if not met[name, answer]]
-    return lacking + [f"no paper has data that carries {n} credits" for n in range(4) if n not in carried]
+    lacking += [f"no paper has data that carries {n} credits" for n in range(4) if n not in carried]
+    return lacking + [f"no paper has fresh of {n} octets with answer {answer}" for n, answer in unmet]
 
 
 # ---- statements

@@ -19,6 +19,28 @@ RECORD = AREA - 512
 FILL, LONGEST_AREA = 0xA5, 40960
 
 
+# ---- a profile: control payload, then payload and credits of each connection
+
+# the connections in the order of a profile: "the static pair last"
+PROFILED = (2, 3, 4, 5, 0)
+
+
+def spelled_out(short):
+    """The eleven octets that a profile of five means: "four equal pairs"."""
+    return (*short[:1], *short[1:3] * 4, *short[3:])
+
+
+def terms_of(profile, conn):
+    """Payload and credits of a connection."""
+    at = 1 + 2 * PROFILED.index(conn)
+    return profile[at : at + 2]
+
+
+FIRST_PROFILE = spelled_out((32, 4, 2, 4, 1))
+# 2 tight, 3 loose, 4 without flow control, 5 and 0 between them
+UNLIKE = (64, 1, 1, 255, 8, 100, 255, 16, 3, 32, 4)
+
+
 # ---- a record
 
 
@@ -75,8 +97,7 @@ def closed(side):
 
 @dataclass(frozen=True)
 class Record:
-    # control payload; payload and credits of dynamic connections; payload and credits of the static RF connection
-    profile: tuple = (32, 4, 2, 4, 1)
+    profile: tuple = FIRST_PROFILE
     size: int = 32
     # GID, OID and aim of the unanswered command
     asked: tuple = ()
@@ -99,9 +120,6 @@ class Record:
 
 # ---- its octets
 
-# the profile has room for eleven octets, of which it uses five
-FREE = tuple(f"profile.{i}" for i in range(5, 11))
-
 
 def layout():
     """The parts of the record in the order of their octets, each with how many octets it has: lengths and positions of
@@ -122,8 +140,9 @@ def layout():
     def ring(name):
         return one(f"{name}.head", f"{name}.count")
 
-    yield from one("control", "dynamic.payload", "dynamic.credits", "fixed.payload", "fixed.credits")
-    yield from one(*FREE)
+    yield from one("control")
+    for conn in PROFILED:
+        yield from one(f"profile{conn}.payload", f"profile{conn}.credits")
     yield from one("size", "asked", "asked.gid", "asked.oid", "asked.aim")
     yield from control_run("hearing")
     yield from one("phase", "given", "rf", "rf.1", "rf.2", "rf.3")
@@ -147,8 +166,8 @@ assert SIZE == 160, "the record has 160 octets"
 
 
 def numbers(r):
-    """The number of each part. The profile's are the first five, and those that are free follow."""
-    n = dict(zip(LAYOUT, r.profile + (0,) * len(FREE)))
+    """The number of each part. The profile's are the first eleven."""
+    n = dict(zip(LAYOUT, r.profile))
 
     def run(name, x):
         n.update({f"{name}.length": x.length, f"{name}.lost": x.lost})
@@ -226,7 +245,7 @@ def record_of(o):
     elif n["rf"] == W4_HOST_SELECT and n["rf.1"]:
         carries = n["rf.2"], n["rf.3"]
     return Record(
-        profile=tuple(o[:5]),
+        profile=tuple(o[:11]),
         size=n["size"],
         asked=(n["asked.gid"], n["asked.oid"], n["asked.aim"]) if n["asked"] else (),
         hearing=run("hearing"),
@@ -301,11 +320,9 @@ def no_such_state(n):
 # "a profile .. outside its limits": "most control payload (32-255)", "Payloads are 1-255. Credits are 1-8, or 255 for
 # no flow control".
 def profile_outside(n):
-    terms = all(
-        1 <= n[f"{kind}.payload"] <= 255 and (1 <= n[f"{kind}.credits"] <= 8 or n[f"{kind}.credits"] == NO_FLOW_CONTROL)
-        for kind in ("dynamic", "fixed")
-    )
-    return not (32 <= n["control"] <= 255 and terms)
+    payloads = all(1 <= n[f"profile{conn}.payload"] <= 255 for conn in PROFILED)
+    credits = all(n[f"profile{conn}.credits"] in (*range(1, 9), NO_FLOW_CONTROL) for conn in PROFILED)
+    return not (32 <= n["control"] <= 255 and payloads and credits)
 
 
 # "host's control size": commands are cut "at 32 until the INIT response arrives and then at the size it states".
@@ -363,7 +380,7 @@ def line_in(name, o, length=AREA):
 
 DYNAMIC = (2, 3, 4, 5)
 LIST = ((1, 4), (2, 5), (3, 0x80), (254, 255), (5, 0), (6, 6), (7, 1), (8, 2))
-UNLIMITED = (255, 255, NO_FLOW_CONTROL, 255, NO_FLOW_CONTROL)
+UNLIMITED = spelled_out((255, 255, NO_FLOW_CONTROL, 255, NO_FLOW_CONTROL))
 
 
 def ready(**more):
@@ -372,11 +389,17 @@ def ready(**more):
     return Record(**{"size": profile[0], "phase": READY, **more})
 
 
+def with_terms(profile, conn, payload, credits):
+    """A profile with another pair for one connection."""
+    at = 1 + 2 * PROFILED.index(conn)
+    return profile[:at] + (payload, credits) + profile[at + 2 :]
+
+
 def opened(r, *conns, host=None, controller=None):
-    """With connections open at both ends, by the profile's terms; more fields of each end's side."""
+    """With connections open at both ends, each by the profile's terms for it; more fields of each end's side."""
     hosts, controllers = dict(r.host), dict(r.controller)
     for conn in conns:
-        payload, credits = r.profile[1:3] if conn else r.profile[3:5]
+        payload, credits = terms_of(r.profile, conn)
         hosts[conn] = AtHost(1, payload, credits, credits, **(host or {}))
         controllers[conn] = AtController(1, credits, **(controller or {}))
     return replace(r, host=hosts, controller=controllers)
@@ -424,7 +447,7 @@ def full():
 
 def busy():
     """In the middle of things: numbers between their limits; connection 5 is closed, and 3 not yet open at the host."""
-    r = ready(profile=(64, 16, 8, 32, 4), rf=POLL_ACTIVE, carries=(9, 4, 3), pairs=LIST, found=4)
+    r = ready(profile=(64, 16, 8, 1, 2, 255, 255, 4, 1, 32, 4), rf=POLL_ACTIVE, carries=(9, 4, 3), pairs=LIST, found=4)
     r = replace(r, given=4, asked=(0, 5, 3))
     r = replace(r, hearing=Run(17, 0, 2, 1, 6), asking=Run(40, 0, 1, 0, 4), endpoint=Hand(1, 700, 255))
     r = replace(r, down=Ring(3, 5), up=Ring(9, 11))
@@ -433,7 +456,7 @@ def busy():
     hosts, controllers = dict(r.host), dict(r.controller)
     hosts[2] = replace(hosts[2], held=3)
     controllers[2] = replace(controllers[2], owed=4)
-    controllers[3] = AtController(1, 8, 2)
+    controllers[3] = AtController(1, 2, 2)
     return replace(r, host=hosts, controller=controllers)
 
 
@@ -444,16 +467,25 @@ def good():
     yield from BASES.items()
     yield "reset", Record(phase=RESET)
     yield "init", ready()
-    yield "init-unread", replace(ready(), profile=(255, 4, 2, 4, 1), asked=(0, 1, 0))
-    yield "size-255", ready(profile=(255, 4, 2, 4, 1))
-    yield "profile-least", ready(profile=(32, 1, 1, 1, 1))
-    yield "profile-most", ready(profile=(255, 255, 8, 255, 8))
+    large = (255, *FIRST_PROFILE[1:])
+    yield "init-unread", replace(ready(), profile=large, asked=(0, 1, 0))
+    yield "size-255", ready(profile=large)
+    yield "profile-least", ready(profile=spelled_out((32, 1, 1, 1, 1)))
+    yield "profile-most", ready(profile=spelled_out((255, 255, 8, 255, 8)))
     yield "profile-none-flows", ready(profile=UNLIMITED)
+    yield "profile-unlike", ready(profile=UNLIKE)
+    for conn in PROFILED:
+        yield f"profile-tight-{conn}", ready(profile=with_terms(UNLIMITED, conn, 1, 1))
+        yield f"profile-loose-{conn}", ready(profile=with_terms(spelled_out((32, 1, 1, 1, 1)), conn, 255, 8))
     yield from rf_states()
     for given in DYNAMIC:
         yield f"given{given}", opened(ready(given=given), given)
     yield "all-open", opened(ready(given=5), *CONNS)
     yield "all-open-unlimited", opened(ready(profile=UNLIMITED, given=5), *CONNS)
+    yield "all-open-unlike", opened(ready(profile=UNLIKE, given=5), *CONNS)
+    tight_and_loose = opened(ready(profile=UNLIKE, given=3), 2, 3, host=in_hand(600, 255))
+    yield "tight-and-loose", tight_and_loose
+    yield "tight-waits", replace(tight_and_loose, host={**tight_and_loose.host, 2: AtHost(1, 1, 1, 0, Hand(1, 2, 1))})
     for length, position in ((0, 0), (1, 0), (1, 1), (4, 4), (1023, 1020), (1024, 0), (1024, 1024)):
         yield f"hand-{length}-{position}", opened(ready(given=2), 2, host=in_hand(length, position))
         yield f"endpoint-{length}-{position}", replace(dict(rf_states())["poll"], endpoint=Hand(1, length, position))
@@ -469,6 +501,7 @@ def good():
         yield f"stores-full-{head}", opened(ready(), *CONNS, controller={"store": Ring(head, 8)})
     yield "spent", spent(opened(ready(), *CONNS))
     yield "spent-unlimited", spent(opened(ready(profile=UNLIMITED), *CONNS))
+    yield "spent-unlike", spent(opened(ready(profile=UNLIKE), *CONNS))
 
 
 # ---- the lines
@@ -478,7 +511,8 @@ LIMITS = {
     **{flag: 1 for flag in FLAGS},
     **{f"{wire}.{part}": limit for wire in WIRES for part, limit in (("head", 15), ("count", 16))},
     **{f"{store}.{part}": limit for store in STORES for part, limit in (("head", 7), ("count", 8))},
-    **{"phase": 2, "rf": 6, "rf.1": 1, "given": 5, "found": 8, "dynamic.credits": 8, "fixed.credits": 8},
+    **{f"profile{conn}.credits": 8 for conn in PROFILED},
+    **{"phase": 2, "rf": 6, "rf.1": 1, "given": 5, "found": 8},
     # the least that they may be is 32: one less is tried as the limit, and 32 as the value past it
     **{"control": 31, "size": 31},
 }
@@ -539,8 +573,10 @@ def together():
     for ring, slots in [(wire, 16) for wire in WIRES] + [(store, 8) for store in STORES]:
         for head, count in product((0, slots - 1, slots), (0, slots, slots + 1)):
             yield varied(f"{ring}-{head}-{count}", base, {f"{ring}.head": head, f"{ring}.count": count})
-    for kind, credits in product(("dynamic", "fixed"), (*range(10), 128, 254, 255)):
-        yield varied(f"{kind}-credits-{credits}", base, {f"{kind}.credits": credits})
+    for conn, credits in product(PROFILED, (*range(10), 128, 254, 255)):
+        yield varied(f"profile{conn}-credits-{credits}", base, {f"profile{conn}.credits": credits})
+    for conn, payload in product(PROFILED, (0, 1, 128, 255)):
+        yield varied(f"profile{conn}-payload-{payload}", base, {f"profile{conn}.payload": payload})
     for given in range(8):
         yield varied(f"given-{given}", base, {"given": given})
     for control, size in product((31, 32, 255), repeat=2):
@@ -593,7 +629,7 @@ def chance():
         if rf == W4_HOST_SELECT:
             carries = one_of((), (below(256), below(256)))
         return Record(
-            profile=(32 + below(224), *terms(), *terms()),
+            profile=(32 + below(224), *(octet for _ in PROFILED for octet in terms())),
             size=32 + below(224),
             asked=one_of((), (below(256), below(256), below(256))),
             hearing=run(255, below(256), below(256), below(256)),
@@ -614,7 +650,7 @@ def chance():
     def littered(r):
         """The octets of a record with those that it does not use set to anything."""
         o = bytearray(octets(r))
-        spare = [*FREE] + ([] if r.asked else ["asked.gid", "asked.oid", "asked.aim"])
+        spare = [] if r.asked else ["asked.gid", "asked.oid", "asked.aim"]
         if r.rf == W4_HOST_SELECT and not r.carries:
             spare += ["rf.2", "rf.3"]
         elif r.rf not in (W4_HOST_SELECT, *ACTIVE):

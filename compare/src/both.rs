@@ -88,9 +88,9 @@ impl Default for Both {
 
 impl Both {
     /// Begins a list with fresh.
-    pub fn begin(&mut self, profile: [u8; 5]) -> Result<(), String> {
+    pub fn begin(&mut self, profile: &[u8]) -> Result<(), String> {
         self.tally.lists += 1;
-        self.step(&Call::Fresh(profile))
+        self.step(&Call::Fresh(profile.to_vec()))
     }
 
     /// Puts octets in place of the bench's and loads the second implementation with
@@ -145,6 +145,9 @@ impl Both {
             self.tally.count_sums(&sums);
             self.past_grant.count(&sums);
         }
+        if let Some(bench) = &self.second {
+            self.tally.count_opening(call, &outcome, bench);
+        }
         self.count_replaced(stored, &outcome);
         let due = word::of(&outcome);
         check(seen.word == due, || format!("{}: word {:#x} for {due:#x}", call.name(), seen.word))?;
@@ -158,7 +161,7 @@ impl Both {
     /// profile is inside its limits.
     fn expected(&mut self, call: &Call) -> Option<Outcome> {
         if let (Call::Fresh(profile), None) = (call, &self.second) {
-            self.second = Bench::new(*profile);
+            self.second = Bench::new(profile);
             return Some(match self.second {
                 Some(_) => Outcome::default(),
                 None => Outcome { answer: 3, ..Outcome::default() },

@@ -5,6 +5,7 @@
 use exam_bench::call::Call;
 use exam_bench::connection::CONN_IDS;
 use exam_bench::player::Random;
+use exam_bench::profile::LONG_PROFILE;
 
 use crate::lists::Lists;
 use crate::record::{AREA, RECORD, RECORD_AT, RECORD_ROOM, SLOT, STORES_AT, STORE_SLOTS, UP_AT, WIRE_SLOTS};
@@ -196,7 +197,7 @@ fn mend(record: &mut [u8]) {
     for size in [0, 11] {
         record[size] = record[size].max(32);
     }
-    for term in &mut record[1..5] {
+    for term in &mut record[1..LONG_PROFILE] {
         *term = (*term).max(1);
     }
     if record[23] == 1 {
@@ -228,7 +229,7 @@ fn mend_length(length: &mut [u8]) {
 /// The most that an octet of the record mostly is: both ends and the wires, in the order
 /// of the record. Lengths are kept under 256 or at 1,024.
 fn most(place: usize) -> u8 {
-    const PROFILE: [u8; 11] = [255, 255, 8, 255, 8, 0, 0, 0, 0, 0, 0];
+    const PROFILE: [u8; LONG_PROFILE] = [255, 255, 8, 255, 8, 255, 8, 255, 8, 255, 8];
     const HOST: [u8; 5] = [255, 1, 1, 6, 6];
     const RUN: [u8; 6] = [3, 1, 6, 0, 255, 1];
     const CONTROLLER: [u8; 23] = [2, 5, 6, 1, 9, 5, 9, 5, 9, 5, 9, 5, 9, 5, 9, 5, 9, 5, 9, 5, 9, 5, 8];
@@ -335,10 +336,16 @@ fn calls(random: &mut Random, each_conn: bool) -> Vec<Call> {
     calls
 }
 
-fn profile(random: &mut Random) -> [u8; 5] {
-    let mut profile = [32, 4, 2, 4, 1];
+/// A profile of either form, at times with one octet of any value, or with another number
+/// of octets.
+fn profile(random: &mut Random) -> Vec<u8> {
+    let form: &[u8] = random.pick(&[&[32, 4, 2, 4, 1], &[32, 1, 1, 255, 8, 4, 2, 100, 255, 4, 1]]);
+    let mut profile = form.to_vec();
     if random.chance(50) {
-        profile[random.below(5)] = random.octet();
+        let place = random.below(profile.len());
+        profile[place] = random.octet();
+    } else if random.chance(20) {
+        profile.resize(random.pick(&[0, 4, 6, 10, 12, 255]), 1);
     }
     profile
 }

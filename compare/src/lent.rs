@@ -74,21 +74,16 @@ impl Lent {
         self.stands = 0;
     }
 
-    /// Makes a call with its own argument.
+    /// Makes a call.
     pub fn call(&mut self, call: &Call, room: Room) -> Result<Seen, String> {
-        self.call_with(call, exports::argument(call), room)
-    }
-
-    /// Makes a call with any octets for its argument.
-    pub fn call_with(&mut self, call: &Call, argument: &[u8], room: Room) -> Result<Seen, String> {
-        let seen = self.ask(call, argument, room)?;
+        let seen = self.ask(call, room)?;
         self.settle(seen.word)?;
         Ok(seen)
     }
 
     /// Makes a call that only looks. Whether the area is as it was, `unchanged` tells.
     pub fn look(&mut self, call: &Call, room: Room) -> Result<Seen, String> {
-        self.ask(call, exports::argument(call), room)
+        self.ask(call, room)
     }
 
     /// Reads a packet of a wire, which only looks.
@@ -98,8 +93,9 @@ impl Lent {
         seen(exports::packet(self.area.last(room.area), buffer, wire, back), buffer, self.mark)
     }
 
-    fn ask(&mut self, call: &Call, argument: &[u8], room: Room) -> Result<Seen, String> {
+    fn ask(&mut self, call: &Call, room: Room) -> Result<Seen, String> {
         self.lend(room);
+        let argument = exports::argument(call);
         let lent = self.argument.last(argument.len());
         lent.copy_from_slice(argument);
         let buffer = self.buffer.last(room.buffer);

@@ -43,7 +43,7 @@ impl Lists {
             (self.player.list_length(most), self.player.begin())
         };
         self.lines.clear();
-        self.both.begin(profile)?;
+        self.both.begin(&profile)?;
         for _ in 1..length {
             self.next_call()?;
         }

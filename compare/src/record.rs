@@ -7,7 +7,7 @@ use exam_bench::connection::{CONN_IDS, LAST_DYNAMIC};
 use exam_bench::controller::{self, Activation, Controller, Pair, Phase, Rf};
 use exam_bench::host::{self, Host, Unanswered};
 use exam_bench::packet::{ControlRun, InHand, MessageType, Run};
-use exam_bench::profile::{Profile, Terms};
+use exam_bench::profile::{Profile, Terms, LONG_PROFILE};
 use std::collections::VecDeque;
 
 /// Octets of an area, and of the record at its end.
@@ -111,11 +111,11 @@ impl Reader<'_> {
         self.area[at..at + octets].to_vec()
     }
 
-    /// Five octets, and room for six more that says nothing.
+    /// In the long form, whichever fresh was given.
     fn profile(&mut self) -> Option<Profile> {
-        let octets = [self.octet(), self.octet(), self.octet(), self.octet(), self.octet()];
-        self.at += 6;
-        Profile::read(octets)
+        let octets = self.part(self.at, LONG_PROFILE);
+        self.at += LONG_PROFILE;
+        Profile::read(&octets)
     }
 
     /// The host's size of commands and the unanswered one.

@@ -75,7 +75,7 @@ const PROFILE: [u8; 5] = [32, 32, 8, 32, 8];
 
 /// Up to an open loopback, 2, and an activation.
 fn opening() -> Vec<Call> {
-    let mut calls = vec![Call::Fresh(PROFILE)];
+    let mut calls = vec![Call::Fresh(PROFILE.to_vec())];
     for asked in
         [command(0, 0, &[1]), command(0, 1, &[0, 0]), command(0, 4, &[1, 0]), command(1, 3, &[1, 0, 1])]
     {
@@ -97,7 +97,7 @@ pub fn cases() -> Vec<(&'static str, Vec<Call>, Call)> {
     let endpoint = Call::Air([vec![8], vec![7; 1024]].concat());
     let from = |calls: Vec<Call>| [opening(), calls].concat();
     vec![
-        ("fresh", from(vec![]), Call::Fresh(PROFILE)),
+        ("fresh", from(vec![]), Call::Fresh(PROFILE.to_vec())),
         ("power", from(vec![]), Call::Power),
         ("command", from(vec![]), command(0, 4, &[1, 0])),
         ("send, 9 octets", from(vec![]), short),
@@ -121,7 +121,7 @@ pub fn cases() -> Vec<(&'static str, Vec<Call>, Call)> {
 /// Times one call where it stands after these calls.
 pub fn time_call(before: &[Call], call: &Call, rounds: usize) -> Times {
     let mut octets = Octets::new();
-    let mut bench = Bench::new(PROFILE).expect("the profile is inside its limits");
+    let mut bench = Bench::new(&PROFILE).expect("the profile is inside its limits");
     for call in before {
         octets.play(call);
         bench.play(call);
@@ -146,15 +146,16 @@ fn time<T, A>(all: &mut [T], mut act: impl FnMut(&mut T) -> A) -> Duration {
     start.elapsed()
 }
 
-/// A paper of random lists, as the second implementation's player deals them.
+/// A paper of random lists, as the second implementation's player deals them. Profiles
+/// have five octets, so that times compare with those of papers that knew no others.
 pub fn mixed_paper(calls: usize, seed: u64, lengths: Lengths) -> Vec<Call> {
-    let mut player = Player::new(seed, lengths);
-    let mut bench = Bench::new(PROFILE).expect("the profile is inside its limits");
+    let mut player = Player::new(seed, lengths).with_short_profiles();
+    let mut bench = Bench::new(&PROFILE).expect("the profile is inside its limits");
     let mut paper = Vec::new();
     while paper.len() < calls {
         let length = player.list_length(LIST_CALLS);
         let profile = player.begin();
-        bench.fresh(profile);
+        bench.fresh(&profile);
         paper.push(Call::Fresh(profile));
         for _ in 1..length {
             let call = player.next_call(&bench);
@@ -169,7 +170,7 @@ pub fn mixed_paper(calls: usize, seed: u64, lengths: Lengths) -> Vec<Call> {
 pub fn time_paper(paper: &[Call]) -> Times {
     let mut octets = Octets::new();
     let proved = time_pieces(paper, |call| octets.play(call));
-    let mut bench = Bench::new(PROFILE).expect("the profile is inside its limits");
+    let mut bench = Bench::new(&PROFILE).expect("the profile is inside its limits");
     let second = time_pieces(paper, |call| bench.play(call));
     Times { calls: paper.len(), proved, second }
 }

@@ -29,7 +29,7 @@ const W4_ALL_DISCOVERIES: u8 = 2;
 /// Connection 0 open at both ends, wires empty.
 fn active() -> Both {
     let mut both = Both::default();
-    both.begin(PROFILE).unwrap();
+    both.begin(&PROFILE).unwrap();
     let commands: [(u8, u8, &[u8]); 3] = [(0, 0, &[1]), (0, 1, &[0, 0]), (1, 3, &[1, 0, 1])];
     for (gid, oid, payload) in commands {
         step(&mut both, Call::Command { gid, oid, payload: payload.to_vec() });
@@ -118,7 +118,7 @@ fn check_sum(both: &mut Both, at: usize, grant: u8, sum: u8) {
         host.iter().chain(&controller).for_each(|call| both.step(call).unwrap());
         assert_eq!(both.damaged, 11, "each is refused with 1");
         assert_eq!(both.lent.octets(), left);
-        step(both, Call::Fresh(PROFILE));
+        step(both, Call::Fresh(PROFILE.to_vec()));
     } else {
         step(both, Call::Report(0));
     }

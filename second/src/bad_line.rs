@@ -41,7 +41,7 @@ pub enum Fault {
 
 /// All of them. Those of octets missing or to spare stand for each call that has a
 /// number of octets of its own, `air` by its kinds.
-pub const FAULTS: [Fault; 40] = [
+pub const FAULTS: [Fault; 42] = [
     Fault::Empty,
     Fault::CarriageReturn,
     Fault::Nul,
@@ -61,6 +61,7 @@ pub const FAULTS: [Fault; 40] = [
     Fault::Slip,
     Fault::Noise,
     Fault::Missing("fresh", &[0x20, 4, 2, 4, 1]),
+    Fault::Missing("fresh", &[0x20, 1, 1, 255, 8, 4, 2, 4, 2, 4, 1]),
     Fault::Missing("command", &[0, 0]),
     Fault::Missing("send", &[2]),
     Fault::Missing("push", &[2]),
@@ -70,6 +71,7 @@ pub const FAULTS: [Fault; 40] = [
     Fault::Missing("air", &[2, 1, 4, 0]),
     Fault::Missing("air", &[3, 1, 4, 0x80]),
     Fault::Spare("fresh", &[0x20, 4, 2, 4, 1]),
+    Fault::Spare("fresh", &[0x20, 1, 1, 255, 8, 4, 2, 4, 2, 4, 1]),
     Fault::Spare("power", &[]),
     Fault::Spare("push", &[2]),
     Fault::Spare("down", &[]),
@@ -107,10 +109,7 @@ pub fn bad_line(random: &mut Random, fault: Fault, call: &Call) -> Vec<u8> {
         Fault::NoEv => no_ev(random, &good),
         Fault::NoArg => no_arg(random, &good),
         Fault::UnknownName => unknown_name(random, call),
-        Fault::Missing(name, octets) => {
-            let count = random.below(octets.len());
-            form(name, &octets[..count])
-        }
+        Fault::Missing(name, octets) => fewer(random, name, octets),
         Fault::Spare(name, octets) => {
             let count = random.pick(&[1, 1, 2, 3, 4, 5, 255, 1000]);
             form(name, &[octets, &random.octets(count)].concat())
@@ -131,6 +130,16 @@ pub fn bad_line(random: &mut Random, fault: Fault, call: &Call) -> Vec<u8> {
 
 fn form(name: &str, octets: &[u8]) -> Vec<u8> {
     format!("ev={name} arg={}", hex(octets)).into_bytes()
+}
+
+/// Fewer octets than these. Five of a long profile are one too, and are left out.
+fn fewer(random: &mut Random, name: &str, octets: &[u8]) -> Vec<u8> {
+    loop {
+        let line = form(name, &octets[..random.below(octets.len())]);
+        if read_line(&line).is_none() {
+            return line;
+        }
+    }
 }
 
 /// A line of so many characters, or one fewer, with as many octets as go into it.

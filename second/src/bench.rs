@@ -48,8 +48,8 @@ fn put_up(packet: Vec<u8>) -> Outcome {
 }
 
 impl Bench {
-    /// A fresh bench, or none for a profile outside its limits.
-    pub fn new(profile: [u8; 5]) -> Option<Bench> {
+    /// A fresh bench, or none for a profile of another length or outside its limits.
+    pub fn new(profile: &[u8]) -> Option<Bench> {
         Profile::read(profile).map(Bench::cold)
     }
 
@@ -83,7 +83,7 @@ impl Bench {
     /// Makes any of the twelve calls.
     pub fn play(&mut self, call: &Call) -> Outcome {
         match call {
-            Call::Fresh(profile) => self.fresh(*profile),
+            Call::Fresh(profile) => self.fresh(profile),
             Call::Power => self.power(),
             Call::Command { gid, oid, payload } => self.command(*gid, *oid, payload),
             Call::Send { conn, message } => self.send(*conn, message),
@@ -121,7 +121,7 @@ impl Bench {
 
     // fresh, power
 
-    pub fn fresh(&mut self, profile: [u8; 5]) -> Outcome {
+    pub fn fresh(&mut self, profile: &[u8]) -> Outcome {
         match Bench::new(profile) {
             None => Outcome::refused(Refusal::ArgumentOutsideLimit),
             Some(bench) => {

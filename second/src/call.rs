@@ -1,10 +1,11 @@
 //! The twelve calls, their outcomes and the numbers for a call not taken.
 
-/// A call with its arguments, as the sheet writes them. `air` has its kind
-/// first (decision on the argument of air).
+/// A call with its arguments, as the sheet writes them. `fresh` has the octets of a
+/// profile, five or eleven, and refuses another number; `air` has its kind first
+/// (decision on the argument of air).
 #[derive(Clone, Debug, PartialEq, Eq)]
 pub enum Call {
-    Fresh([u8; 5]),
+    Fresh(Vec<u8>),
     Power,
     Command { gid: u8, oid: u8, payload: Vec<u8> },
     Send { conn: u8, message: Vec<u8> },

@@ -5,7 +5,8 @@
 //! since the last fresh or power and not yet taken by down or up. From that it
 //! counts, in document 01's words, what each report must say; credits inside data
 //! packets going up count as those of notices do. It reads octets on its own, so that
-//! a fault of the packet layer does not excuse itself.
+//! a fault of the packet layer does not excuse itself. An opening must state the pair
+//! that the profile of the last fresh has for its connection.
 //!
 //! It also numbers the calls, and knows from sends and pushes what the host has in
 //! hand: what a close or reset response discards was sent before its command.
@@ -164,6 +165,8 @@ pub struct Observer {
     calls: u64,
     /// Messages in hand that a close or reset response discarded, in the whole list.
     discards: u64,
+    /// The octets of the last fresh; none before it.
+    profile: Vec<u8>,
     down_wire: VecDeque<Vec<u8>>,
     up_wire: VecDeque<Vec<u8>>,
     /// The command last taken.
@@ -206,9 +209,8 @@ impl Observer {
     /// What the call does by itself: taking a packet off a wire, counting.
     fn expect(&mut self, call: &Call, outcome: &Outcome) -> Result<Expected, String> {
         match call {
-            Call::Fresh(_) | Call::Power => {
-                *self = Observer { calls: self.calls, discards: self.discards, ..Observer::default() };
-            }
+            Call::Fresh(profile) => *self = self.begun(profile.clone()),
+            Call::Power => *self = self.begun(self.profile.clone()),
             Call::Command { payload, .. } => {
                 let named = payload.first().map(|octet| octet & 15);
                 self.command = Some(Command { number: self.calls, named });
@@ -229,6 +231,11 @@ impl Observer {
             Call::Credit | Call::Reply | Call::Report(_) => {}
         }
         Ok(Expected::default())
+    }
+
+    /// Wires and connections as fresh and power leave them.
+    fn begun(&self, profile: Vec<u8>) -> Observer {
+        Observer { calls: self.calls, discards: self.discards, profile, ..Observer::default() }
     }
 
     fn require_account(&mut self, conn: u8) -> Result<&mut Account, String> {
@@ -325,7 +332,10 @@ impl Observer {
     /// Openings, closings and credits as the controller puts them up.
     fn controller_puts(&mut self, octets: &[u8]) -> Result<(), String> {
         match meaning(octets)? {
-            Meaning::Opens { conn, credits, .. } => self.controller_opens(conn, credits)?,
+            Meaning::Opens { conn, payload, credits } => {
+                self.controller_opens(conn, credits)?;
+                self.check_terms(conn, [payload, credits])?;
+            }
             Meaning::ClosesNamed => {
                 let conn = self.named()?;
                 self.require_account(conn)?.controller.open = false;
@@ -353,6 +363,22 @@ impl Observer {
         }
         controller.credits_put += i64::from(credits);
         Ok(())
+    }
+
+    /// Payload and credits are those at the connection's own place in the profile; the
+    /// pair of 0 is the last, and of five octets the first pair is that of 2-5.
+    fn check_terms(&self, conn: u8, terms: [u8; 2]) -> Result<(), String> {
+        let due = match (self.profile.len(), conn) {
+            (0, _) => return Ok(()),
+            (octets, 0) => &self.profile[octets - 2..],
+            (5, _) => &self.profile[1..3],
+            (_, conn) => &self.profile[2 * usize::from(conn) - 3..][..2],
+        };
+        if terms == due {
+            Ok(())
+        } else {
+            Err(format!("connection {conn} opened with {terms:?}, where the profile has {due:?}"))
+        }
     }
 
     /// An opening begins both accounts anew: nothing of an earlier holder of the

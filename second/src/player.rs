@@ -80,6 +80,8 @@ pub enum Goal {
 pub struct Player {
     random: Random,
     lengths: Lengths,
+    /// Whether profiles of eleven octets are dealt beside those of five.
+    long_profiles: bool,
     goal: Option<Goal>,
     plan: VecDeque<Step>,
     /// How often, of a hundred, the plan is followed and not a random call made.
@@ -88,11 +90,17 @@ pub struct Player {
 
 impl Player {
     pub fn new(seed: u64, lengths: Lengths) -> Player {
-        Player { random: Random::new(seed), lengths, goal: None, plan: VecDeque::new(), follow: 90 }
+        let random = Random::new(seed);
+        Player { random, lengths, long_profiles: true, goal: None, plan: VecDeque::new(), follow: 90 }
+    }
+
+    /// Deals profiles of five octets alone, as the first papers had.
+    pub fn with_short_profiles(self) -> Player {
+        Player { long_profiles: false, ..self }
     }
 
     /// Begins a list: a profile for fresh and a temper for what follows.
-    pub fn begin(&mut self) -> [u8; 5] {
+    pub fn begin(&mut self) -> Vec<u8> {
         self.plan.clear();
         self.goal = None;
         self.follow = self.random.pick(&[100, 98, 98, 95, 95, 95, 90, 85, 60, 20]);
@@ -100,12 +108,12 @@ impl Player {
     }
 
     /// Begins a list that is led to a goal: small packets without flow control.
-    pub fn begin_towards(&mut self, goal: Goal) -> [u8; 5] {
+    pub fn begin_towards(&mut self, goal: Goal) -> Vec<u8> {
         self.plan.clear();
         self.goal = Some(goal);
         self.follow = 100;
         let payload = self.random.pick(&[1, 2, 3, 4]);
-        [32, payload, 255, payload, 255]
+        vec![32, payload, 255, payload, 255]
     }
 
     /// A length for the next list, biased to long ones.

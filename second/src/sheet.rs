@@ -5,9 +5,10 @@ use std::io::{self, BufRead, Read, Write};
 
 use crate::bench::Bench;
 use crate::call::{Call, Outcome};
+use crate::profile::{LONG_PROFILE, SHORT_PROFILE};
 
 /// The bench that a sheet starts with.
-pub const FIRST_PROFILE: [u8; 5] = [0x20, 0x04, 0x02, 0x04, 0x01];
+pub const FIRST_PROFILE: [u8; SHORT_PROFILE] = [0x20, 0x04, 0x02, 0x04, 0x01];
 /// Characters of a line before its line feed.
 pub const MOST_CHARACTERS: usize = 2100;
 /// The answer to a line of another form.
@@ -16,7 +17,7 @@ pub const BAD_LINE: &str = "ev=bad ans=3";
 /// Answers each line as soon as it is read; a last line without a line feed is
 /// answered too.
 pub fn run(input: &mut impl BufRead, output: &mut impl Write) -> io::Result<()> {
-    let mut bench = Bench::new(FIRST_PROFILE).expect("the first profile is inside its limits");
+    let mut bench = Bench::new(&FIRST_PROFILE).expect("the first profile is inside its limits");
     while let Some(line) = next_line(input)? {
         writeln!(output, "{}", answer_line(&mut bench, &line))?;
         output.flush()?;
@@ -94,7 +95,9 @@ fn read_hex(hex: &str) -> Option<Vec<u8>> {
 /// in a tail goes to the call, which refuses it (decision on bad lines).
 fn read_call(name: &str, octets: &[u8]) -> Option<Call> {
     let call = match (name, octets) {
-        ("fresh", octets) => Call::Fresh(octets.try_into().ok()?),
+        ("fresh", octets) if matches!(octets.len(), SHORT_PROFILE | LONG_PROFILE) => {
+            Call::Fresh(octets.to_vec())
+        }
         ("power", []) => Call::Power,
         ("command", [gid, oid, payload @ ..]) => {
             Call::Command { gid: *gid, oid: *oid, payload: payload.to_vec() }
@@ -131,7 +134,7 @@ fn air_fields_fit(octets: &[u8]) -> bool {
 /// The line of a call.
 pub fn write_call(call: &Call) -> String {
     let octets = match call {
-        Call::Fresh(profile) => profile.to_vec(),
+        Call::Fresh(profile) => profile.clone(),
         Call::Command { gid, oid, payload } => [&[*gid, *oid][..], payload].concat(),
         Call::Send { conn, message } => [&[*conn][..], message].concat(),
         Call::Push(conn) | Call::Consume(conn) | Call::Report(conn) => vec![*conn],

@@ -6,9 +6,11 @@ pub mod grants;
 
 use crate::bench::Bench;
 use crate::call::{Call, Outcome, ANSWERS, REFUSALS};
-use crate::layout::{self, Notification};
+use crate::connection::{FIRST_DYNAMIC, LAST_DYNAMIC};
+use crate::layout::{self, Notification, Response};
 use crate::observer::{Event, Observer};
 use crate::packet::{self, MessageType, Reading, MOST_CARRIED};
+use crate::profile::{LONG_PROFILE, SHORT_PROFILE};
 use crate::sheet;
 use grants::{Source, Sum};
 
@@ -30,6 +32,10 @@ pub const REFUSALS_OF: [&[u8]; 12] = [
     &[3, 6],
 ];
 
+/// Octets of a profile.
+const PROFILES: [usize; 2] = [SHORT_PROFILE, LONG_PROFILE];
+const LOOPBACKS: usize = (LAST_DYNAMIC - FIRST_DYNAMIC) as usize + 1;
+
 /// What a number of lists has met.
 #[derive(Clone, Debug, Default)]
 pub struct Tally {
@@ -39,6 +45,10 @@ pub struct Tally {
     pub taken: [u64; 12],
     /// Refused, for each call and number.
     pub refused: [[u64; ANSWERS]; 12],
+    /// Profiles that fresh took, by their octets.
+    pub profiles: [u64; PROFILES.len()],
+    /// Loopbacks that opened while another one was open with another grant, from 2 on.
+    pub unlike: [u64; LOOPBACKS],
     pub messages: u64,
     pub drops: u64,
     /// Data packets put up, by the credits that each carries.
@@ -66,6 +76,26 @@ impl Tally {
         self.messages += u64::from(handed_out);
         self.drops += u64::from(outcome.drop);
         outcome.up.iter().for_each(|octets| self.count_credits(octets));
+        if let (Call::Fresh(profile), true) = (call, outcome.taken()) {
+            self.count_profile(profile.len());
+        }
+    }
+
+    fn count_profile(&mut self, octets: usize) {
+        if let Some(form) = PROFILES.iter().position(|form| *form == octets) {
+            self.profiles[form] += 1;
+        }
+    }
+
+    /// The loopback that a command's last packet opened, if it did, on the bench after it.
+    pub fn count_opening(&mut self, call: &Call, outcome: &Outcome, bench: &Bench) {
+        let created = outcome.up.first().and_then(|octets| created(octets));
+        if let (Call::Down, Some((conn, grant))) = (call, created) {
+            let loopbacks = FIRST_DYNAMIC..=LAST_DYNAMIC;
+            let mut open = loopbacks.filter_map(|conn| bench.controller().connection(conn));
+            let unlike = open.any(|open| open.terms.credits != grant);
+            self.unlike[usize::from(conn - FIRST_DYNAMIC)] += u64::from(unlike);
+        }
     }
 
     fn count_credits(&mut self, octets: &[u8]) {
@@ -107,7 +137,9 @@ impl Tally {
 
     /// Calls never taken, and pairs of call and refusal never met, as `call` and
     /// `call:number`; then numbers of credits that no data packet carried, as
-    /// `carried:number`, and what never added up to a whole grant, as `whole:source`.
+    /// `carried:number`, what never added up to a whole grant, as `whole:source`, numbers
+    /// of octets that no profile had, as `profile:number`, and loopbacks that never opened
+    /// beside one with another grant, as `unlike:conn`.
     pub fn gaps(&self) -> Vec<String> {
         let mut gaps = Vec::new();
         for (index, name) in Call::NAMES.iter().enumerate() {
@@ -124,6 +156,10 @@ impl Tally {
         gaps.extend(uncarried.map(|(credits, _)| format!("carried:{credits}")));
         let unmet = Source::NAMES.iter().zip(self.whole).filter(|(_, sums)| *sums == 0);
         gaps.extend(unmet.map(|(source, _)| format!("whole:{source}")));
+        let unmet = PROFILES.iter().zip(self.profiles).filter(|(_, taken)| *taken == 0);
+        gaps.extend(unmet.map(|(octets, _)| format!("profile:{octets}")));
+        let unmet = (FIRST_DYNAMIC..).zip(self.unlike).filter(|(_, openings)| *openings == 0);
+        gaps.extend(unmet.map(|(conn, _)| format!("unlike:{conn}")));
         gaps
     }
 
@@ -142,8 +178,25 @@ impl Tally {
         for (source, sums) in Source::NAMES.iter().zip(self.whole) {
             fields += &format!(" whole-{source}={sums}");
         }
+        for (octets, taken) in PROFILES.iter().zip(self.profiles) {
+            fields += &format!(" profile-{octets}={taken}");
+        }
+        for (conn, openings) in (FIRST_DYNAMIC..).zip(self.unlike) {
+            fields += &format!(" unlike-{conn}={openings}");
+        }
         fields += &format!(" discards={} rests={}", self.discards, self.rests);
         fields + &format!(" never={} gaps={}", list_or_none(&never), list_or_none(&self.gaps()))
+    }
+}
+
+/// Conn ID and grant of a create response.
+fn created(octets: &[u8]) -> Option<(u8, u8)> {
+    let Reading::Packet(packet) = packet::read(octets) else {
+        return None;
+    };
+    match layout::read_response(packet.id, packet.oid, packet.payload) {
+        Some(Response::Created { conn, terms }) => Some((conn, terms.credits)),
+        _ => None,
     }
 }
 
@@ -164,11 +217,11 @@ pub struct Trial {
 
 impl Trial {
     /// Begins with fresh, which the profile must allow.
-    pub fn begin(profile: [u8; 5], tally: &mut Tally) -> Result<Trial, String> {
+    pub fn begin(profile: &[u8], tally: &mut Tally) -> Result<Trial, String> {
         let bench = Bench::new(profile).ok_or("profile outside its limits")?;
         let mut trial = Trial { bench, observer: Observer::new(), events: Vec::new() };
         tally.lists += 1;
-        trial.step(Call::Fresh(profile), tally)?;
+        trial.step(Call::Fresh(profile.to_vec()), tally)?;
         Ok(trial)
     }
 
@@ -180,6 +233,7 @@ impl Trial {
         let sums = if outcome.taken() { grants::sums(&before, &call) } else { Vec::new() };
         tally.count(&call, &outcome);
         tally.count_sums(&sums);
+        tally.count_opening(&call, &outcome, &self.bench);
         self.events.push(Event { call, outcome });
         let event = &self.events[self.events.len() - 1];
         check_refusal(event, &before, &self.bench)?;

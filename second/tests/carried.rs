@@ -6,7 +6,7 @@ use common::*;
 use exam_bench::bench::Bench;
 
 /// One credit on dynamic connections, eight on the static one.
-const EIGHT: [u8; 5] = [0x20, 4, 1, 4, 8];
+const EIGHT: &[u8] = &[0x20, 4, 1, 4, 8];
 
 /// So many packets of connection 0 consumed, in a bench with eight credits there.
 fn consumed_on_0(packets: usize) -> Bench {

@@ -116,7 +116,7 @@ fn poll_active_takes_every_type_in_every_mode() {
 #[test]
 fn init_response() {
     for control_payload in [32, 33, 255] {
-        let mut bench = fresh([control_payload, 4, 2, 4, 1]);
+        let mut bench = fresh(&[control_payload, 4, 2, 4, 1]);
         assert_eq!(status_of(&bench, 0, 1, &[0, 0]), 6);
         command(&mut bench, 0, 0, &[1]);
         assert_eq!(status_of(&bench, 0, 1, &[0]), 5);
@@ -459,7 +459,7 @@ fn which_state_takes_which_kind() {
 
 #[test]
 fn notifications_of_the_air() {
-    let mut bench = discovery([0x20, 4, 2, 0x20, 0xFF]);
+    let mut bench = discovery(&[0x20, 4, 2, 0x20, 0xFF]);
     assert_eq!(
         takes(&bench, |bench| bench.air(&[1, 7, 0xFE, 6, 2, 0xAA, 0xBB])).up,
         packets("61 03 07 07 FE 06 02 AA BB 02")

@@ -95,7 +95,7 @@ fn rf_deactivate_ntf_is_no_response() {
 #[test]
 fn discards_are_counted_through_power_and_fresh() {
     let round = [&opening(2)[..], &[send(2, 9), asked(0, 5, &[2]), Call::Down, Call::Up]].concat();
-    for end in [Call::Power, Call::Fresh(PROFILE)] {
+    for end in [Call::Power, Call::Fresh(PROFILE.to_vec())] {
         let calls = [&round[..], &[end], &round].concat();
         assert_eq!(discards(&played(&mut fresh(PROFILE), &calls)), 2);
     }

@@ -72,7 +72,7 @@ fn any_octets_on_the_wires() {
     // Sums past the grant, by what added to them.
     let mut past_grant = [0u32; 3];
     for _ in 0..300 {
-        let mut bench = fresh(player.begin());
+        let mut bench = fresh(&player.begin());
         for _ in 0..200 {
             if random.chance(40) && bench.up_wire().len() < WIRE_SLOTS {
                 bench.forge_up(&forged(&mut random));
@@ -100,7 +100,7 @@ fn any_octets_on_the_wires() {
 
 #[test]
 fn an_activation_read_while_0_is_open_opens_it_anew() {
-    let mut bench = active([0x20, 4, 2, 4, 8], 0);
+    let mut bench = active(&[0x20, 4, 2, 4, 8], 0);
     taken(bench.send(0, &[1; 8]));
     taken(bench.push(0));
     bench.forge_up(&octets("10 00 01 AA"));

@@ -267,7 +267,7 @@ fn a_run_past_255_is_dropped_at_the_host() {
 /// The credits that its packets carry count all the same.
 #[test]
 fn a_data_run_past_1024_is_dropped_at_both_ends() {
-    let mut bench = loopbacks([0x20, 4, 8, 4, 1], 1);
+    let mut bench = loopbacks(&[0x20, 4, 8, 4, 1], 1);
     bench.forge_holding(2, 8, 0);
     let part = |first: u8, length: usize| [&[first, 0, length as u8][..], &vec![1; length]].concat();
     for (forged, drop) in [
@@ -335,7 +335,7 @@ fn a_stored_packet_that_the_reader_drops_counts_as_consumed() {
 
 #[test]
 fn the_fifth_number_counts_only_packets_with_written_contents() {
-    let mut bench = loopbacks([0x20, 4, 8, 4, 1], 1);
+    let mut bench = loopbacks(&[0x20, 4, 8, 4, 1], 1);
     for never in [
         "60 06 03 01 02 09",
         "70 06 03 01 02 08",
@@ -352,7 +352,7 @@ fn the_fifth_number_counts_only_packets_with_written_contents() {
     bench.forge_up(&octets("60 06 03 01 02 08"));
     bench.forge_up(&octets("40 04 04 00 04 08 02"));
     assert_eq!(report(&bench, 2)[4], 16);
-    let mut bench = loopbacks([0x20, 4, 8, 4, 1], 1);
+    let mut bench = loopbacks(&[0x20, 4, 8, 4, 1], 1);
     for _ in 0..16 {
         bench.forge_up(&octets("60 06 03 01 02 08"));
     }

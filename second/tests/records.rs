@@ -384,7 +384,7 @@ fn any_numbers_in_the_record() {
     // Sums past the grant, by what added to them, and sums past 255.
     let (mut past_grant, mut past_octet) = ([0u32; 3], [0u32; 3]);
     for _ in 0..300 {
-        let mut bench = fresh(player.begin());
+        let mut bench = fresh(&player.begin());
         for _ in 0..200 {
             if random.chance(30) {
                 forge_any(&mut bench, &mut random);

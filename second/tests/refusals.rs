@@ -16,9 +16,33 @@ fn fresh_refuses_a_profile_outside_its_limits() {
     for profile in
         [[31, 4, 2, 4, 1], [32, 0, 2, 4, 1], [32, 4, 0, 4, 1], [32, 4, 9, 4, 1], [32, 4, 2, 4, 254]]
     {
-        refuses(&bench, 3, |bench| bench.fresh(profile));
+        refuses(&bench, 3, |bench| bench.fresh(&profile));
     }
-    takes(&bench, |bench| bench.fresh([255, 255, 8, 1, 255]));
+    takes(&bench, |bench| bench.fresh(&[255, 255, 8, 1, 255]));
+}
+
+#[test]
+fn fresh_judges_each_of_eleven_octets() {
+    let bench = loopbacks(UNLIKE, 2);
+    takes(&bench, |bench| bench.fresh(UNLIKE));
+    for place in 0..UNLIKE.len() {
+        let mut profile = UNLIKE.to_vec();
+        profile[place] = 0;
+        refuses(&bench, 3, |bench| bench.fresh(&profile));
+    }
+}
+
+#[test]
+fn fresh_refuses_another_number_of_octets() {
+    let bench = loopbacks(PROFILE, 1);
+    let ones = [&[32][..], &[1; 299]].concat();
+    for count in 0..=300 {
+        if count == 5 || count == 11 {
+            takes(&bench, |bench| bench.fresh(&ones[..count]));
+        } else {
+            refuses(&bench, 3, |bench| bench.fresh(&ones[..count]));
+        }
+    }
 }
 
 // command
@@ -179,9 +203,8 @@ fn send_waits_for_no_other_command() {
 
 #[test]
 fn power_and_fresh_end_a_close_under_way() {
-    for (oid, end) in
-        [(5, Call::Power), (0, Call::Power), (5, Call::Fresh(PROFILE)), (0, Call::Fresh(PROFILE))]
-    {
+    let fresh = Call::Fresh(PROFILE.to_vec());
+    for (oid, end) in [(5, Call::Power), (0, Call::Power), (5, fresh.clone()), (0, fresh)] {
         let mut bench = one_in_hand();
         taken(bench.command(0, oid, &[0]));
         taken(bench.play(&end));
@@ -484,7 +507,7 @@ fn report_is_of_the_controller_s_opening() {
 // Credits past the grant, to which no list of calls brings them: no call refuses them
 
 fn three_stored_of_two_granted() -> Bench {
-    let mut bench = active([0x20, 4, 2, 4, 2], 0);
+    let mut bench = active(&[0x20, 4, 2, 4, 2], 0);
     for _ in 0..3 {
         bench.forge_down(&[0, 0, 0]);
         taken(bench.down());

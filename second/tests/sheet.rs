@@ -1,7 +1,7 @@
 //! The paper sheet.
 
 mod common;
-use common::PROFILE;
+use common::{PROFILE, UNLIKE};
 use exam_bench::bench::Bench;
 use exam_bench::call::Call;
 use exam_bench::sheet;
@@ -99,7 +99,9 @@ fn octets_missing_or_to_spare_in_fixed_fields() {
     for line in [
         "ev=fresh arg=",
         "ev=fresh arg=20040204",
-        "ev=fresh arg=200402040100",
+        "ev=fresh arg=200402040104",
+        "ev=fresh arg=20040204020402040204",
+        "ev=fresh arg=200402040204020402040104",
         "ev=power arg=00",
         "ev=command arg=",
         "ev=command arg=00",
@@ -127,6 +129,7 @@ fn octets_missing_or_to_spare_in_fixed_fields() {
     }
     for line in [
         "ev=fresh arg=2004020401",
+        "ev=fresh arg=2004020402040204020401",
         "ev=power arg=",
         "ev=command arg=0000",
         "ev=send arg=02",
@@ -150,6 +153,15 @@ fn octets_missing_or_to_spare_in_fixed_fields() {
     }
 }
 
+/// Ones behind a control payload are a profile wherever their number is that of one.
+#[test]
+fn fresh_has_five_octets_or_eleven() {
+    for count in 0..=300 {
+        let line = format!("ev=fresh arg={}", "20".to_string() + &"01".repeat(count));
+        assert_eq!(is_bad(&line), count != 4 && count != 10, "{}", count + 1);
+    }
+}
+
 #[test]
 fn what_is_too_long_in_a_tail_goes_to_the_call() {
     let refused = |name: &str| format!("ev={name} ans=3 drop=0 pkt= msg=");
@@ -161,6 +173,7 @@ fn what_is_too_long_in_a_tail_goes_to_the_call() {
         assert_eq!(answer(&format!("ev=air arg={octets}")), refused("air"));
     }
     assert_eq!(answer("ev=fresh arg=0004020401"), refused("fresh"));
+    assert_eq!(answer("ev=fresh arg=2004020402040904020401"), refused("fresh"));
     assert_eq!(answer("ev=command arg=1000"), refused("command"));
     assert_eq!(answer("ev=push arg=01"), refused("push"));
 }
@@ -203,7 +216,8 @@ fn a_bad_line_changes_nothing() {
 #[test]
 fn every_call_reads_back_from_its_line() {
     let calls = [
-        Call::Fresh(PROFILE),
+        Call::Fresh(PROFILE.to_vec()),
+        Call::Fresh(UNLIKE.to_vec()),
         Call::Power,
         Call::Command { gid: 0, oid: 63, payload: vec![1, 2, 0xFF] },
         Call::Send { conn: 2, message: vec![] },

@@ -13,7 +13,7 @@ fn an_empty_message_is_one_bare_header() {
 
 #[test]
 fn octets_01_to_09_are_three_packets() {
-    let mut bench = loopbacks([0x20, 4, 3, 4, 1], 1);
+    let mut bench = loopbacks(&[0x20, 4, 3, 4, 1], 1);
     taken(bench.send(2, &octets("01 02 03 04 05 06 07 08 09")));
     assert_eq!(taken(bench.push(2)).down, packets("12 00 04 01 02 03 04"));
     assert_eq!(taken(bench.push(2)).down, packets("12 00 04 05 06 07 08"));
@@ -83,7 +83,7 @@ fn closing_0() {
 
 #[test]
 fn all_owed_in_one_notice_ascending() {
-    let mut bench = loopbacks([0x20, 4, 8, 4, 1], 4);
+    let mut bench = loopbacks(&[0x20, 4, 8, 4, 1], 4);
     for (conn, owed) in [(5, 3), (0, 1), (3, 2)] {
         bench.forge_owing(conn, 8, owed);
     }
@@ -177,7 +177,7 @@ fn an_endpoint_s_message_of_510_octets_is_two_packets_and_an_empty_one_a_header(
 
 #[test]
 fn commands_are_cut_at_32_until_the_init_response_is_read() {
-    let mut bench = fresh([64, 4, 2, 4, 1]);
+    let mut bench = fresh(&[64, 4, 2, 4, 1]);
     let lengths = |bench: &mut exam_bench::bench::Bench| -> Vec<u8> {
         let packets = taken(bench.clone().command(9, 9, &[1; 65])).down;
         packets.iter().map(|packet| packet[2]).collect()
@@ -212,7 +212,7 @@ fn a_command_in_segments_is_answered_at_its_last() {
 
 #[test]
 fn a_stale_packet_of_one_activation_is_not_charged_to_the_next() {
-    let mut bench = active([0x20, 4, 2, 4, 2], 0x80);
+    let mut bench = active(&[0x20, 4, 2, 4, 2], 0x80);
     taken(bench.send(0, &[1; 8]));
     taken(bench.push(0));
     // The link is lost while the host still has 0 open; it pushes once more.
@@ -233,7 +233,7 @@ fn a_stale_packet_of_one_activation_is_not_charged_to_the_next() {
 
 #[test]
 fn a_close_leaves_no_half_message_for_the_next_holder_of_the_id() {
-    let mut bench = loopbacks([0x20, 4, 8, 4, 1], 1);
+    let mut bench = loopbacks(&[0x20, 4, 8, 4, 1], 1);
     taken(bench.send(2, &[1; 12]));
     for _ in 0..2 {
         taken(bench.push(2));

@@ -32,6 +32,19 @@ static uint8_t *octets(size_t len) {
     return argument;
 }
 
+/* Calls fresh with a profile of either length, or of one near them, mostly inside its limits. */
+static uint64_t play_fresh(void) {
+    static const size_t lengths[] = {0, 4, 5, 5, 5, 6, 10, 11, 11, 11, 12};
+    size_t len = lengths[below(sizeof lengths / sizeof *lengths)];
+    uint8_t *profile = octets(len);
+    uint64_t word;
+    for (size_t i = 0; i < len; i++)
+        if (below(32) != 0) profile[i] = (uint8_t)(i == 0 ? 32 + below(224) : 1 + below(8));
+    word = nci_fresh(area, NCI_AREA_SIZE + PAST, out, NCI_BUFFER_SIZE, profile, len);
+    free(profile);
+    return word;
+}
+
 /* One of the thirteen exports. */
 static uint64_t play(unsigned which) {
     static const uint8_t known[][2] = {{0, 0}, {0, 1}, {0, 4}, {0, 5}, {1, 3}, {1, 4}, {1, 6}};
@@ -53,7 +66,7 @@ static uint64_t play(unsigned which) {
     case 9: word = nci_up(area, n, out, m); break;
     case 10: word = nci_report(area, n, out, m, conn); break;
     case 11: word = nci_packet(area, n, out, m, wire, back); break;
-    default: word = nci_fresh(area, n, out, m, argument, len); break;
+    default: word = play_fresh(); break;
     }
     free(argument);
     return word;
@@ -86,10 +99,10 @@ static void damage(void) {
     area[place] = below(3) == 0 ? (uint8_t)number() : (uint8_t)below(9);
 }
 
-/* A bench with two loopbacks, one of them with a message in hand and a packet stored, and
- * connection 0 active with a message of the endpoint. */
+/* A bench with two loopbacks, one of them with a message in hand and a packet stored, the
+ * other with one credit, and connection 0 active with a message of the endpoint. */
 static void warm_up(void) {
-    static const uint8_t profile[] = {0x20, 4, 8, 4, 8};
+    static const uint8_t profile[] = {0x20, 4, 8, 1, 1, 255, 8, 4, 8, 4, 8};
     static const uint8_t commands[][6] = {
         {0, 0, 1, 1}, {0, 1, 2, 0, 0}, {0, 4, 2, 1, 0}, {0, 4, 2, 1, 0}, {1, 3, 3, 1, 0, 1}};
     static const uint8_t event[] = {2, 1, 4, 0}, message[] = {8, 1, 2, 3, 4, 5, 6, 7, 8, 9};

@@ -39,17 +39,70 @@ static int handed(uint64_t word, const uint8_t *octets, size_t len) {
            memcmp(out, octets, len) == 0;
 }
 
+/* Five octets, eleven that mean the same, and eleven with a pair for each: 2 is tight, 3 loose. */
+static const uint8_t five[NCI_PROFILE_SIZE] = {0x20, 4, 2, 4, 1};
+static const uint8_t equal[NCI_LONG_PROFILE_SIZE] = {0x20, 4, 2, 4, 2, 4, 2, 4, 2, 4, 1};
+static const uint8_t unlike[NCI_LONG_PROFILE_SIZE] = {0x20, 1, 1, 255, 8, 100, 255, 4, 2, 3, 5};
+
 /* Brings the controller up: RESET and INIT, asked, answered and read. */
-static int bring_up(void) {
-    static const uint8_t profile[] = {0x20, 4, 2, 4, 1}, type[] = {1}, zeros[] = {0, 0};
+static int bring_up(const uint8_t *profile, size_t len) {
+    static const uint8_t type[] = {1}, zeros[] = {0, 0};
     static const uint8_t rsp[] = {0x40, 0, 1, 0}, ntf[] = {0x60, 0, 5, 2, 1, 0x20, 0, 0};
-    HOLDS(nci_fresh(BENCH, profile, sizeof profile) == 0);
+    HOLDS(nci_fresh(BENCH, profile, len) == 0);
     HOLDS(put(nci_command(BENCH, 0, 0, type, sizeof type), 1, 0));
     HOLDS(put(nci_down(BENCH), 0, 2));
     HOLDS(is_packet(NCI_WIRE_UP, 1, rsp, sizeof rsp) && is_packet(NCI_WIRE_UP, 0, ntf, sizeof ntf));
     HOLDS(put(nci_up(BENCH), 0, 0) && put(nci_up(BENCH), 0, 0));
     HOLDS(put(nci_command(BENCH, 0, 1, zeros, sizeof zeros), 1, 0));
     HOLDS(put(nci_down(BENCH), 0, 1) && put(nci_up(BENCH), 0, 0));
+    return 0;
+}
+
+/* Both forms of a profile leave the same area. Another number of octets, or one of them
+ * outside its limits, is refused, and the area stays. */
+static int profiles(void) {
+    static const size_t others[] = {1, 4, 6, 10, 12};
+    static uint8_t left[NCI_AREA_SIZE];
+    uint8_t given[NCI_LONG_PROFILE_SIZE + 1] = {0x20, 1, 1, 1, 1, 1, 1, 1, 1, 1, 1, 1};
+    HOLDS(nci_fresh(BENCH, five, sizeof five) == 0);
+    memcpy(left, area, sizeof left);
+    memset(area, 0x5A, sizeof left);
+    HOLDS(nci_fresh(BENCH, equal, sizeof equal) == 0 && memcmp(left, area, sizeof left) == 0);
+    HOLDS(nci_fresh(BENCH, NULL, 0) == NCI_OUTSIDE_LIMIT);
+    for (size_t i = 0; i < sizeof others / sizeof *others; i++)
+        HOLDS(nci_fresh(BENCH, given, others[i]) == NCI_OUTSIDE_LIMIT);
+    for (size_t i = 0; i < NCI_LONG_PROFILE_SIZE; i++) {
+        memcpy(given, unlike, sizeof unlike);
+        given[i] = 0;
+        HOLDS(nci_fresh(BENCH, given, sizeof unlike) == NCI_OUTSIDE_LIMIT);
+    }
+    HOLDS(memcmp(left, area, sizeof left) == 0);
+    return 0;
+}
+
+/* A loopback opens with the pair of its own ID: 2 to 5, each with another. */
+static int create_each(void) {
+    static const uint8_t create[] = {1, 0};
+    for (uint8_t conn = 2; conn <= 5; conn++) {
+        const uint8_t *pair = unlike + 2 * conn - 3;
+        const uint8_t created[] = {0x40, 4, 4, 0, pair[0], pair[1], conn};
+        HOLDS(put(nci_command(BENCH, 0, 4, create, sizeof create), 1, 0) && put(nci_down(BENCH), 0, 1));
+        HOLDS(is_packet(NCI_WIRE_UP, 0, created, sizeof created) && put(nci_up(BENCH), 0, 0));
+    }
+    return 0;
+}
+
+/* The tight one waits for its credit while the loose one goes on. */
+static int side_by_side(void) {
+    static const uint8_t message[] = {0xAA, 0xBB}, first[] = {0x12, 0, 1, 0xAA}, whole[] = {3, 0, 2, 0xAA, 0xBB};
+    static const uint8_t tight[] = {0, 1, 0, 0, 0}, loose[] = {7, 1, 0, 0, 0};
+    HOLDS(bring_up(unlike, sizeof unlike) == 0 && create_each() == 0);
+    HOLDS(put(nci_send(BENCH, 2, message, sizeof message), 0, 0));
+    HOLDS(put(nci_send(BENCH, 3, message, sizeof message), 0, 0));
+    HOLDS(put(nci_push(BENCH, 2), 1, 0) && is_packet(NCI_WIRE_DOWN, 0, first, sizeof first));
+    HOLDS(nci_push(BENCH, 2) == NCI_NO_CREDIT);
+    HOLDS(put(nci_push(BENCH, 3), 1, 0) && is_packet(NCI_WIRE_DOWN, 0, whole, sizeof whole));
+    HOLDS(handed(nci_report(BENCH, 2), tight, sizeof tight) && handed(nci_report(BENCH, 3), loose, sizeof loose));
     return 0;
 }
 
@@ -120,5 +173,5 @@ static int refuse(void) {
 
 int main(void) {
     memset(area, 0x5A, sizeof area);
-    return bring_up() || loop_back() || speak() || refuse();
+    return profiles() || side_by_side() || bring_up(five, sizeof five) || loop_back() || speak() || refuse();
 }

@@ -54,8 +54,9 @@ static void move(void) {
 }
 
 static void play(void) {
-    static const uint8_t profile[] = {0x20, 0x20, 8, 0x20, 8};
+    static const uint8_t unlike[] = {0x20, 1, 1, 255, 8, 100, 255, 4, 2, 3, 5}, profile[] = {0x20, 0x20, 8, 0x20, 8};
     static const uint8_t found[] = {1, 1, 4, 0, 2}, last[] = {1, 2, 4, 0, 0}, poll[] = {2, 2, 4, 0};
+    count(nci_fresh(BENCH, unlike, sizeof unlike));
     count(nci_fresh(BENCH, profile, sizeof profile));
     count(nci_power(BENCH));
     memset(octets, 0, sizeof octets);

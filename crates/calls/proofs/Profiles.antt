@@ -1,7 +1,6 @@
 -- The two forms of a profile are one bench, and the grants of every run are the profile's, each by its Conn ID.
 -- Assumes nothing.
 use mathlib.Core.Path.{refl}
-use Rattle.octets.specs.Octets.{pick}
 use Rattle.record.specs.Writing.{profileOctets}
 use Rattle.model.specs.Profiles.{Profiles}
 use Rattle.model.proofs.Profiles.{profiles}

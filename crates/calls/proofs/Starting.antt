@@ -6,7 +6,7 @@ use mathlib.Core.Bool.{Bool, true, false, not, false≢true}
 use mathlib.Core.List.{_∷_, _++_}
 use native.Mathlib.Omega.{arith}
 use lib.ListN.{length}
-use lib.Dec.{ltb, eqb}
+use lib.Dec.{ltb}
 use borrow.Author.Tests.{le-ltb, ltb-false}
 use Rattle.octets.specs.Octets.{Octets, pick, splice}
 use Rattle.octets.specs.Octal.{Octal, octal-nil, octal-cons}

@@ -27,7 +27,7 @@ use Rattle.dh.specs.Contents.{written, noticeOf, entryId, entryCredits, entryOk
 use Rattle.dh.specs.Host.{answerOf, heardAlone, creditsFor, creditsIn}
 use Rattle.air.specs.Air.{airMessage, airedBy, isRefused}
 use Rattle.ends.specs.RoundTrips.{TermsOk, TargetOk}
-use Rattle.state.proofs.Chains.{and-right, every-at, on}
+use Rattle.state.proofs.Chains.{every-at, on}
 use Rattle.ends.proofs.RoundTrips.{round-trips}
 use Rattle.messages.specs.Packets.{responsePacket, noticePacket, noticePackets}
 use Rattle.wires.specs.Meaning.{control, meaning}

@@ -42,7 +42,7 @@ fn number(argument: Option<String>, otherwise: u64) -> u64 {
 fn play_list(player: &mut Player, tally: &mut Tally, most: usize) -> Result<(), (String, String)> {
     let length = player.list_length(most.saturating_sub(REST_CALLS).max(1));
     let profile = player.begin();
-    let mut trial = Trial::begin(profile, tally).map_err(|fault| (fault, String::new()))?;
+    let mut trial = Trial::begin(&profile, tally).map_err(|fault| (fault, String::new()))?;
     while trial.events.len() < length {
         let call = player.next_call(&trial.bench);
         step(&mut trial, call, tally)?;

@@ -72,11 +72,11 @@ impl Writer {
     fn paper(&mut self, lines: usize, line_feed: bool) -> Result<Vec<u8>, String> {
         self.lines.clear();
         self.player.begin();
-        let mut trial = Trial::begin(FIRST_PROFILE, &mut self.tally)?;
+        let mut trial = Trial::begin(&FIRST_PROFILE, &mut self.tally)?;
         self.list(&mut trial, lines)?;
         while self.lines.len() < lines {
             let profile = self.begin();
-            trial = Trial::begin(profile, &mut self.tally)?;
+            trial = Trial::begin(&profile, &mut self.tally)?;
             self.lines.push(sheet::write_call(&Call::Fresh(profile)).into_bytes());
             self.list(&mut trial, lines)?;
         }
@@ -88,7 +88,7 @@ impl Writer {
         Ok(paper)
     }
 
-    fn begin(&mut self) -> [u8; 5] {
+    fn begin(&mut self) -> Vec<u8> {
         let lists = self.tally.lists;
         if lists % LED == 0 {
             self.player.begin_towards(GOALS[(lists / LED) as usize % GOALS.len()])

@@ -8,15 +8,44 @@ use crate::controller::Pair;
 use crate::layout::*;
 
 impl Player {
-    pub(super) fn profile(&mut self) -> [u8; 5] {
+    /// A profile of five octets or, half the time, of eleven.
+    pub(super) fn profile(&mut self) -> Vec<u8> {
         let control = self.random.octet().max(32);
-        [
-            self.random.pick(&[32, 32, 33, 64, 100, 255, control]),
-            self.payload(),
-            self.credits(),
-            self.payload(),
-            self.credits(),
-        ]
+        let mut profile = vec![self.random.pick(&[32, 32, 33, 64, 100, 255, control])];
+        let long = self.long_profiles && self.random.chance(50);
+        let pairs = if long { 5 } else { 2 };
+        for _ in 0..pairs {
+            profile.extend([self.payload(), self.credits()]);
+        }
+        if long && self.random.chance(60) {
+            self.tighten_and_loosen(&mut profile);
+        }
+        profile
+    }
+
+    /// One of 2-5 gets small packets and one credit, another large ones and many.
+    fn tighten_and_loosen(&mut self, profile: &mut [u8]) {
+        let tight = self.random.below(4);
+        let loose = (tight + 1 + self.random.below(3)) % 4;
+        let terms = [self.random.pick(&[1, 2, 3]), 1];
+        profile[1 + 2 * tight..][..2].copy_from_slice(&terms);
+        let terms = [self.random.pick(&[64, 100, 254, 255]), self.random.pick(&[8, 255])];
+        profile[1 + 2 * loose..][..2].copy_from_slice(&terms);
+    }
+
+    /// A profile with an octet that its place may not allow, or, where no line of a sheet
+    /// has to say it, with another number of octets.
+    fn odd_profile(&mut self) -> Vec<u8> {
+        let mut profile = self.profile();
+        if self.long_profiles && self.lengths == Lengths::Any && self.random.chance(40) {
+            let count = self.random.pick(&[0, 1, 4, 6, 7, 9, 10, 12, 255]);
+            profile.resize(count, 1);
+        } else {
+            let octet = self.random.pick(&[0, 9, 31, 254]);
+            let place = self.random.below(profile.len());
+            profile[place] = octet;
+        }
+        profile
     }
 
     pub(super) fn payload(&mut self) -> u8 {
@@ -267,11 +296,7 @@ impl Player {
     pub(super) fn random_call(&mut self, bench: &Bench) -> Call {
         match self.random.below(1000) {
             0..=3 => Call::Fresh(self.profile()),
-            4..=6 => {
-                let mut profile = self.profile();
-                profile[self.random.below(5)] = self.random.pick(&[0, 9, 31, 254]);
-                Call::Fresh(profile)
-            }
+            4..=6 => Call::Fresh(self.odd_profile()),
             7..=10 => Call::Power,
             11..=130 => self.any_command(bench),
             131..=230 => Call::Send { conn: self.open_conn(bench), message: self.message() },

@@ -3,7 +3,7 @@
 use super::{Goal, Player, Step};
 use crate::bench::Bench;
 use crate::call::Call;
-use crate::connection::{CONN_IDS, STATIC_RF};
+use crate::connection::{is_dynamic, CONN_IDS, FIRST_DYNAMIC, LAST_DYNAMIC, STATIC_RF};
 use crate::controller::{Pair, Phase, Rf};
 use crate::layout::*;
 
@@ -41,6 +41,9 @@ impl Player {
         }
         if !any_open(bench) && self.random.chance(85) {
             return if self.random.chance(55) { self.plan_create() } else { self.plan_way_to_active(bench) };
+        }
+        if self.long_profiles && self.random.chance(15) {
+            return self.plan_side_by_side(bench);
         }
         match self.random.below(113) {
             0..=11 => self.plan_create(),
@@ -80,7 +83,8 @@ impl Player {
     fn plan_arguments_outside(&mut self) {
         let conn = self.random.pick(&[1, 6, 15, 16, 255]);
         let mut profile = self.profile();
-        profile[self.random.below(5)] = 0;
+        let place = self.random.below(profile.len());
+        profile[place] = 0;
         for call in [
             Call::Fresh(profile),
             self.command(16, 0, &[]),
@@ -135,6 +139,56 @@ impl Player {
                 self.then(Call::Credit);
             }
         }
+    }
+
+    /// Messages on two loopbacks at once, a second one opened first where there is but one:
+    /// where their terms are unlike, one waits for credits while the other goes on.
+    fn plan_side_by_side(&mut self, bench: &Bench) {
+        let Some(pair) = self.two_loopbacks(bench) else {
+            return self.plan_create();
+        };
+        if self.random.chance(50) {
+            self.plan_go_round(pair[0]);
+        }
+        for conn in pair {
+            let segments = 1 + self.random.below(6);
+            let message = self.message_of_segments(bench, conn, segments);
+            self.then(Call::Send { conn, message });
+        }
+        for _ in 0..2 + self.random.below(10) {
+            let conn = self.random.pick(&pair);
+            let pushes = 1 + self.random.below(3);
+            self.then_times(Call::Push(conn), pushes);
+            for call in [Call::Down, Call::Consume(conn), Call::Up] {
+                if self.random.chance(70) {
+                    self.then(call);
+                }
+            }
+        }
+        for conn in pair {
+            self.then_perhaps(Call::Report(conn));
+        }
+    }
+
+    /// Closes a loopback, and opens others until its ID is given again.
+    fn plan_go_round(&mut self, conn: u8) {
+        let close = self.command(CORE, CORE_CONN_CLOSE, &[conn]);
+        self.then_command(close);
+        for _ in FIRST_DYNAMIC..=LAST_DYNAMIC {
+            self.plan_create();
+        }
+    }
+
+    /// Two loopbacks that are open at the host.
+    fn two_loopbacks(&mut self, bench: &Bench) -> Option<[u8; 2]> {
+        let is_open = |conn: &u8| is_dynamic(*conn) && bench.host().connection(*conn).is_some();
+        let open: Vec<u8> = CONN_IDS.into_iter().filter(is_open).collect();
+        if open.len() < 2 {
+            return None;
+        }
+        let first = self.random.below(open.len());
+        let second = (first + 1 + self.random.below(open.len() - 1)) % open.len();
+        Some([open[first], open[second]])
     }
 
     /// Host and endpoint speak in turn on connection 0: what is owed for the packets

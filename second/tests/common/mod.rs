@@ -9,9 +9,15 @@ use exam_bench::trial::grants::{self, Source, Sum};
 
 /// The profile that a sheet starts with: control 32, dynamic 4 and 2 credits,
 /// static 4 and 1 credit.
-pub const PROFILE: [u8; 5] = [0x20, 0x04, 0x02, 0x04, 0x01];
+pub const PROFILE: &[u8] = &[0x20, 0x04, 0x02, 0x04, 0x01];
 /// The same without flow control.
-pub const UNLIMITED: [u8; 5] = [0x20, 0x04, 0xFF, 0x04, 0xFF];
+pub const UNLIMITED: &[u8] = &[0x20, 0x04, 0xFF, 0x04, 0xFF];
+/// Every connection with a pair of its own: 2 tight, 3 loose, 4 without flow control,
+/// 5 and the static one between them.
+pub const UNLIKE: &[u8] = &[0x20, 1, 1, 255, 8, 100, 255, 4, 2, 3, 5];
+/// The pairs of 2, 3, 4 and 5 in it, and that of 0.
+pub const UNLIKE_PAIRS: [(u8, [u8; 2]); 5] =
+    [(2, [1, 1]), (3, [255, 8]), (4, [100, 255]), (5, [4, 2]), (0, [3, 5])];
 
 /// Octets from hex pairs.
 pub fn octets(text: &str) -> Vec<u8> {
@@ -23,7 +29,7 @@ pub fn packets(text: &str) -> Vec<Vec<u8>> {
     text.split('|').map(octets).collect()
 }
 
-pub fn fresh(profile: [u8; 5]) -> Bench {
+pub fn fresh(profile: &[u8]) -> Bench {
     Bench::new(profile).unwrap()
 }
 
@@ -56,7 +62,7 @@ pub fn command(bench: &mut Bench, gid: u8, oid: u8, payload: &[u8]) -> Vec<Vec<u
 }
 
 /// RESET and INIT done.
-pub fn ready(profile: [u8; 5]) -> Bench {
+pub fn ready(profile: &[u8]) -> Bench {
     let mut bench = fresh(profile);
     command(&mut bench, 0, 0, &[0]);
     command(&mut bench, 0, 1, &[0, 0]);
@@ -64,7 +70,7 @@ pub fn ready(profile: [u8; 5]) -> Bench {
 }
 
 /// So many loopbacks open at both ends, from 2 on.
-pub fn loopbacks(profile: [u8; 5], count: usize) -> Bench {
+pub fn loopbacks(profile: &[u8], count: usize) -> Bench {
     let mut bench = ready(profile);
     for _ in 0..count {
         command(&mut bench, 0, 4, &[1, 0]);
@@ -72,14 +78,14 @@ pub fn loopbacks(profile: [u8; 5], count: usize) -> Bench {
     bench
 }
 
-pub fn discovery(profile: [u8; 5]) -> Bench {
+pub fn discovery(profile: &[u8]) -> Bench {
     let mut bench = ready(profile);
     command(&mut bench, 1, 3, &[1, 0, 1]);
     assert_eq!(bench.controller().rf(), Rf::Discovery);
     bench
 }
 
-pub fn w4_all(profile: [u8; 5]) -> Bench {
+pub fn w4_all(profile: &[u8]) -> Bench {
     let mut bench = discovery(profile);
     taken(bench.air(&[1, 1, 4, 0, 2]));
     read_up(&mut bench);
@@ -87,21 +93,21 @@ pub fn w4_all(profile: [u8; 5]) -> Bench {
 }
 
 /// Two pairs found: (1, 4) and (2, 5).
-pub fn w4_select(profile: [u8; 5]) -> Bench {
+pub fn w4_select(profile: &[u8]) -> Bench {
     let mut bench = w4_all(profile);
     taken(bench.air(&[1, 2, 5, 0, 0]));
     read_up(&mut bench);
     bench
 }
 
-pub fn selected(profile: [u8; 5]) -> Bench {
+pub fn selected(profile: &[u8]) -> Bench {
     let mut bench = w4_select(profile);
     command(&mut bench, 1, 4, &[1, 4, 1]);
     bench
 }
 
 /// Activated from DISCOVERY in a poll or listen mode, read by the host.
-pub fn active(profile: [u8; 5], mode: u8) -> Bench {
+pub fn active(profile: &[u8], mode: u8) -> Bench {
     let mut bench = discovery(profile);
     let kind = if mode < 0x80 { 2 } else { 3 };
     taken(bench.air(&[kind, 1, 4, mode]));
@@ -109,7 +115,7 @@ pub fn active(profile: [u8; 5], mode: u8) -> Bench {
     bench
 }
 
-pub fn listen_sleep(profile: [u8; 5]) -> Bench {
+pub fn listen_sleep(profile: &[u8]) -> Bench {
     let mut bench = active(profile, 0x80);
     taken(bench.air(&[5]));
     read_up(&mut bench);
