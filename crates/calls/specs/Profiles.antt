@@ -20,7 +20,7 @@ FiveMeanEleven =
     (area out : Octets) (control payload credits fixedPayload fixedCredits : ℕ)
     → freshCall area out (control ∷ payload ∷ credits ∷ fixedPayload ∷ fixedCredits ∷ [])
     ≡ freshCall area out
-      (control ∷ payload ∷ credits ∷ payload ∷ credits ∷ payload ∷ credits ∷ payload ∷ credits ∷ fixedPayload ∷ fixedCredits ∷ [])
+    (control ∷ payload ∷ credits ∷ payload ∷ credits ∷ payload ∷ credits ∷ payload ∷ credits ∷ fixedPayload ∷ fixedCredits ∷ [])
 
 -- the record has the form of eleven: its octets, given to fresh, are the profile again
 abbrev pub OneForm : Type 0
