@@ -1,6 +1,11 @@
 -- The two forms of a profile are one bench, and the grants of every run are the profile's, each by its Conn ID.
 -- Assumes nothing.
-use mathlib.Core.Path.{refl}
+use native.Mathlib.Omega.{arith}
+use mathlib.Core.Path.{_≡_, refl, sym, ap, _∙_}
+use mathlib.Core.List.{[], _++_}
+use lib.ListN.{drop, drop-of-length-le}
+use Rattle.octets.specs.Octets.{Octets}
+use Rattle.state.proofs.Chains.{elements, elements-are}
 use Rattle.record.specs.Writing.{profileOctets}
 use Rattle.model.specs.Profiles.{Profiles}
 use Rattle.model.proofs.Profiles.{profiles}
@@ -17,7 +22,14 @@ five-mean-eleven area out control payload credits fixedPayload fixedCredits = re
 
 pub one-form : OneForm
 unfolding profileOctets
-one-form p = refl
+one-form =
+    record {
+      read-written = λ p. refl;
+      written-read =
+          λ m long.
+          let none : drop 11 m ≡ [] = drop-of-length-le m {i = 11} (omega (arith, long)) in
+          rw long (ap (λ (t : Octets). elements m 0 11 ++ t) (sym none) ∙ elements-are m 11 0 (omega (arith, long)));
+    }
 
 pub own-grants : OwnGrants
 own-grants area out m v e keys w c = own-grant c _ _ (run-stands area out m v e keys w .keeps)

@@ -4,6 +4,7 @@ use Prim.Native.Nat.{ℕ}
 use mathlib.Core.Path.{_≡_}
 use mathlib.Core.Bool.{true}
 use mathlib.Core.List.{[], _∷_}
+use lib.ListN.{length}
 use Rattle.octets.specs.Octets.{Octets}
 use Rattle.calls.specs.Kinds.{Profile}
 use Rattle.state.specs.Conn.{termsOf}
@@ -22,9 +23,10 @@ FiveMeanEleven =
     ≡ freshCall area out
     (control ∷ payload ∷ credits ∷ payload ∷ credits ∷ payload ∷ credits ∷ payload ∷ credits ∷ fixedPayload ∷ fixedCredits ∷ [])
 
--- the record has the form of eleven: its octets, given to fresh, are the profile again
-abbrev pub OneForm : Type 0
-OneForm = (p : Profile) → profileIn (profileOctets p) ≡ p
+-- the record has the form of eleven, octet for octet as fresh is given it
+pub record OneForm : Type 0 where
+  pub read-written : (p : Profile) → profileIn (profileOctets p) ≡ p
+  pub written-read : (m : Octets) → length m ≡ 11 → profileOctets (profileIn m) ≡ m
 
 -- the grant that the five numbers sum to, as it was counted from the create response or the activation, is the profile's for this Conn ID
 abbrev pub OwnGrants : Type 0

@@ -75,7 +75,7 @@ pub record Standing (g : ℕ → Connection) (active : Bool) (p : Profile) : Typ
   pub air : active ≡ g 0 .controller .opened
   -- no connection but the five is ever open
   pub known : (d : ℕ) → noConn d ≡ true → g d .controller .opened ≡ false
-  -- a grant is the profile's
+  -- a grant is the profile's for that Conn ID
   pub granted : (d : ℕ) → g d .controller .opened ≡ true → g d .controller .grant ≡ termsOf p d .credits
 
 -- one connection, by its number
