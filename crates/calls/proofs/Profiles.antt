@@ -10,10 +10,14 @@ use Rattle.record.specs.Writing.{profileOctets}
 use Rattle.model.specs.Profiles.{Profiles}
 use Rattle.model.proofs.Profiles.{profiles}
 use Rattle.model.proofs.Trace.{own-grant}
+use Rattle.model.proofs.Small.{Small, cold-small}
+use Rattle.model.proofs.Sizes.{act-small}
+use Rattle.model.proofs.Terms.{own-terms}
 use Rattle.calls.specs.calls.Fresh.{freshCall}
 use Rattle.calls.specs.Played.{OctetPlays}
-use Rattle.calls.specs.Profiles.{FiveMeanEleven, OneForm, OwnGrants}
+use Rattle.calls.specs.Profiles.{FiveMeanEleven, OneForm, AlwaysOwn}
 use Rattle.calls.proofs.Demanding.{run-stands}
+use Rattle.calls.proofs.Lasting.{every-run}
 use Rattle.calls.proofs.Playing.{plays}
 
 pub five-mean-eleven : FiveMeanEleven
@@ -31,8 +35,13 @@ one-form =
           rw long (ap (λ (t : Octets). elements m 0 11 ++ t) (sym none) ∙ elements-are m 11 0 (omega (arith, long)));
     }
 
-pub own-grants : OwnGrants
-own-grants area out m v e keys w c = own-grant c _ _ (run-stands area out m v e keys w .keeps)
+pub always-own : AlwaysOwn
+always-own area out m v e keys w =
+    let kept = run-stands area out m v e keys w .keeps in
+    record {
+      terms = own-terms _ _ _ (kept .fine) (every-run Small act-small (λ p l. cold-small p) area out m v e keys w);
+      counted = λ c. own-grant c _ _ kept;
+    }
 
 pub octet-profiles : Profiles OctetPlays
 octet-profiles =

@@ -11,6 +11,8 @@ use Rattle.state.specs.Conn.{termsOf}
 use Rattle.state.specs.Profile.{profileIn}
 use Rattle.record.specs.Writing.{profileOctets}
 use Rattle.views.specs.View.{viewOf}
+use Rattle.model.specs.Observer.{Account}
+use Rattle.model.specs.Reachable.{OwnTerms}
 use Rattle.calls.specs.calls.Fresh.{freshCall}
 use Rattle.calls.specs.Demand.{EveryRun}
 
@@ -28,6 +30,12 @@ pub record OneForm : Type 0 where
   pub read-written : (p : Profile) → profileIn (profileOctets p) ≡ p
   pub written-read : (m : Octets) → length m ≡ 11 → profileOctets (profileIn m) ≡ m
 
--- the grant that the five numbers sum to, as it was counted from the create response or the activation, is the profile's for this Conn ID
-abbrev pub OwnGrants : Type 0
-OwnGrants = EveryRun (λ a p o. (c : ℕ) → o .ledger c .controller .opened ≡ true → o .ledger c .controller .grant ≡ termsOf (viewOf a .profile) c .credits)
+-- of the area that a run has left, and the account of it
+pub record Own (a : Octets) (o : Account) : Type 0 where
+  -- each connection has its own payload and grant, at both ends
+  pub terms : OwnTerms (viewOf a)
+  -- so the grant that the five numbers sum to, as it was counted from the create response or the activation, is its own
+  pub counted : (c : ℕ) → o .ledger c .controller .opened ≡ true → o .ledger c .controller .grant ≡ termsOf (viewOf a .profile) c .credits
+
+abbrev pub AlwaysOwn : Type 0
+AlwaysOwn = EveryRun (λ a p o. Own a o)

@@ -26,6 +26,7 @@ pub mod Said
 pub mod Small
 pub mod SizesDown
 pub mod Sizes
+pub mod Terms
 pub mod Shaped
 pub mod WellFormed
 pub mod DataOpen

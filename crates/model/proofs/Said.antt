@@ -1,4 +1,5 @@
--- What the messages on the up wire say is within limits: the terms of an opening, and the payload size of an INIT response.
+-- What the messages on the up wire say: the terms of an opening are the profile's for that connection, and the payload size of an INIT response is within
+-- its limits.
 -- Assumes nothing.
 use Prim.Native.Nat.{ℕ, _≤_, _<_}
 use native.Mathlib.Omega.{arith}
@@ -17,7 +18,7 @@ use Rattle.model.specs.Kinds.answer.{Done, ClosesAll, Sized, Opens, Clos
 use Rattle.model.specs.Kinds.heard.{Nothing, Dropped, Answered, Activated, Deactivated, Credits}
 use Rattle.state.specs.Conn.{placeOf, termsOf}
 use Rattle.state.specs.Commands.{commandOf}
-use Rattle.state.specs.Profile.{TermsWithin, ProfileWithin}
+use Rattle.state.specs.Profile.{ProfileWithin}
 use Rattle.messages.specs.Layout.{resetNtf, creditsNtf, genericErrorNtf, discoverNtf, activatedNtf, deactivateNtf, responseOf, noticeMessage}
 use Rattle.dh.specs.Contents.{written, noticeOf}
 use Rattle.dh.specs.Host.{answerOf, okAnswer, aimOf, noticed, heardAlone, expected, hearOf, creditsFor}
@@ -37,153 +38,153 @@ use Rattle.model.proofs.Deciding.{dynamic-conn}
 
 -- ---- what is heard
 
-abbrev BoundedAnswer : Answer → Type 0
-BoundedAnswer Done = Unit {0}
-BoundedAnswer ClosesAll = Unit {0}
-BoundedAnswer (Sized n) = (32 ≤ n) × (n ≤ 255)
-BoundedAnswer (Opens c t) = (noConn c ≡ false) × TermsWithin (t .payload) (t .credits)
-BoundedAnswer (Closes c) = Unit {0}
+abbrev DueAnswer : Profile → Answer → Type 0
+DueAnswer p Done = Unit {0}
+DueAnswer p ClosesAll = Unit {0}
+DueAnswer p (Sized n) = (32 ≤ n) × (n ≤ 255)
+DueAnswer p (Opens c t) = (noConn c ≡ false) × (t ≡ termsOf p c)
+DueAnswer p (Closes c) = Unit {0}
 
-abbrev pub Bounded : Heard → Type 0
-Bounded Nothing = Unit {0}
-Bounded Dropped = Unit {0}
-Bounded (Answered a) = BoundedAnswer a
-Bounded (Activated t) = TermsWithin (t .payload) (t .credits)
-Bounded Deactivated = Unit {0}
-Bounded Credits = Unit {0}
+abbrev pub Due : Profile → Heard → Type 0
+Due p Nothing = Unit {0}
+Due p Dropped = Unit {0}
+Due p (Answered a) = DueAnswer p a
+Due p (Activated t) = t ≡ termsOf p 0
+Due p Deactivated = Unit {0}
+Due p Credits = Unit {0}
 
-abbrev SaidIn : Meaning → Type 0
-SaidIn (datum c n x) = Unit {0}
-SaidIn (control mt gid oid (more b)) = Unit {0}
-SaidIn (control mt gid oid (last m)) = Bounded (says 0 mt gid oid m)
-SaidIn junk = Unit {0}
+abbrev SaidIn : Profile → Meaning → Type 0
+SaidIn p (datum c n x) = Unit {0}
+SaidIn p (control mt gid oid (more b)) = Unit {0}
+SaidIn p (control mt gid oid (last m)) = Due p (says 0 mt gid oid m)
+SaidIn p junk = Unit {0}
 
-unfoldable pub Said : List Octets → Type 0
-Said [] = Unit {0}
-Said (p ∷ w) = SaidIn (meaning p) × Said w
+unfoldable pub Said : Profile → List Octets → Type 0
+Said p [] = Unit {0}
+Said p (o ∷ w) = SaidIn p (meaning o) × Said p w
 
-pub said-append : (a b : List Octets) → Said a → Said b → Said (a ++ b)
+pub said-append : (p : Profile) (a b : List Octets) → Said p a → Said p b → Said p (a ++ b)
 unfolding Said
-said-append [] b h k = k
-said-append (p ∷ a) b h k = (h .0, said-append a b (h .1) k)
+said-append p [] b h k = k
+said-append p (o ∷ a) b h k = (h .0, said-append p a b (h .1) k)
 
 -- ---- which connection a CONN_CLOSE named makes no difference
 
-ok-bounded : (c : Command) (a b : ℕ) (m : Octets) → BoundedAnswer (okAnswer c a m) → BoundedAnswer (okAnswer c b m)
-ok-bounded Reset a b m h = h
-ok-bounded Init a b m h = h
-ok-bounded ConnCreate a b m h = h
-ok-bounded ConnClose a b m h = h
-ok-bounded Discover a b m h = h
-ok-bounded Select a b m h = h
-ok-bounded Deactivate a b m h = h
-ok-bounded Unknown a b m h = h
+ok-due : (r : Profile) (c : Command) (a b : ℕ) (m : Octets) → DueAnswer r (okAnswer c a m) → DueAnswer r (okAnswer c b m)
+ok-due r Reset a b m h = h
+ok-due r Init a b m h = h
+ok-due r ConnCreate a b m h = h
+ok-due r ConnClose a b m h = h
+ok-due r Discover a b m h = h
+ok-due r Select a b m h = h
+ok-due r Deactivate a b m h = h
+ok-due r Unknown a b m h = h
 
-alone-bounded : (p q : Pending) (mt gid oid : ℕ) (m : Octets) → Bounded (heardAlone p mt gid oid m) → Bounded (heardAlone q mt gid oid m)
+alone-due : (r : Profile) (p q : Pending) (mt gid oid : ℕ) (m : Octets) → Due r (heardAlone p mt gid oid m) → Due r (heardAlone q mt gid oid m)
 unfolding heardAlone answerOf
-alone-bounded p q mt gid oid m =
-    elim (eqb mt 2) as (λ b. Bounded (pick b (Answered (answerOf (commandOf gid oid) (aimOf p) m)) (noticed (noticeOf gid oid) m))
-    → Bounded (pick b (Answered (answerOf (commandOf gid oid) (aimOf q) m)) (noticed (noticeOf gid oid) m))) [
-      | true ↦ elim (eqb (getD m 0 0) 0) as (λ b. BoundedAnswer (pick b (okAnswer (commandOf gid oid) (aimOf p) m) Done)
-          → BoundedAnswer (pick b (okAnswer (commandOf gid oid) (aimOf q) m) Done)) [ true ↦ ok-bounded (commandOf gid oid) (aimOf p) (aimOf q) m | false ↦ λ h. h ]
+alone-due r p q mt gid oid m =
+    elim (eqb mt 2) as (λ b. Due r (pick b (Answered (answerOf (commandOf gid oid) (aimOf p) m)) (noticed (noticeOf gid oid) m))
+    → Due r (pick b (Answered (answerOf (commandOf gid oid) (aimOf q) m)) (noticed (noticeOf gid oid) m))) [
+      | true ↦ elim (eqb (getD m 0 0) 0) as (λ b. DueAnswer r (pick b (okAnswer (commandOf gid oid) (aimOf p) m) Done)
+          → DueAnswer r (pick b (okAnswer (commandOf gid oid) (aimOf q) m) Done)) [ true ↦ ok-due r (commandOf gid oid) (aimOf p) (aimOf q) m | false ↦ λ h. h ]
       | false ↦ λ h. h
     ]
 
-understood-bounded : (p q : Pending) (mt gid oid : ℕ) (m : Octets) → Bounded (pick (written mt gid oid m) (heardAlone p mt gid oid m) Nothing)
-    → Bounded (pick (written mt gid oid m) (heardAlone q mt gid oid m) Nothing)
-understood-bounded p q mt gid oid m =
-    elim (written mt gid oid m) as (λ b. Bounded (pick b (heardAlone p mt gid oid m) Nothing) → Bounded (pick b (heardAlone q mt gid oid m) Nothing))
-    [ true ↦ alone-bounded p q mt gid oid m | false ↦ λ h. h ]
+understood-due : (r : Profile) (p q : Pending) (mt gid oid : ℕ) (m : Octets) → Due r (pick (written mt gid oid m) (heardAlone p mt gid oid m) Nothing)
+    → Due r (pick (written mt gid oid m) (heardAlone q mt gid oid m) Nothing)
+understood-due r p q mt gid oid m =
+    elim (written mt gid oid m) as (λ b. Due r (pick b (heardAlone p mt gid oid m) Nothing) → Due r (pick b (heardAlone q mt gid oid m) Nothing))
+    [ true ↦ alone-due r p q mt gid oid m | false ↦ λ h. h ]
 
 -- what the host hears is what the packet says
-pub hear-bounded : (p : Pending) (mt gid oid : ℕ) (m : Octets) → Bounded (says 0 mt gid oid m) → Bounded (hearOf p mt gid oid m)
+pub hear-due : (r : Profile) (p : Pending) (mt gid oid : ℕ) (m : Octets) → Due r (says 0 mt gid oid m) → Due r (hearOf p mt gid oid m)
 unfolding hearOf
-hear-bounded p mt gid oid m h = on Bounded (expected p mt gid oid) (λ e. understood-bounded (aimedAt 0) p mt gid oid m h) (λ e. tt)
+hear-due r p mt gid oid m h = on (Due r) (expected p mt gid oid) (λ e. understood-due r (aimedAt 0) p mt gid oid m h) (λ e. tt)
 
 -- ---- what the controller puts up
 
-verdict-bounded : (p : Profile) (gid oid aim : ℕ) (v : Verdict) → ProfileWithin p → Fits gid oid aim p v → BoundedAnswer (answeredBy p v)
-verdict-bounded p gid oid aim (verdict.Refuses status) l f = tt
-verdict-bounded p gid oid aim (verdict.Resets type) l f = tt
-verdict-bounded p gid oid aim verdict.Initialises l f = (l .control-least, l .control-most)
-verdict-bounded p gid oid aim (verdict.Opens c t) l f = (dynamic-conn c (f .2) (f .3), rw (f .4) (l .terms c))
-verdict-bounded p gid oid aim (verdict.Closes c) l f = tt
-verdict-bounded p gid oid aim (verdict.Turns rf) l f = tt
-verdict-bounded p gid oid aim (verdict.Selects pair) l f = tt
-verdict-bounded p gid oid aim (verdict.Deactivates type rf) l f = tt
+verdict-due : (p : Profile) (gid oid aim : ℕ) (v : Verdict) → ProfileWithin p → Fits gid oid aim p v → DueAnswer p (answeredBy p v)
+verdict-due p gid oid aim (verdict.Refuses status) l f = tt
+verdict-due p gid oid aim (verdict.Resets type) l f = tt
+verdict-due p gid oid aim verdict.Initialises l f = (l .control-least, l .control-most)
+verdict-due p gid oid aim (verdict.Opens c t) l f = (dynamic-conn c (f .2) (f .3), f .4)
+verdict-due p gid oid aim (verdict.Closes c) l f = tt
+verdict-due p gid oid aim (verdict.Turns rf) l f = tt
+verdict-due p gid oid aim (verdict.Selects pair) l f = tt
+verdict-due p gid oid aim (verdict.Deactivates type rf) l f = tt
 
-notice-said : (gid oid : ℕ) (m : Octets) → gid < 16 → oid < 64 → Bounded (noticed (noticeOf gid oid) m)
-    → Said (noticePacket (record { gid = gid; oid = oid; payload = m }) ∷ [])
+notice-said : (p : Profile) (gid oid : ℕ) (m : Octets) → gid < 16 → oid < 64 → Due p (noticed (noticeOf gid oid) m)
+    → Said p (noticePacket (record { gid = gid; oid = oid; payload = m }) ∷ [])
 unfolding Said heardAlone
-notice-said gid oid m low small h =
-    rw (meaning-notice gid oid low small m) (on Bounded (written 3 gid oid m) (λ e. h) (λ e. tt), tt)
+notice-said p gid oid m low small h =
+    rw (meaning-notice gid oid low small m) (on (Due p) (written 3 gid oid m) (λ e. h) (λ e. tt), tt)
 
-notices-said : (gid oid : ℕ) (m : Octets) → gid < 16 → oid < 64 → Bounded (noticed (noticeOf gid oid) m)
-    → Said (noticePackets (record { gid = gid; oid = oid; payload = m }))
+notices-said : (p : Profile) (gid oid : ℕ) (m : Octets) → gid < 16 → oid < 64 → Due p (noticed (noticeOf gid oid) m)
+    → Said p (noticePackets (record { gid = gid; oid = oid; payload = m }))
 unfolding Said
-notices-said gid oid m low small h = on Said (eqb (length m) 0) (λ e. tt) (λ e. notice-said gid oid m low small h)
+notices-said p gid oid m low small h = on (Said p) (eqb (length m) 0) (λ e. tt) (λ e. notice-said p gid oid m low small h)
 
-after-said : (v : Verdict) → Said (noticePackets (noticeMessage v))
+after-said : (p : Profile) (v : Verdict) → Said p (noticePackets (noticeMessage v))
 unfolding noticeMessage noticeOf Said
-after-said (verdict.Refuses status) = tt
-after-said (verdict.Resets type) = notices-said 0 0 (resetNtf type) (omega arith) (omega arith) tt
-after-said verdict.Initialises = tt
-after-said (verdict.Opens c t) = tt
-after-said (verdict.Closes c) = tt
-after-said (verdict.Turns rf) = tt
-after-said (verdict.Selects pair) = tt
-after-said (verdict.Deactivates type rf) = notices-said 1 6 (deactivateNtf type 0x00) (omega arith) (omega arith) tt
+after-said p (verdict.Refuses status) = tt
+after-said p (verdict.Resets type) = notices-said p 0 0 (resetNtf type) (omega arith) (omega arith) tt
+after-said p verdict.Initialises = tt
+after-said p (verdict.Opens c t) = tt
+after-said p (verdict.Closes c) = tt
+after-said p (verdict.Turns rf) = tt
+after-said p (verdict.Selects pair) = tt
+after-said p (verdict.Deactivates type rf) = notices-said p 1 6 (deactivateNtf type 0x00) (omega arith) (omega arith) tt
 
-pub answers-said : (p : Profile) (gid oid aim : ℕ) (v : Verdict) → ProfileWithin p → Fits gid oid aim p v → gid < 16 → oid < 64 → Said (answers gid oid p v)
+pub answers-said : (p : Profile) (gid oid aim : ℕ) (v : Verdict) → ProfileWithin p → Fits gid oid aim p v → gid < 16 → oid < 64 → Said p (answers gid oid p v)
 unfolding Said
 answers-said p gid oid aim v l f low small = (
   rw (meaning-answer gid oid p v low small)
-      (understood-bounded (aimedAt aim) (aimedAt 0) 2 gid oid (responseOf p v)
-      (subst Bounded (sym (says-response p l aim gid oid v f)) (verdict-bounded p gid oid aim v l f))),
-  after-said v,
+      (understood-due p (aimedAt aim) (aimedAt 0) 2 gid oid (responseOf p v)
+      (subst (Due p) (sym (says-response p l aim gid oid v f)) (verdict-due p gid oid aim v l f))),
+  after-said p v,
 )
 
-pub air-said : (p : Profile) (m : Octets) (e : Event) → ProfileWithin p → Said (noticePackets (airMessage p e m))
+pub air-said : (p : Profile) (m : Octets) (e : Event) → Said p (noticePackets (airMessage p e m))
 unfolding airMessage noticeOf Said
-air-said p m Bad l = tt
-air-said p m (Found a type) l = notices-said 1 3 (discoverNtf a type (drop 5 m)) (omega arith) (omega arith) tt
-air-said p m (Poll a) l = notices-said 1 5 (activatedNtf a (termsOf p 0) (drop 4 m)) (omega arith) (omega arith) (l .terms 0)
-air-said p m (Listen a) l = notices-said 1 5 (activatedNtf a (termsOf p 0) (drop 4 m)) (omega arith) (omega arith) (l .terms 0)
-air-said p m Failed l = notices-said 0 7 genericErrorNtf (omega arith) (omega arith) tt
-air-said p m Sleeps l = notices-said 1 6 (deactivateNtf 0x01 0x01) (omega arith) (omega arith) tt
-air-said p m LinkLost l = notices-said 1 6 (deactivateNtf 0x03 0x02) (omega arith) (omega arith) tt
-air-said p m Releases l = notices-said 1 6 (deactivateNtf 0x03 0x01) (omega arith) (omega arith) tt
-air-said p m Endpoint l = tt
+air-said p m Bad = tt
+air-said p m (Found a type) = notices-said p 1 3 (discoverNtf a type (drop 5 m)) (omega arith) (omega arith) tt
+air-said p m (Poll a) = notices-said p 1 5 (activatedNtf a (termsOf p 0) (drop 4 m)) (omega arith) (omega arith) refl
+air-said p m (Listen a) = notices-said p 1 5 (activatedNtf a (termsOf p 0) (drop 4 m)) (omega arith) (omega arith) refl
+air-said p m Failed = notices-said p 0 7 genericErrorNtf (omega arith) (omega arith) tt
+air-said p m Sleeps = notices-said p 1 6 (deactivateNtf 0x01 0x01) (omega arith) (omega arith) tt
+air-said p m LinkLost = notices-said p 1 6 (deactivateNtf 0x03 0x02) (omega arith) (omega arith) tt
+air-said p m Releases = notices-said p 1 6 (deactivateNtf 0x03 0x01) (omega arith) (omega arith) tt
+air-said p m Endpoint = tt
 
-pub credit-said : (ns : List ℕ) → Said (noticePacket (record { gid = 0; oid = 6; payload = creditsNtf ns }) ∷ [])
+pub credit-said : (p : Profile) (ns : List ℕ) → Said p (noticePacket (record { gid = 0; oid = 6; payload = creditsNtf ns }) ∷ [])
 unfolding noticeOf
-credit-said ns = notice-said 0 6 (creditsNtf ns) (omega arith) (omega arith) tt
+credit-said p ns = notice-said p 0 6 (creditsNtf ns) (omega arith) (omega arith) tt
 
-pub data-said : (p : Octets) (c n : ℕ) (x : Segment) → meaning p ≡ datum c n x → Said (p ∷ [])
+pub data-said : (p : Profile) (o : Octets) (c n : ℕ) (x : Segment) → meaning o ≡ datum c n x → Said p (o ∷ [])
 unfolding Said
-data-said p c n x means = rw means (tt, tt)
+data-said p o c n x means = rw means (tt, tt)
 
 -- ---- what it does at the host
 
--- what opens is one of the five, with terms within limits
-abbrev pub OpensWithin : ℕ → Change → Type 0
-OpensWithin d stays = Unit {0}
-OpensWithin d (opens t) = (noConn d ≡ false) × TermsWithin (t .payload) (t .credits)
-OpensWithin d closes = Unit {0}
-OpensWithin d (gives n) = Unit {0}
+-- what opens is one of the five, with the profile's terms for it
+abbrev pub OpensOwn : Profile → ℕ → Change → Type 0
+OpensOwn p d stays = Unit {0}
+OpensOwn p d (opens t) = (noConn d ≡ false) × (t ≡ termsOf p d)
+OpensOwn p d closes = Unit {0}
+OpensOwn p d (gives n) = Unit {0}
 
-answered-opens : (a : Answer) (m : Octets) (d : ℕ) → BoundedAnswer a → OpensWithin d (changeHeard (Answered a) m d)
-answered-opens Done m d h = tt
-answered-opens ClosesAll m d h = tt
-answered-opens (Sized n) m d h = tt
-answered-opens (Opens c t) m d h = each c (λ d b. OpensWithin d (pick b (opens t) stays)) h (λ d. tt) d
-answered-opens (Closes c) m d h = on (OpensWithin d) (eqb c d) (λ e. tt) (λ e. tt)
+answered-opens : (p : Profile) (a : Answer) (m : Octets) (d : ℕ) → DueAnswer p a → OpensOwn p d (changeHeard (Answered a) m d)
+answered-opens p Done m d h = tt
+answered-opens p ClosesAll m d h = tt
+answered-opens p (Sized n) m d h = tt
+answered-opens p (Opens c t) m d h = each c (λ d b. OpensOwn p d (pick b (opens t) stays)) h (λ d. tt) d
+answered-opens p (Closes c) m d h = on (OpensOwn p d) (eqb c d) (λ e. tt) (λ e. tt)
 
-pub heard-opens : (h : Heard) (m : Octets) (d : ℕ) → Bounded h → OpensWithin d (changeHeard h m d)
+pub heard-opens : (p : Profile) (h : Heard) (m : Octets) (d : ℕ) → Due p h → OpensOwn p d (changeHeard h m d)
 unfolding placeOf
-heard-opens Nothing m d b = tt
-heard-opens Dropped m d b = tt
-heard-opens (Answered a) m d b = answered-opens a m d b
-heard-opens (Activated t) m d b = each 0 (λ d b. OpensWithin d (pick b (opens t) stays)) (refl, b) (λ d. tt) d
-heard-opens Deactivated m d b = on (OpensWithin d) (eqb 0 d) (λ e. tt) (λ e. tt)
-heard-opens Credits m d b = on (OpensWithin d) (eqb (creditsFor m d) 0) (λ e. tt) (λ e. tt)
+heard-opens p Nothing m d b = tt
+heard-opens p Dropped m d b = tt
+heard-opens p (Answered a) m d b = answered-opens p a m d b
+heard-opens p (Activated t) m d b = each 0 (λ d b. OpensOwn p d (pick b (opens t) stays)) (refl, b) (λ d. tt) d
+heard-opens p Deactivated m d b = on (OpensOwn p d) (eqb 0 d) (λ e. tt) (λ e. tt)
+heard-opens p Credits m d b = on (OpensOwn p d) (eqb (creditsFor m d) 0) (λ e. tt) (λ e. tt)

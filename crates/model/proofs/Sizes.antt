@@ -7,7 +7,7 @@ use mathlib.Core.Bool.{Bool, true, false, _&&_}
 use mathlib.Core.List.{List, [], _∷_, _++_}
 use lib.Dec.{eqb, ltb}
 use lib.ListN.{length, drop, length-append, length-map}
-use borrow.Author.Tests.{ltb-false, not-false}
+use borrow.Author.Tests.{ltb-false}
 use Rattle.octets.specs.Octets.{Octets, pick}
 use Rattle.packets.specs.Packet.{carrying}
 use Rattle.packets.specs.Segments.{Segment, more, last, segments, segmentPacket}
@@ -19,7 +19,7 @@ use Rattle.model.specs.Kinds.answer.{Done, ClosesAll, Sized, Opens, Clos
 use Rattle.model.specs.Kinds.heard.{Nothing, Dropped, Answered, Activated, Deactivated, Credits}
 use Rattle.state.specs.Conn.{placeOf, termsOf}
 use Rattle.state.specs.Runs.{dataLimit, controlLimit}
-use Rattle.state.specs.Profile.{profileIn, ProfileWithin}
+use Rattle.state.specs.Profile.{profileIn}
 use Rattle.dh.specs.Host.{hostAfter, hearOf}
 use Rattle.air.specs.Air.{eventOf, airMessage}
 use Rattle.state.proofs.Chains.{on, or-left, or-right}
@@ -50,27 +50,26 @@ use Rattle.model.proofs.Needs.{need}
 use Rattle.model.proofs.Link.{held-le, owed-le}
 use Rattle.air.proofs.Taken.{Within, event-within, aired-steady}
 use Rattle.model.proofs.Meanings.{meaning-data}
-use Rattle.state.proofs.Limits.{profile-limits}
 use Rattle.model.proofs.Messages.{notices-few}
 use Rattle.model.proofs.Airing.{Suits, aired-suits, kind-eight, notifies}
 use Rattle.model.proofs.Trace.{reachable}
 use Rattle.model.proofs.Always.{Stays, always}
 use Rattle.model.proofs.Never.{heard-whole}
-use Rattle.model.proofs.Said.{Bounded, Said, said-append, hear-bounded, air-said, credit-said, data-said, OpensWithin, heard-opens}
+use Rattle.model.proofs.Said.{Due, Said, said-append, hear-due, air-said, credit-said, data-said, OpensOwn, heard-opens}
 use Rattle.model.proofs.SizesDown.{down-small}
-use Rattle.model.proofs.Small.{HostSmall, ControllerSmall, ConnSmall, Small, cold-small, sent-octets, grown-within, at-small, change-controller, change-host, held-known}
+use Rattle.model.proofs.Small.{HostSmall, ControllerSmall, ConnSmall, Small, cold-small, sent-octets, grown-within, at-small, change-controller, change-host, held-known, held-terms}
 
 -- ---- send, push, consume, reply
 
 -- one of the five changes, and packets are put up
-put-small : (s : State) (c : ℕ) (g : Connection → Connection) (ps : List Octets) → noConn c ≡ false → HostSmall (g (s .conns c) .host)
-    → ControllerSmall (g (s .conns c) .controller) → length (s .up) + length ps ≤ 16 → Said ps → Small s
+put-small : (s : State) (c : ℕ) (g : Connection → Connection) (ps : List Octets) → noConn c ≡ false → HostSmall (s .profile) c (g (s .conns c) .host)
+    → ControllerSmall (g (s .conns c) .controller) → length (s .up) + length ps ≤ 16 → Said (s .profile) ps → Small s
     → Small (withUp (s .up ++ ps) (withConns (at c g (s .conns)) s))
 put-small s c g ps five h k room said m =
     record {
       downs = m .downs;
       ups = rw length-append room;
-      said = said-append (s .up) ps (m .said) said;
+      said = said-append (s .profile) (s .up) ps (m .said) said;
       conns = at-small c g (s .conns) five h k (m .conns);
       steady = m .steady;
       size-least = m .size-least;
@@ -92,7 +91,8 @@ send-small s c o t m =
           (record {
             hand = rw (sent-octets (s .conns c .host .payload) o) short;
             reassembly = m .conns c .host .reassembly;
-            terms = m .conns c .host .terms;
+            payload = m .conns c .host .payload;
+            grant = m .conns c .host .grant;
           })
           (m .conns c .controller) (m .conns);
       steady = m .steady;
@@ -117,7 +117,8 @@ push-small s c t m = go (s .conns c .host .hand) refl
               (record {
                 hand = omega (arith, rw e at (m .conns c .host .hand));
                 reassembly = m .conns c .host .reassembly;
-                terms = m .conns c .host .terms;
+                payload = m .conns c .host .payload;
+                grant = m .conns c .host .grant;
               })
               (m .conns c .controller) (m .conns);
           steady = m .steady;
@@ -127,10 +128,10 @@ push-small s c t m = go (s .conns c .host .hand) refl
           asking = m .asking;
         }
 
-stored-said : (c n : ℕ) (p : Octets) (q : Meaning) → meaning p ≡ q → StoredIn c q → Said (carrying n p ∷ [])
-stored-said c n p (datum b m x) means h = data-said (carrying n p) b (n % 4) x (meaning-carrying n p b m x means)
-stored-said c n p (control mt gid oid x) means h = absurd h
-stored-said c n p junk means h = absurd h
+stored-said : (r : Profile) (c n : ℕ) (p : Octets) (q : Meaning) → meaning p ≡ q → StoredIn c q → Said r (carrying n p ∷ [])
+stored-said r c n p (datum b m x) means h = data-said r (carrying n p) b (n % 4) x (meaning-carrying n p b m x means)
+stored-said r c n p (control mt gid oid x) means h = absurd h
+stored-said r c n p junk means h = absurd h
 
 joined-within : (r : Run) (xs : List Segment) → RunWithin dataLimit r → RunWithin dataLimit (joinedRun r xs)
 joined-within r [] h = h
@@ -159,7 +160,7 @@ consume-small s aim l c t f m = go (s .conns c .controller .store) refl
           reassembly = joined-within (s .conns c .controller .run) (segmentIn (meaning p)) (m .conns c .controller .reassembly);
         })
         (room n p)
-        (on Said (isLoop c) (λ e′. stored-said c n p (meaning p) refl (rw e at (f .standing .stores c) .0)) (λ e′. tt))
+        (on (Said (s .profile)) (isLoop c) (λ e′. stored-said (s .profile) c n p (meaning p) refl (rw e at (f .standing .stores c) .0)) (λ e′. tt))
         m
 
 reply-small : (s : State) → first (rules reply s) ≡ taken → Small s → Small (act reply s .next)
@@ -177,7 +178,7 @@ reply-small s t m = go (s .conns 0 .controller .speech) refl
           reassembly = m .conns 0 .controller .reassembly;
         })
         (ltb-false 16 (length (s .up) + 1) (need 4 (rules reply s) t))
-        (data-said (segmentPacket (dataHeader 0 n) x) 0 n x (meaning-data 0 n x (omega arith) (omega (arith, carriable-few (owedOn (s .conns 0 .controller))))))
+        (data-said (s .profile) (segmentPacket (dataHeader 0 n) x) 0 n x (meaning-data 0 n x (omega arith) (omega (arith, carriable-few (owedOn (s .conns 0 .controller))))))
         m
 
 -- ---- command, credit
@@ -201,7 +202,7 @@ credit-small s t m =
     record {
       downs = m .downs;
       ups = rw length-append (ltb-false 16 (length (s .up) + 1) (need 4 (rules credit s) t));
-      said = said-append (s .up) _ (m .said) (credit-said (owedBy s));
+      said = said-append (s .profile) (s .up) _ (m .said) (credit-said (s .profile) (owedBy s));
       conns =
           λ d.
           record {
@@ -232,17 +233,17 @@ air-few p Releases o n h e = omega (arith, ltb-false 16 (n + 1) e, notices-few (
 air-few p Endpoint o n h e = omega arith
 
 -- the connections after it
-air-conns : (s : State) (o : Octets) (e : Event) (a : Aired) → ProfileWithin (s .profile) → Within o e → Suits e a → Small s
-    → (d : ℕ) → ConnSmall d (airedConns (termsOf (s .profile) 0) a o (s .conns) d)
+air-conns : (s : State) (o : Octets) (e : Event) (a : Aired) → Within o e → Suits e a → Small s
+    → (d : ℕ) → ConnSmall (s .profile) d (airedConns (termsOf (s .profile) 0) a o (s .conns) d)
 unfolding placeOf
-air-conns s o e Refused l w t m d = m .conns d
-air-conns s o e (Goes rf ls) l w t m d = m .conns d
-air-conns s o e (Activates rf ls) l w t m d =
+air-conns s o e Refused w t m d = m .conns d
+air-conns s o e (Goes rf ls) w t m d = m .conns d
+air-conns s o e (Activates rf ls) w t m d =
     change-controller d (pick (eqb 0 d) (opens (termsOf (s .profile) 0)) stays) (s .conns d)
-    (each 0 (λ d b. OpensWithin d (pick b (opens (termsOf (s .profile) 0)) stays)) (refl, l .terms 0) (λ d. tt) d) (m .conns d)
-air-conns s o e (Ends rf) l w t m d =
-    change-controller d (pick (eqb 0 d) closes stays) (s .conns d) (on (OpensWithin d) (eqb 0 d) (λ e. tt) (λ e. tt)) (m .conns d)
-air-conns s o e Speaks l w t m d =
+    (each 0 (λ d b. OpensOwn (s .profile) d (pick b (opens (termsOf (s .profile) 0)) stays)) (refl, refl) (λ d. tt) d) (m .conns d)
+air-conns s o e (Ends rf) w t m d =
+    change-controller d (pick (eqb 0 d) closes stays) (s .conns d) (on (OpensOwn (s .profile) d) (eqb 0 d) (λ e. tt) (λ e. tt)) (m .conns d)
+air-conns s o e Speaks w t m d =
     at-small 0 (λ k. withController (spoken (segments 255 (drop 1 o)) (k .controller)) k) (s .conns) refl (m .conns 0 .host)
     (record {
       stored = m .conns 0 .controller .stored;
@@ -256,9 +257,9 @@ air-small s aim l o t f m =
     record {
       downs = m .downs;
       ups = rw length-append (air-few (s .profile) (eventOf o) o (length (s .up)) (m .ups) (need 4 (rules (air o) s) t));
-      said = said-append (s .up) _ (m .said) (air-said (s .profile) o (eventOf o) (f .limits));
+      said = said-append (s .profile) (s .up) _ (m .said) (air-said (s .profile) o (eventOf o));
       conns =
-          air-conns s o (eventOf o) (airing s o) (f .limits) (event-within o) (aired-suits (s .controller .rf) (s .controller .pairs) (eventOf o)) m;
+          air-conns s o (eventOf o) (airing s o) (event-within o) (aired-suits (s .controller .rf) (s .controller .pairs) (eventOf o)) m;
       steady = aired-steady (s .controller) (airing s o) (m .steady);
       size-least = m .size-least;
       size-most = m .size-most;
@@ -268,22 +269,22 @@ air-small s aim l o t f m =
 
 -- ---- up
 
-after-size : (h : Host) (x : Heard) → Bounded x → (32 ≤ h .size) × (h .size ≤ 255) → (32 ≤ hostAfter h x .size) × (hostAfter h x .size ≤ 255)
+after-size : (p : Profile) (h : Host) (x : Heard) → Due p x → (32 ≤ h .size) × (h .size ≤ 255) → (32 ≤ hostAfter h x .size) × (hostAfter h x .size ≤ 255)
 unfolding hostAfter
-after-size h Nothing b e = e
-after-size h Dropped b e = e
-after-size h (Answered Done) b e = e
-after-size h (Answered ClosesAll) b e = omega arith
-after-size h (Answered (Sized n)) b e = b
-after-size h (Answered (Opens c t)) b e = e
-after-size h (Answered (Closes c)) b e = e
-after-size h (Activated t) b e = e
-after-size h Deactivated b e = e
-after-size h Credits b e = e
+after-size p h Nothing b e = e
+after-size p h Dropped b e = e
+after-size p h (Answered Done) b e = e
+after-size p h (Answered ClosesAll) b e = omega arith
+after-size p h (Answered (Sized n)) b e = b
+after-size p h (Answered (Opens c t)) b e = e
+after-size p h (Answered (Closes c)) b e = e
+after-size p h (Activated t) b e = e
+after-size p h Deactivated b e = e
+after-size p h Credits b e = e
 
 module _ (s : State) (aim : ℕ) (l : ℕ → Ledger) (p : Octets) (w : List Octets) (f : Fine (withUp (p ∷ w) s) aim l) (m : Small (withUp (p ∷ w) s)) where
   -- the packet is taken off the wire, where the host has the connections g, the state h and the run r
-  taken-small : (g : ℕ → Connection) (h : Host) (r : ControlRun) → ((d : ℕ) → ConnSmall d (g d)) → (32 ≤ h .size) × (h .size ≤ 255)
+  taken-small : (g : ℕ → Connection) (h : Host) (r : ControlRun) → ((d : ℕ) → ConnSmall (s .profile) d (g d)) → (32 ≤ h .size) × (h .size ≤ 255)
       → RunWithin controlLimit (r .run) → Small (withHostState h (withConns g (withHearing r (withUp w s))))
   unfolding Said
   taken-small g h r conns size within =
@@ -309,7 +310,7 @@ module _ (s : State) (aim : ℕ) (l : ℕ → Ledger) (p : Octets) (w : List Oct
   data-small c n x o =
       taken-small (at c (λ k. withHost (heardData x (credited n (k .host))) k) (s .conns)) (s .host) (s .hearing)
       (at-small c (λ k. withHost (heardData x (credited n (k .host))) k) (s .conns) (held-known c (s .conns c) (m .conns c) o)
-      (record { hand = m .conns c .host .hand; reassembly = grown-within dataLimit (s .conns c .host .run) x; terms = m .conns c .host .terms })
+      (record { hand = m .conns c .host .hand; reassembly = grown-within dataLimit (s .conns c .host .run) x; payload = m .conns c .host .payload; grant = m .conns c .host .grant })
       (m .conns c .controller) (m .conns))
       same-size (m .hearing)
 
@@ -318,11 +319,11 @@ module _ (s : State) (aim : ℕ) (l : ℕ → Ledger) (p : Octets) (w : List Oct
   unfolding Said
   heard-small mt gid oid o means short =
       let h = hearOf (s .host .pending) mt gid oid o in
-      let bound : Bounded h = hear-bounded (s .host .pending) mt gid oid o (rw means at (m .said .0)) in
+      let due : Due (s .profile) h = hear-due (s .profile) (s .host .pending) mt gid oid o (rw means at (m .said .0)) in
       rw (heard-whole s aim l p w f mt gid oid o short)
       (taken-small (λ d. withHost (atHost (changeHeard h o d) (s .conns d .host)) (s .conns d)) (hostAfter (s .host) h) (runAfter (s .hearing) mt gid oid (last o))
-      (λ d. change-host d (changeHeard h o d) (s .conns d) (heard-opens h o d bound) (m .conns d))
-      (after-size (s .host) h bound same-size) (grown-within controlLimit (runFor (s .hearing) mt gid oid) (last o)))
+      (λ d. change-host d (changeHeard h o d) (s .conns d) (heard-opens (s .profile) h o d due) (m .conns d))
+      (after-size (s .profile) (s .host) h due same-size) (grown-within controlLimit (runFor (s .hearing) mt gid oid) (last o)))
 
   coming-small : (q : Meaning) → meaning p ≡ q → SoundIn q → Small (coming q (withUp w s) .next)
   coming-small (datum c n x) means k = on (λ (e : Effect). Small (e .next)) (isHeld s c) (λ o. data-small c n x o) (λ o. gone)
@@ -341,8 +342,8 @@ up-small s aim l t f m = go (s .up) (need 8 (rules up s) t) f m
 -- ---- every call
 
 pub act-small : Stays Small
-act-small (fresh o) s aim l t f m = cold-small (profileIn o) (profile-limits o (not-false _ (need 3 (rules (fresh o) s) t)))
-act-small power s aim l t f m = cold-small (s .profile) (f .limits)
+act-small (fresh o) s aim l t f m = cold-small (profileIn o)
+act-small power s aim l t f m = cold-small (s .profile)
 act-small (command gid oid o) s aim l t f m = command-small s gid oid o t m
 act-small (send c o) s aim l t f m = send-small s c o t m
 act-small (push c) s aim l t f m = push-small s c t m
@@ -366,7 +367,7 @@ sizes s aim l f m =
             hand = m .conns d .host .hand;
             reassembly = m .conns d .host .reassembly;
             credits = held-le (f .good d .numbers);
-            terms = m .conns d .host .terms;
+            terms = held-terms (s .profile) d (s .conns d .host) (f .limits) (m .conns d .host);
           };
       controller =
           λ d.
@@ -389,4 +390,4 @@ sizes s aim l f m =
 
 pub sizes-reachable : Always Sizes
 sizes-reachable profile ok calls =
-    sizes _ _ _ (reachable profile ok calls .fine) (always Small act-small cold-small profile ok calls)
+    sizes _ _ _ (reachable profile ok calls .fine) (always Small act-small (λ p l. cold-small p) profile ok calls)

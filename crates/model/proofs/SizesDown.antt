@@ -35,23 +35,23 @@ use Rattle.nfcc.proofs.Verdicts.{Fits, judge-fits, after-steady}
 use Rattle.model.proofs.Messages.{notices-few}
 use Rattle.model.proofs.Order.{way-low, way-small}
 use Rattle.model.proofs.Deciding.{dynamic-conn}
-use Rattle.model.proofs.Said.{said-append, answers-said, OpensWithin}
+use Rattle.model.proofs.Said.{said-append, answers-said, OpensOwn}
 use Rattle.model.proofs.Small.{Small, grown-within, more-none, at-small, change-controller, open-known}
 
 -- at most two packets answer a command
 answers-few : (gid oid : ℕ) (p : Profile) (v : Verdict) → length (answers gid oid p v) ≤ 2
 answers-few gid oid p v = omega (arith, notices-few (noticeMessage v))
 
-verdict-opens : (gid oid aim : ℕ) (p : Profile) (v : Verdict) → ProfileWithin p → Fits gid oid aim p v → (d : ℕ) → OpensWithin d (changeBy v d)
-verdict-opens gid oid aim p (verdict.Refuses status) l f d = tt
-verdict-opens gid oid aim p (verdict.Resets type) l f d = tt
-verdict-opens gid oid aim p verdict.Initialises l f d = tt
-verdict-opens gid oid aim p (verdict.Opens c t) l f d =
-    each c (λ d b. OpensWithin d (pick b (opens t) stays)) (dynamic-conn c (f .2) (f .3), rw (f .4) (l .terms c)) (λ d. tt) d
-verdict-opens gid oid aim p (verdict.Closes c) l f d = on (OpensWithin d) (eqb c d) (λ e. tt) (λ e. tt)
-verdict-opens gid oid aim p (verdict.Turns rf) l f d = tt
-verdict-opens gid oid aim p (verdict.Selects pair) l f d = tt
-verdict-opens gid oid aim p (verdict.Deactivates type rf) l f d = on (OpensWithin d) (eqb 0 d) (λ e. tt) (λ e. tt)
+verdict-opens : (gid oid aim : ℕ) (p : Profile) (v : Verdict) → Fits gid oid aim p v → (d : ℕ) → OpensOwn p d (changeBy v d)
+verdict-opens gid oid aim p (verdict.Refuses status) f d = tt
+verdict-opens gid oid aim p (verdict.Resets type) f d = tt
+verdict-opens gid oid aim p verdict.Initialises f d = tt
+verdict-opens gid oid aim p (verdict.Opens c t) f d =
+    each c (λ d b. OpensOwn p d (pick b (opens t) stays)) (dynamic-conn c (f .2) (f .3), f .4) (λ d. tt) d
+verdict-opens gid oid aim p (verdict.Closes c) f d = on (OpensOwn p d) (eqb c d) (λ e. tt) (λ e. tt)
+verdict-opens gid oid aim p (verdict.Turns rf) f d = tt
+verdict-opens gid oid aim p (verdict.Selects pair) f d = tt
+verdict-opens gid oid aim p (verdict.Deactivates type rf) f d = on (OpensOwn p d) (eqb 0 d) (λ e. tt) (λ e. tt)
 
 -- a whole command is answered
 deciding-small : (s : State) (gid oid aim : ℕ) (v : Verdict) → ProfileWithin (s .profile) → Fits gid oid aim (s .profile) v → gid < 16 → oid < 64
@@ -60,8 +60,8 @@ deciding-small s gid oid aim v l f low small fits m =
     record {
       downs = m .downs;
       ups = rw length-append (omega (arith, ltb-false 16 (length (s .up) + 2) fits, answers-few gid oid (s .profile) v));
-      said = said-append (s .up) (answers gid oid (s .profile) v) (m .said) (answers-said (s .profile) gid oid aim v l f low small);
-      conns = λ d. change-controller d (changeBy v d) (s .conns d) (verdict-opens gid oid aim (s .profile) v l f d) (m .conns d);
+      said = said-append (s .profile) (s .up) (answers gid oid (s .profile) v) (m .said) (answers-said (s .profile) gid oid aim v l f low small);
+      conns = λ d. change-controller d (changeBy v d) (s .conns d) (verdict-opens gid oid aim (s .profile) v f d) (m .conns d);
       steady = after-steady gid oid aim (s .profile) (s .controller) v f (m .steady);
       size-least = m .size-least;
       size-most = m .size-most;

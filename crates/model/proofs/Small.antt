@@ -13,7 +13,8 @@ use borrow.Author.Tests.{ltb-false}
 use Rattle.octets.specs.Octets.{Octets, pick}
 use Rattle.packets.specs.Segments.{Segment, more, last, segmentsWithin, segments}
 use Rattle.packets.specs.Reassembly.{Run, run, lost, grown, finished}
-use Rattle.model.specs.Kinds.{Profile}
+use Rattle.model.specs.Kinds.{Terms, Profile}
+use Rattle.state.specs.Conn.{termsOf}
 use Rattle.state.specs.Runs.{dataLimit, controlLimit}
 use Rattle.state.specs.Profile.{TermsWithin, ProfileWithin}
 use Rattle.state.proofs.Chains.{on}
@@ -26,7 +27,7 @@ use Rattle.model.specs.Changes.{atController, atHost}
 use Rattle.model.specs.calls.Up.{hearing}
 use Rattle.model.specs.Reachable.{octetsIn, RunWithin}
 use Rattle.model.proofs.Cases.{clash, each}
-use Rattle.model.proofs.Said.{Said, OpensWithin}
+use Rattle.model.proofs.Said.{Said, OpensOwn}
 
 -- ---- segments and runs
 
@@ -58,78 +59,84 @@ more-none limit lost b = refl
 
 -- ---- one connection
 
-pub record HostSmall (h : HostEnd) : Type 0 where
+-- with the profile p, and of the Conn ID d: where it is open at the host it has the profile's terms for it
+pub record HostSmall (p : Profile) (d : ℕ) (h : HostEnd) : Type 0 where
   pub hand : octetsIn (h .hand) ≤ dataLimit
   pub reassembly : RunWithin dataLimit (h .run)
-  pub terms : h .opened ≡ true → TermsWithin (h .payload) (h .grant)
+  pub payload : h .opened ≡ true → h .payload ≡ termsOf p d .payload
+  pub grant : h .opened ≡ true → h .grant ≡ termsOf p d .credits
+
+-- which are within their limits, as the profile is
+pub held-terms : (p : Profile) (d : ℕ) (h : HostEnd) → ProfileWithin p → HostSmall p d h → h .opened ≡ true → TermsWithin (h .payload) (h .grant)
+held-terms p d h l m o = rw (m .payload o, m .grant o) (l .terms d)
 
 pub record ControllerSmall (k : ControllerEnd) : Type 0 where
   pub stored : length (k .store) ≤ 8
   pub speech : octetsIn (k .speech) ≤ dataLimit
   pub reassembly : RunWithin dataLimit (k .run)
 
-pub record ConnSmall (d : ℕ) (k : Connection) : Type 0 where
-  pub host : HostSmall (k .host)
+pub record ConnSmall (p : Profile) (d : ℕ) (k : Connection) : Type 0 where
+  pub host : HostSmall p d (k .host)
   pub controller : ControllerSmall (k .controller)
   pub other : noConn d ≡ true → k ≡ closed
 
-closed-small : (d : ℕ) → ConnSmall d closed
-closed-small d =
+closed-small : (p : Profile) (d : ℕ) → ConnSmall p d closed
+closed-small p d =
     record {
-      host = record { hand = omega arith; reassembly = omega arith; terms = λ e. clash e refl };
+      host = record { hand = omega arith; reassembly = omega arith; payload = λ e. clash e refl; grant = λ e. clash e refl };
       controller = record { stored = omega arith; speech = omega arith; reassembly = omega arith };
       other = λ e. refl;
     }
 
 -- one of the five changes
-pub at-small : (c : ℕ) (f : Connection → Connection) (g : ℕ → Connection) → noConn c ≡ false → HostSmall (f (g c) .host) → ControllerSmall (f (g c) .controller)
-    → ((d : ℕ) → ConnSmall d (g d)) → (d : ℕ) → ConnSmall d (at c f g d)
-at-small c f g five h k r =
-    each c (λ d b. ConnSmall d (pick b (f (g d)) (g d))) (record { host = h; controller = k; other = λ e. clash e five }) r
+pub at-small : {p : Profile} (c : ℕ) (f : Connection → Connection) (g : ℕ → Connection) → noConn c ≡ false → HostSmall p c (f (g c) .host) → ControllerSmall (f (g c) .controller)
+    → ((d : ℕ) → ConnSmall p d (g d)) → (d : ℕ) → ConnSmall p d (at c f g d)
+at-small {p} c f g five h k r =
+    each c (λ d b. ConnSmall p d (pick b (f (g d)) (g d))) (record { host = h; controller = k; other = λ e. clash e five }) r
 
 -- what opens, closes and is credited, at either end
-pub change-controller : (d : ℕ) (c : Change) (k : Connection) → OpensWithin d c → ConnSmall d k → ConnSmall d (withController (atController c (k .controller)) k)
+pub change-controller : {p : Profile} (d : ℕ) (c : Change) (k : Connection) → OpensOwn p d c → ConnSmall p d k → ConnSmall p d (withController (atController c (k .controller)) k)
 change-controller d stays k o m = m
 change-controller d (opens t) k o m =
     record { host = m .host; controller = record { stored = omega arith; speech = omega arith; reassembly = omega arith }; other = λ e. clash e (o .0) }
-change-controller d closes k o m =
+change-controller {p} d closes k o m =
     record {
       host = m .host;
-      controller = closed-small d .controller;
+      controller = closed-small p d .controller;
       other = λ e. ap (λ (x : Connection). withController (closed .controller) x) (m .other e);
     }
 change-controller d (gives n) k o m = m
 
-pub change-host : (d : ℕ) (c : Change) (k : Connection) → OpensWithin d c → ConnSmall d k → ConnSmall d (withHost (atHost c (k .host)) k)
+pub change-host : {p : Profile} (d : ℕ) (c : Change) (k : Connection) → OpensOwn p d c → ConnSmall p d k → ConnSmall p d (withHost (atHost c (k .host)) k)
 change-host d stays k o m = m
 change-host d (opens t) k o m =
     record {
-      host = record { hand = omega arith; reassembly = omega arith; terms = λ e. o .1 };
+      host = record { hand = omega arith; reassembly = omega arith; payload = λ e. ap (λ (t : Terms). t .payload) (o .1); grant = λ e. ap (λ (t : Terms). t .credits) (o .1) };
       controller = m .controller;
       other = λ e. clash e (o .0);
     }
-change-host d closes k o m =
+change-host {p} d closes k o m =
     record {
-      host = closed-small d .host;
+      host = closed-small p d .host;
       controller = m .controller;
       other = λ e. ap (λ (x : Connection). withHost (closed .host) x) (m .other e);
     }
 change-host d (gives n) k o m =
     record {
-      host = record { hand = m .host .hand; reassembly = m .host .reassembly; terms = m .host .terms };
+      host = record { hand = m .host .hand; reassembly = m .host .reassembly; payload = m .host .payload; grant = m .host .grant };
       controller = m .controller;
       other = λ e. ap (λ (x : Connection). withHost (atHost (gives n) (x .host)) x) (m .other e);
     }
 
 -- a connection that is open at an end is one of the five
-pub held-known : (d : ℕ) (k : Connection) → ConnSmall d k → k .host .opened ≡ true → noConn d ≡ false
+pub held-known : {p : Profile} (d : ℕ) (k : Connection) → ConnSmall p d k → k .host .opened ≡ true → noConn d ≡ false
 held-known d k m o = go (noConn d) refl
   where
     go : (b : Bool) → noConn d ≡ b → b ≡ false
     go true e = clash o (ap (λ (x : Connection). x .host .opened) (m .other e))
     go false e = refl
 
-pub open-known : (d : ℕ) (k : Connection) → ConnSmall d k → k .controller .opened ≡ true → noConn d ≡ false
+pub open-known : {p : Profile} (d : ℕ) (k : Connection) → ConnSmall p d k → k .controller .opened ≡ true → noConn d ≡ false
 open-known d k m o = go (noConn d) refl
   where
     go : (b : Bool) → noConn d ≡ b → b ≡ false
@@ -141,22 +148,22 @@ open-known d k m o = go (noConn d) refl
 pub record Small (s : State) : Type 0 where
   pub downs : length (s .down) ≤ 16
   pub ups : length (s .up) ≤ 16
-  pub said : Said (s .up)
-  pub conns : (d : ℕ) → ConnSmall d (s .conns d)
+  pub said : Said (s .profile) (s .up)
+  pub conns : (d : ℕ) → ConnSmall (s .profile) d (s .conns d)
   pub steady : Steady (s .controller)
   pub size-least : 32 ≤ s .host .size
   pub size-most : s .host .size ≤ 255
   pub hearing : RunWithin controlLimit (s .hearing .run)
   pub asking : RunWithin controlLimit (s .asking .run)
 
-pub cold-small : (p : Profile) → ProfileWithin p → Small (cold p)
+pub cold-small : (p : Profile) → Small (cold p)
 unfolding Said
-cold-small p l =
+cold-small p =
     record {
       downs = omega arith;
       ups = omega arith;
       said = tt;
-      conns = λ d. closed-small d;
+      conns = λ d. closed-small p d;
       steady = record { given = inl refl; pairs = omega arith; places = refl };
       size-least = omega arith;
       size-most = omega arith;

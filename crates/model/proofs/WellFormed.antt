@@ -14,7 +14,7 @@ use Rattle.packets.specs.Segments.{Segment, segments, segmentPacket, packetsOf}
 use Rattle.model.specs.Kinds.{Verdict, Aired}
 use Rattle.model.specs.Kinds.aired.{Refused, Goes, Activates, Ends, Speaks}
 use Rattle.state.specs.Conn.{placeOf, termsOf}
-use Rattle.state.specs.Profile.{profileIn}
+use Rattle.state.specs.Profile.{profileIn, ProfileWithin}
 use Rattle.nfcc.specs.Controller.{judgeOf}
 use Rattle.dh.specs.Host.{hearOf}
 use Rattle.air.specs.Air.{eventOf}
@@ -44,7 +44,7 @@ use Rattle.model.proofs.Needs.{need}
 use Rattle.air.proofs.Taken.{event-within}
 use Rattle.model.proofs.Order.{way-low, way-small}
 use Rattle.model.proofs.Always.{always}
-use Rattle.model.proofs.Small.{Small, cold-small}
+use Rattle.model.proofs.Small.{Small, cold-small, held-terms}
 use Rattle.model.proofs.Sizes.{act-small}
 use Rattle.model.proofs.Shaped.{Formed, formed-well, DownOk, UpOk, Short, short-segments, data-down, data-up, carrying-formed, commands-down, answers-up, air-up, credit-up, ConnShaped, Shaped, cold-shaped, controller-shaped, host-shaped}
 
@@ -69,9 +69,9 @@ command-shaped s gid oid o t k m =
       conns = m .conns;
     }
 
-send-shaped : (s : State) (c : ℕ) (o : Octets) → first (rules (send c o) s) ≡ taken → Small s → Shaped s → Shaped (act (send c o) s .next)
-send-shaped s c o t k m =
-    let terms = k .conns c .host .terms (not-false _ (need 6 (rules (send c o) s) t)) in
+send-shaped : (s : State) (c : ℕ) (o : Octets) → first (rules (send c o) s) ≡ taken → ProfileWithin (s .profile) → Small s → Shaped s → Shaped (act (send c o) s .next)
+send-shaped s c o t l k m =
+    let terms = held-terms (s .profile) c (s .conns c .host) l (k .conns c .host) (not-false _ (need 6 (rules (send c o) s) t)) in
     record {
       down = m .down;
       up = m .up;
@@ -265,7 +265,7 @@ act-shaped : (c : Call) (s : State) (aim : ℕ) (l : ℕ → Ledger) → first (
 act-shaped (fresh o) s aim l t f k m = cold-shaped (profileIn o)
 act-shaped power s aim l t f k m = cold-shaped (s .profile)
 act-shaped (command gid oid o) s aim l t f k m = command-shaped s gid oid o t k m
-act-shaped (send c o) s aim l t f k m = send-shaped s c o t k m
+act-shaped (send c o) s aim l t f k m = send-shaped s c o t (f .limits) k m
 act-shaped (push c) s aim l t f k m = push-shaped s c t m
 act-shaped down s aim l t f k m = down-shaped s aim l t f m
 act-shaped (consume c) s aim l t f k m = consume-shaped s aim l c t f m
@@ -289,4 +289,4 @@ wires-well-formed profile ok calls =
     wires _
     (always (λ s. Small s × Shaped s)
     (λ c s aim l t f h. (act-small c s aim l t f (h .0), act-shaped c s aim l t f (h .0) (h .1)))
-    (λ p l. (cold-small p l, cold-shaped p)) profile ok calls .1)
+    (λ p l. (cold-small p, cold-shaped p)) profile ok calls .1)

@@ -12,6 +12,7 @@ use Rattle.model.specs.Kinds.reading.{Packet}
 use Rattle.packets.specs.Packet.{readOf}
 use Rattle.packets.specs.Segments.{Segment, more, last, body}
 use Rattle.packets.specs.Reassembly.{Run, run, lost}
+use Rattle.state.specs.Conn.{termsOf}
 use Rattle.state.specs.Profile.{creditsOk, profileIn, profileOctetsOk, TermsWithin, ProfileWithin}
 use Rattle.dh.specs.Host.{aimOf}
 use Rattle.model.specs.Connection.{HostEnd, ControllerEnd, closed}
@@ -28,6 +29,14 @@ use Rattle.model.specs.Observer.{after, changeIn}
 -- a statement of every bench that calls make, whatever profile `fresh` took
 abbrev pub Always : (State → Type 0) → Type 0
 Always P = (profile : Octets) → profileOctetsOk profile ≡ true → (calls : List Call) → P (after calls (cold (profileIn profile)))
+
+-- ---- terms
+
+-- where a connection is open it has the payload and the grant that the profile has for its Conn ID, at both ends
+pub record OwnTerms (s : State) : Type 0 where
+  pub payload : (d : ℕ) → s .conns d .host .opened ≡ true → s .conns d .host .payload ≡ termsOf (s .profile) d .payload
+  pub host-grant : (d : ℕ) → s .conns d .host .opened ≡ true → s .conns d .host .grant ≡ termsOf (s .profile) d .credits
+  pub grant : (d : ℕ) → s .conns d .controller .opened ≡ true → s .conns d .controller .grant ≡ termsOf (s .profile) d .credits
 
 -- ---- credits within the grant
 

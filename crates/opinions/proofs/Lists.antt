@@ -348,20 +348,20 @@ limits = refl
 tight-and-loose :
     lines
     (fresh (hex 11 0x200101FF08040204020401) ∷ command 0 0 (hex 1 0x01) ∷ down ∷ up ∷ up ∷ command 0 1 (hex 2 0x0000)
-    ∷ down ∷ up ∷ command 0 4 (hex 2 0x0100) ∷ down ∷ report 2 ∷ up ∷ report 2 ∷ command 0 4 (hex 2 0x0100) ∷ down
-    ∷ report 3 ∷ up ∷ report 3 ∷ report 4 ∷ send 2 (hex 2 0x0102) ∷ send 3 (hex 10 0x0102030405060708090A) ∷ push 2
-    ∷ push 2 ∷ report 2 ∷ push 3 ∷ report 3 ∷ send 3 (hex 2 0xAABB) ∷ push 3 ∷ push 2 ∷ report 3 ∷ down ∷ report 2
-    ∷ consume 2 ∷ report 2 ∷ push 2 ∷ down ∷ down ∷ report 3 ∷ consume 3 ∷ report 3 ∷ consume 3 ∷ up ∷ report 2 ∷ push 2
-    ∷ up ∷ up ∷ report 3 ∷ push 3 ∷ down ∷ consume 2 ∷ up ∷ report 2 ∷ credit ∷ [])
+    ∷ down ∷ up ∷ command 0 4 (hex 2 0x0100) ∷ down ∷ up ∷ report 2 ∷ command 0 4 (hex 2 0x0100) ∷ down ∷ up ∷ report 3
+    ∷ send 2 (hex 2 0x0102) ∷ send 3 (hex 10 0x0102030405060708090A) ∷ push 2 ∷ push 2 ∷ report 2 ∷ push 3 ∷ report 3
+    ∷ send 3 (hex 2 0xAABB) ∷ push 3 ∷ push 2 ∷ report 3 ∷ down ∷ report 2 ∷ consume 2 ∷ report 2 ∷ push 2 ∷ down ∷ down
+    ∷ report 3 ∷ consume 3 ∷ report 3 ∷ consume 3 ∷ up ∷ report 2 ∷ push 2 ∷ up ∷ up ∷ report 3 ∷ push 3 ∷ down
+    ∷ consume 2 ∷ up ∷ report 2 ∷ credit ∷ [])
     start
     ≡ done ∷ puts (hex 4 0x20000101) ∷ puts (hex 12 0x400001006000050201200000) ∷ done ∷ done
     ∷ puts (hex 5 0x2001020000) ∷ puts (hex 19 0x40011000000000000400002000000000010100) ∷ done
-    ∷ puts (hex 5 0x2004020100) ∷ puts (hex 7 0x40040400010102) ∷ hands (hex 5 0x0000000001) ∷ done
-    ∷ hands (hex 5 0x0100000000) ∷ puts (hex 5 0x2004020100) ∷ puts (hex 7 0x40040400FF0803)
-    ∷ hands (hex 5 0x0000000008) ∷ done ∷ hands (hex 5 0x0800000000) ∷ refusal 6 ∷ done ∷ done ∷ puts (hex 4 0x12000101)
-    ∷ refusal 9 ∷ hands (hex 5 0x0001000000) ∷ puts (hex 13 0x03000A0102030405060708090A) ∷ hands (hex 5 0x0701000000)
-    ∷ done ∷ puts (hex 5 0x030002AABB) ∷ refusal 9 ∷ hands (hex 5 0x0602000000) ∷ done ∷ hands (hex 5 0x0000010000)
-    ∷ puts (hex 4 0x12010101) ∷ hands (hex 5 0x0000000001) ∷ refusal 9 ∷ done ∷ done ∷ hands (hex 5 0x0600020000)
+    ∷ puts (hex 5 0x2004020100) ∷ puts (hex 7 0x40040400010102) ∷ done ∷ hands (hex 5 0x0100000000)
+    ∷ puts (hex 5 0x2004020100) ∷ puts (hex 7 0x40040400FF0803) ∷ done ∷ hands (hex 5 0x0800000000) ∷ done ∷ done
+    ∷ puts (hex 4 0x12000101) ∷ refusal 9 ∷ hands (hex 5 0x0001000000) ∷ puts (hex 13 0x03000A0102030405060708090A)
+    ∷ hands (hex 5 0x0701000000) ∷ done ∷ puts (hex 5 0x030002AABB) ∷ refusal 9 ∷ hands (hex 5 0x0602000000) ∷ done
+    ∷ hands (hex 5 0x0000010000) ∷ puts (hex 4 0x12010101) ∷ hands (hex 5 0x0000000001) ∷ refusal 9 ∷ done ∷ done
+    ∷ hands (hex 5 0x0600020000)
     ∷ line 0 false (hex 13 0x03010A0102030405060708090A) ((hex 10 0x0102030405060708090A) ∷ [])
     ∷ hands (hex 5 0x0600010001) ∷ line 0 false (hex 5 0x030102AABB) ((hex 2 0xAABB) ∷ []) ∷ done
     ∷ hands (hex 5 0x0100000000) ∷ puts (hex 4 0x02000102) ∷ hands (hex 10 0x0102030405060708090A)
@@ -371,81 +371,28 @@ tight-and-loose :
 unfolding lines
 tight-and-loose = refl
 
--- Each of 2 to 5 opens with the pair of its own ID, and again with it when the ID is given again; the last pair is that
--- of connection 0; power keeps all of them.
+-- A profile is refused for a pair outside its limits, whichever ID it is for. Each of 2 to 5 opens with the pair of its
+-- own ID, and again with it when the ID is given again; the last pair is that of connection 0.
 own-pairs :
     lines
-    (fresh (hex 11 0x200101FF08640208FF0303) ∷ command 0 0 (hex 1 0x01) ∷ down ∷ up ∷ up ∷ command 0 1 (hex 2 0x0000)
-    ∷ down ∷ up ∷ command 0 4 (hex 2 0x0100) ∷ down ∷ up ∷ report 2 ∷ command 0 4 (hex 2 0x0100) ∷ down ∷ up ∷ report 3
-    ∷ command 0 4 (hex 2 0x0100) ∷ down ∷ up ∷ report 4 ∷ command 0 4 (hex 2 0x0100) ∷ down ∷ up ∷ report 5
-    ∷ command 0 4 (hex 2 0x0100) ∷ down ∷ up ∷ command 0 5 (hex 1 0x04) ∷ down ∷ up ∷ command 0 4 (hex 2 0x0100) ∷ down
-    ∷ up ∷ report 4 ∷ command 0 5 (hex 1 0x02) ∷ down ∷ up ∷ command 0 5 (hex 1 0x03) ∷ down ∷ up
-    ∷ command 0 4 (hex 2 0x0100) ∷ down ∷ up ∷ report 2 ∷ command 0 4 (hex 2 0x0100) ∷ down ∷ up ∷ report 3
-    ∷ command 1 3 (hex 3 0x010001) ∷ down ∷ up ∷ air (hex 4 0x02010400) ∷ report 0 ∷ up ∷ report 0 ∷ power
-    ∷ command 0 0 (hex 1 0x01) ∷ down ∷ up ∷ up ∷ command 0 1 (hex 2 0x0000) ∷ down ∷ up ∷ command 0 4 (hex 2 0x0100)
-    ∷ down ∷ up ∷ report 2 ∷ [])
+    (fresh (hex 11 0x2004000402040204020401) ∷ fresh (hex 11 0x2004020409040204020401)
+    ∷ fresh (hex 11 0x2004020402000204020401) ∷ fresh (hex 11 0x2004020402040204FE0401)
+    ∷ fresh (hex 11 0x2004020402040204020001) ∷ fresh (hex 11 0x200101FF08640208FF0303) ∷ command 0 0 (hex 1 0x01)
+    ∷ down ∷ up ∷ up ∷ command 0 1 (hex 2 0x0000) ∷ down ∷ up ∷ command 0 4 (hex 2 0x0100) ∷ down ∷ up ∷ report 2
+    ∷ command 0 4 (hex 2 0x0100) ∷ down ∷ up ∷ report 3 ∷ command 0 4 (hex 2 0x0100) ∷ down ∷ up ∷ report 4
+    ∷ command 0 4 (hex 2 0x0100) ∷ down ∷ up ∷ report 5 ∷ command 0 5 (hex 1 0x04) ∷ down ∷ up
+    ∷ command 0 4 (hex 2 0x0100) ∷ down ∷ up ∷ report 4 ∷ command 1 3 (hex 3 0x010001) ∷ down ∷ up
+    ∷ air (hex 4 0x02010400) ∷ report 0 ∷ up ∷ report 0 ∷ [])
     start
-    ≡ done ∷ puts (hex 4 0x20000101) ∷ puts (hex 12 0x400001006000050201200000) ∷ done ∷ done
-    ∷ puts (hex 5 0x2001020000) ∷ puts (hex 19 0x40011000000000000400002000000000010100) ∷ done
-    ∷ puts (hex 5 0x2004020100) ∷ puts (hex 7 0x40040400010102) ∷ done ∷ hands (hex 5 0x0100000000)
-    ∷ puts (hex 5 0x2004020100) ∷ puts (hex 7 0x40040400FF0803) ∷ done ∷ hands (hex 5 0x0800000000)
-    ∷ puts (hex 5 0x2004020100) ∷ puts (hex 7 0x40040400640204) ∷ done ∷ hands (hex 5 0x0200000000)
-    ∷ puts (hex 5 0x2004020100) ∷ puts (hex 7 0x4004040008FF05) ∷ done ∷ hands (hex 5 0xFF00000000)
-    ∷ puts (hex 5 0x2004020100) ∷ puts (hex 4 0x40040101) ∷ done ∷ puts (hex 4 0x20050104) ∷ puts (hex 4 0x40050100)
-    ∷ done ∷ puts (hex 5 0x2004020100) ∷ puts (hex 7 0x40040400640204) ∷ done ∷ hands (hex 5 0x0200000000)
-    ∷ puts (hex 4 0x20050102) ∷ puts (hex 4 0x40050100) ∷ done ∷ puts (hex 4 0x20050103) ∷ puts (hex 4 0x40050100)
-    ∷ done ∷ puts (hex 5 0x2004020100) ∷ puts (hex 7 0x40040400010102) ∷ done ∷ hands (hex 5 0x0100000000)
-    ∷ puts (hex 5 0x2004020100) ∷ puts (hex 7 0x40040400FF0803) ∷ done ∷ hands (hex 5 0x0800000000)
-    ∷ puts (hex 6 0x210303010001) ∷ puts (hex 4 0x41030100) ∷ done ∷ puts (hex 14 0x61050B0101040003030000000000)
-    ∷ hands (hex 5 0x0000000003) ∷ done ∷ hands (hex 5 0x0300000000) ∷ done ∷ puts (hex 4 0x20000101)
+    ≡ refusal 3 ∷ refusal 3 ∷ refusal 3 ∷ refusal 3 ∷ refusal 3 ∷ done ∷ puts (hex 4 0x20000101)
     ∷ puts (hex 12 0x400001006000050201200000) ∷ done ∷ done ∷ puts (hex 5 0x2001020000)
     ∷ puts (hex 19 0x40011000000000000400002000000000010100) ∷ done ∷ puts (hex 5 0x2004020100)
-    ∷ puts (hex 7 0x40040400010102) ∷ done ∷ hands (hex 5 0x0100000000) ∷ []
+    ∷ puts (hex 7 0x40040400010102) ∷ done ∷ hands (hex 5 0x0100000000) ∷ puts (hex 5 0x2004020100)
+    ∷ puts (hex 7 0x40040400FF0803) ∷ done ∷ hands (hex 5 0x0800000000) ∷ puts (hex 5 0x2004020100)
+    ∷ puts (hex 7 0x40040400640204) ∷ done ∷ hands (hex 5 0x0200000000) ∷ puts (hex 5 0x2004020100)
+    ∷ puts (hex 7 0x4004040008FF05) ∷ done ∷ hands (hex 5 0xFF00000000) ∷ puts (hex 4 0x20050104)
+    ∷ puts (hex 4 0x40050100) ∷ done ∷ puts (hex 5 0x2004020100) ∷ puts (hex 7 0x40040400640204) ∷ done
+    ∷ hands (hex 5 0x0200000000) ∷ puts (hex 6 0x210303010001) ∷ puts (hex 4 0x41030100) ∷ done
+    ∷ puts (hex 14 0x61050B0101040003030000000000) ∷ hands (hex 5 0x0000000003) ∷ done ∷ hands (hex 5 0x0300000000) ∷ []
 unfolding lines
 own-pairs = refl
-
--- A profile of eleven octets is refused for a pair outside its limits, that of each ID in turn, and for its control
--- payload; a refused fresh changes nothing.
-pairs-outside :
-    lines
-    (fresh (hex 11 0x2004020402040204020401) ∷ command 0 0 (hex 1 0x01) ∷ fresh (hex 11 0x1F04020402040204020401)
-    ∷ fresh (hex 11 0x2000020402040204020401) ∷ fresh (hex 11 0x2004000402040204020401)
-    ∷ fresh (hex 11 0x2004020002040204020401) ∷ fresh (hex 11 0x2004020409040204020401)
-    ∷ fresh (hex 11 0x2004020402000204020401) ∷ fresh (hex 11 0x2004020402041004020401)
-    ∷ fresh (hex 11 0x2004020402040200020401) ∷ fresh (hex 11 0x2004020402040204FE0401)
-    ∷ fresh (hex 11 0x2004020402040204020001) ∷ fresh (hex 11 0x2004020402040204020400)
-    ∷ fresh (hex 11 0x2004020402040204020409) ∷ down ∷ up ∷ up ∷ command 0 1 (hex 2 0x0000) ∷ down ∷ up
-    ∷ command 0 4 (hex 2 0x0100) ∷ down ∷ up ∷ report 2 ∷ fresh (hex 11 0x20FFFF010101010101FFFF) ∷ report 2 ∷ [])
-    start
-    ≡ done ∷ puts (hex 4 0x20000101) ∷ refusal 3 ∷ refusal 3 ∷ refusal 3 ∷ refusal 3 ∷ refusal 3 ∷ refusal 3 ∷ refusal 3
-    ∷ refusal 3 ∷ refusal 3 ∷ refusal 3 ∷ refusal 3 ∷ refusal 3 ∷ puts (hex 12 0x400001006000050201200000) ∷ done ∷ done
-    ∷ puts (hex 5 0x2001020000) ∷ puts (hex 19 0x40011000000000000400002000000000010100) ∷ done
-    ∷ puts (hex 5 0x2004020100) ∷ puts (hex 7 0x40040400040202) ∷ done ∷ hands (hex 5 0x0200000000) ∷ done ∷ refusal 6
-    ∷ []
-unfolding lines
-pairs-outside = refl
-
--- A profile of five octets after one of eleven: 2 to 5 have one pair again, as with eleven octets that repeat it.
-five-after-eleven :
-    lines
-    (fresh (hex 11 0x200101FF08640208FF0303) ∷ command 0 0 (hex 1 0x01) ∷ down ∷ up ∷ up ∷ command 0 1 (hex 2 0x0000)
-    ∷ down ∷ up ∷ command 0 4 (hex 2 0x0100) ∷ down ∷ up ∷ command 0 4 (hex 2 0x0100) ∷ down ∷ up
-    ∷ fresh (hex 5 0x2004020401) ∷ command 0 0 (hex 1 0x01) ∷ down ∷ up ∷ up ∷ command 0 1 (hex 2 0x0000) ∷ down ∷ up
-    ∷ command 0 4 (hex 2 0x0100) ∷ down ∷ up ∷ command 0 4 (hex 2 0x0100) ∷ down ∷ up ∷ report 2 ∷ report 3
-    ∷ fresh (hex 11 0x2004020402040204020401) ∷ command 0 0 (hex 1 0x01) ∷ down ∷ up ∷ up ∷ command 0 1 (hex 2 0x0000)
-    ∷ down ∷ up ∷ command 0 4 (hex 2 0x0100) ∷ down ∷ up ∷ command 0 4 (hex 2 0x0100) ∷ down ∷ up ∷ report 2 ∷ report 3
-    ∷ [])
-    start
-    ≡ done ∷ puts (hex 4 0x20000101) ∷ puts (hex 12 0x400001006000050201200000) ∷ done ∷ done
-    ∷ puts (hex 5 0x2001020000) ∷ puts (hex 19 0x40011000000000000400002000000000010100) ∷ done
-    ∷ puts (hex 5 0x2004020100) ∷ puts (hex 7 0x40040400010102) ∷ done ∷ puts (hex 5 0x2004020100)
-    ∷ puts (hex 7 0x40040400FF0803) ∷ done ∷ done ∷ puts (hex 4 0x20000101) ∷ puts (hex 12 0x400001006000050201200000)
-    ∷ done ∷ done ∷ puts (hex 5 0x2001020000) ∷ puts (hex 19 0x40011000000000000400002000000000010100) ∷ done
-    ∷ puts (hex 5 0x2004020100) ∷ puts (hex 7 0x40040400040202) ∷ done ∷ puts (hex 5 0x2004020100)
-    ∷ puts (hex 7 0x40040400040203) ∷ done ∷ hands (hex 5 0x0200000000) ∷ hands (hex 5 0x0200000000) ∷ done
-    ∷ puts (hex 4 0x20000101) ∷ puts (hex 12 0x400001006000050201200000) ∷ done ∷ done ∷ puts (hex 5 0x2001020000)
-    ∷ puts (hex 19 0x40011000000000000400002000000000010100) ∷ done ∷ puts (hex 5 0x2004020100)
-    ∷ puts (hex 7 0x40040400040202) ∷ done ∷ puts (hex 5 0x2004020100) ∷ puts (hex 7 0x40040400040203) ∷ done
-    ∷ hands (hex 5 0x0200000000) ∷ hands (hex 5 0x0200000000) ∷ []
-unfolding lines
-five-after-eleven = refl
