@@ -142,7 +142,7 @@ aired-dynamic t (Activates rf l) d z = rw z
 aired-dynamic t (Ends rf) d z = rw z
 aired-dynamic t Speaks d z = refl
 
-aired-ok : (p : Profile) (a : Aired) (d : ℕ) → ChangeOk p d (changeAired (termsOf p 0) a d)
+pub aired-ok : (p : Profile) (a : Aired) (d : ℕ) → ChangeOk p d (changeAired (termsOf p 0) a d)
 unfolding placeOf
 aired-ok p Refused d = tt
 aired-ok p (Goes rf l) d = tt

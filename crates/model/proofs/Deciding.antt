@@ -10,7 +10,7 @@ use lib.Dec.{eqb}
 use lib.ListN.{length}
 use borrow.Author.Tests.{ne-eqb, eqb-false, lt-leb}
 use Rattle.octets.specs.Octets.{Octets, pick}
-use Rattle.model.specs.Kinds.{Terms, Profile, Verdict, Answer}
+use Rattle.model.specs.Kinds.{Profile, Verdict, Answer}
 use Rattle.packets.specs.Reassembly.{run}
 use Rattle.model.specs.Kinds.verdict as verdict
 use Rattle.model.specs.Kinds.heard.{Nothing, Answered}
@@ -104,6 +104,17 @@ answers-sound aim gid oid p v limits f low small =
     (inl (refl, answered-written aim gid oid (responseOf p v) (answeredBy p v) (says-response p limits aim gid oid v f))) (response-short p v))
     (verdict-sound v)
 
+-- what a verdict opens is the profile's
+pub verdict-ok : (gid oid aim : ℕ) (p : Profile) (v : Verdict) → Fits gid oid aim p v → (d : ℕ) → ChangeOk p d (changeBy v d)
+verdict-ok gid oid aim p (verdict.Refuses status) f d = tt
+verdict-ok gid oid aim p (verdict.Resets type) f d = tt
+verdict-ok gid oid aim p verdict.Initialises f d = tt
+verdict-ok gid oid aim p (verdict.Opens c t) f d = each c (λ d b. ChangeOk p d (pick b (opens t) stays)) (dynamic-conn c (f .2) (f .3), f .4) (λ d. tt) d
+verdict-ok gid oid aim p (verdict.Closes c) f d = on (ChangeOk p d) (eqb c d) (λ e. tt) (λ e. tt)
+verdict-ok gid oid aim p (verdict.Turns rf) f d = tt
+verdict-ok gid oid aim p (verdict.Selects pair) f d = tt
+verdict-ok gid oid aim p (verdict.Deactivates type rf) f d = on (ChangeOk p d) (eqb 0 d) (λ e. tt) (λ e. tt)
+
 -- the state behind the command's last packet: no other command is under way, and nothing was pushed behind one that closes
 pub record Behind (s : State) (aim : ℕ) (l : ℕ → Ledger) (gid oid : ℕ) : Type 0 where
   pub good : (d : ℕ) → GoodAt d (s .conns d) (segsOf d (s .down)) (itemsOf aim d (s .up)) (l d)
@@ -180,18 +191,6 @@ module _ (s : State) (aim : ℕ) (l : ℕ → Ledger) (gid oid : ℕ) (b : Behin
   verdict-air (verdict.Selects pair) f g = sym g ∙ b .standing .air
   verdict-air (verdict.Deactivates type rf) f g = g .1
 
-  verdict-ok : (v : Verdict) → Fits gid oid aim (s .profile) v → (d : ℕ) → ChangeOk (s .profile) d (changeBy v d)
-  verdict-ok (verdict.Refuses status) f d = tt
-  verdict-ok (verdict.Resets type) f d = tt
-  verdict-ok verdict.Initialises f d = tt
-  verdict-ok (verdict.Opens c t) f d =
-      each c (λ d b. ChangeOk (s .profile) d (pick b (opens t) stays))
-      (dynamic-conn c (f .2) (f .3), ap (λ (x : Terms). x .credits) (f .4)) (λ d. tt) d
-  verdict-ok (verdict.Closes c) f d = on (ChangeOk (s .profile) d) (eqb c d) (λ e. tt) (λ e. tt)
-  verdict-ok (verdict.Turns rf) f d = tt
-  verdict-ok (verdict.Selects pair) f d = tt
-  verdict-ok (verdict.Deactivates type rf) f d = on (ChangeOk (s .profile) d) (eqb 0 d) (λ e. tt) (λ e. tt)
-
   pub decided-keeps : (v : Verdict) → Fits gid oid aim (s .profile) v → Legal (s .controller .rf) (isOpen s) v
       → Kept (deciding gid oid v s .next) (shown (answers gid oid (s .profile) v) (accountOf s aim l))
   decided-keeps v f g =
@@ -214,7 +213,7 @@ module _ (s : State) (aim : ℕ) (l : ℕ → Ledger) (gid oid : ℕ) (b : Behin
         aimed = b .aimed;
         sound = sound-append (s .up) ps (b .sound) (answers-sound aim gid oid (s .profile) v (b .limits) f (b .low) (b .small));
         heard = b .heard;
-        standing = standing-change (changeBy v) (isActive (controllerAfter (s .controller) v .rf)) (verdict-ok v f) (verdict-air v f g) (b .standing);
+        standing = standing-change (changeBy v) (isActive (controllerAfter (s .controller) v .rf)) (verdict-ok gid oid aim (s .profile) v f) (verdict-air v f g) (b .standing);
         limits = b .limits;
       }
     where

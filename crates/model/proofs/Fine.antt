@@ -12,7 +12,7 @@ use lib.ListN.{length}
 use borrow.Author.Tests.{eqb-true, leb-false}
 use Rattle.octets.specs.Octets.{Octets, pick}
 use Rattle.packets.specs.Segments.{Segment, last}
-use Rattle.model.specs.Kinds.{Profile, Pending}
+use Rattle.model.specs.Kinds.{Terms, Profile, Pending}
 use Rattle.state.specs.Conn.{placeOf, termsOf}
 use Rattle.state.specs.Runs.{controlLimit}
 use Rattle.dh.specs.Contents.{written}
@@ -164,10 +164,10 @@ standing-at c f {g} o r st h =
     opened : (d : ℕ) → at c (λ k. withController (f (k .controller)) k) g d .controller .opened ≡ g d .controller .opened
     opened d = at-keeps c (λ k. withController (f (k .controller)) k) g (λ k. k .controller .opened) (λ k. o (k .controller)) d
 
--- what opens is one of the five, with the profile's terms
+-- what opens is one of the five, with the profile's terms for it
 abbrev pub ChangeOk : Profile → ℕ → Change → Type 0
 ChangeOk p d stays = Unit {0}
-ChangeOk p d (opens t) = (noConn d ≡ false) × (t .credits ≡ termsOf p d .credits)
+ChangeOk p d (opens t) = (noConn d ≡ false) × (t ≡ termsOf p d)
 ChangeOk p d closes = Unit {0}
 ChangeOk p d (gives n) = Unit {0}
 
@@ -198,7 +198,7 @@ standing-change {g} {active} {p} change active′ ok air h =
     grants : (d : ℕ) (c : Change) → ChangeOk p d c → atController c (g d .controller) .opened ≡ true
         → atController c (g d .controller) .grant ≡ termsOf p d .credits
     grants d stays o e = h .granted d e
-    grants d (opens t) o e = o .1
+    grants d (opens t) o e = ap (λ (x : Terms). x .credits) (o .1)
     grants d closes o e = clash e refl
     grants d (gives n) o e = h .granted d e
 

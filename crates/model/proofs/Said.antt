@@ -28,12 +28,13 @@ use Rattle.wires.specs.Meaning.{Meaning, datum, control, junk, meaning}
 use Rattle.wires.specs.Tally.{aimedAt, says}
 use Rattle.messages.specs.Packets.{noticePacket, noticePackets}
 use Rattle.model.specs.Refusals.{noConn}
-use Rattle.ends.specs.Changes.{Change, stays, opens, closes, gives, changeHeard}
+use Rattle.ends.specs.Changes.{stays, opens, changeHeard}
 use Rattle.model.specs.calls.Down.{answers}
 use Rattle.nfcc.proofs.Verdicts.{Fits}
 use Rattle.model.proofs.Meanings.{meaning-notice}
 use Rattle.model.proofs.Messages.{answeredBy, says-response, meaning-answer}
 use Rattle.model.proofs.Cases.{each}
+use Rattle.model.proofs.Fine.{ChangeOk}
 use Rattle.model.proofs.Deciding.{dynamic-conn}
 
 -- ---- what is heard
@@ -166,25 +167,18 @@ data-said p o c n x means = rw means (tt, tt)
 
 -- ---- what it does at the host
 
--- what opens is one of the five, with the profile's terms for it
-abbrev pub OpensOwn : Profile → ℕ → Change → Type 0
-OpensOwn p d stays = Unit {0}
-OpensOwn p d (opens t) = (noConn d ≡ false) × (t ≡ termsOf p d)
-OpensOwn p d closes = Unit {0}
-OpensOwn p d (gives n) = Unit {0}
-
-answered-opens : (p : Profile) (a : Answer) (m : Octets) (d : ℕ) → DueAnswer p a → OpensOwn p d (changeHeard (Answered a) m d)
+answered-opens : (p : Profile) (a : Answer) (m : Octets) (d : ℕ) → DueAnswer p a → ChangeOk p d (changeHeard (Answered a) m d)
 answered-opens p Done m d h = tt
 answered-opens p ClosesAll m d h = tt
 answered-opens p (Sized n) m d h = tt
-answered-opens p (Opens c t) m d h = each c (λ d b. OpensOwn p d (pick b (opens t) stays)) h (λ d. tt) d
-answered-opens p (Closes c) m d h = on (OpensOwn p d) (eqb c d) (λ e. tt) (λ e. tt)
+answered-opens p (Opens c t) m d h = each c (λ d b. ChangeOk p d (pick b (opens t) stays)) h (λ d. tt) d
+answered-opens p (Closes c) m d h = on (ChangeOk p d) (eqb c d) (λ e. tt) (λ e. tt)
 
-pub heard-opens : (p : Profile) (h : Heard) (m : Octets) (d : ℕ) → Due p h → OpensOwn p d (changeHeard h m d)
+pub heard-opens : (p : Profile) (h : Heard) (m : Octets) (d : ℕ) → Due p h → ChangeOk p d (changeHeard h m d)
 unfolding placeOf
 heard-opens p Nothing m d b = tt
 heard-opens p Dropped m d b = tt
 heard-opens p (Answered a) m d b = answered-opens p a m d b
-heard-opens p (Activated t) m d b = each 0 (λ d b. OpensOwn p d (pick b (opens t) stays)) (refl, b) (λ d. tt) d
-heard-opens p Deactivated m d b = on (OpensOwn p d) (eqb 0 d) (λ e. tt) (λ e. tt)
-heard-opens p Credits m d b = on (OpensOwn p d) (eqb (creditsFor m d) 0) (λ e. tt) (λ e. tt)
+heard-opens p (Activated t) m d b = each 0 (λ d b. ChangeOk p d (pick b (opens t) stays)) (refl, b) (λ d. tt) d
+heard-opens p Deactivated m d b = on (ChangeOk p d) (eqb 0 d) (λ e. tt) (λ e. tt)
+heard-opens p Credits m d b = on (ChangeOk p d) (eqb (creditsFor m d) 0) (λ e. tt) (λ e. tt)

@@ -51,11 +51,11 @@ use Rattle.model.proofs.Link.{held-le, owed-le}
 use Rattle.air.proofs.Taken.{Within, event-within, aired-steady}
 use Rattle.model.proofs.Meanings.{meaning-data}
 use Rattle.model.proofs.Messages.{notices-few}
-use Rattle.model.proofs.Airing.{Suits, aired-suits, kind-eight, notifies}
+use Rattle.model.proofs.Airing.{Suits, aired-ok, aired-suits, kind-eight, notifies}
 use Rattle.model.proofs.Trace.{reachable}
 use Rattle.model.proofs.Always.{Stays, always}
 use Rattle.model.proofs.Never.{heard-whole}
-use Rattle.model.proofs.Said.{Due, Said, said-append, hear-due, air-said, credit-said, data-said, OpensOwn, heard-opens}
+use Rattle.model.proofs.Said.{Due, Said, said-append, hear-due, air-said, credit-said, data-said, heard-opens}
 use Rattle.model.proofs.SizesDown.{down-small}
 use Rattle.model.proofs.Small.{HostSmall, ControllerSmall, ConnSmall, Small, cold-small, sent-octets, grown-within, at-small, change-controller, change-host, held-known, held-terms}
 
@@ -239,10 +239,9 @@ unfolding placeOf
 air-conns s o e Refused w t m d = m .conns d
 air-conns s o e (Goes rf ls) w t m d = m .conns d
 air-conns s o e (Activates rf ls) w t m d =
-    change-controller d (pick (eqb 0 d) (opens (termsOf (s .profile) 0)) stays) (s .conns d)
-    (each 0 (λ d b. OpensOwn (s .profile) d (pick b (opens (termsOf (s .profile) 0)) stays)) (refl, refl) (λ d. tt) d) (m .conns d)
+    change-controller d (pick (eqb 0 d) (opens (termsOf (s .profile) 0)) stays) (s .conns d) (aired-ok (s .profile) (Activates rf ls) d) (m .conns d)
 air-conns s o e (Ends rf) w t m d =
-    change-controller d (pick (eqb 0 d) closes stays) (s .conns d) (on (OpensOwn (s .profile) d) (eqb 0 d) (λ e. tt) (λ e. tt)) (m .conns d)
+    change-controller d (pick (eqb 0 d) closes stays) (s .conns d) (aired-ok (s .profile) (Ends rf) d) (m .conns d)
 air-conns s o e Speaks w t m d =
     at-small 0 (λ k. withController (spoken (segments 255 (drop 1 o)) (k .controller)) k) (s .conns) refl (m .conns 0 .host)
     (record {

@@ -8,7 +8,7 @@ use mathlib.Core.List.{List, [], _∷_}
 use lib.Dec.{eqb, leb}
 use lib.ListN.{length, length-append}
 use borrow.Author.Tests.{ltb-false, leb-false}
-use Rattle.octets.specs.Octets.{Octets, pick}
+use Rattle.octets.specs.Octets.{Octets}
 use Rattle.state.specs.Commands.{aimIn}
 use Rattle.packets.specs.Segments.{Segment, more, last}
 use Rattle.model.specs.Kinds.{Profile, Verdict}
@@ -24,34 +24,23 @@ use Rattle.model.specs.State.{State, isOpen, at, withConns, withDown, wi
 use Rattle.model.specs.Effects.{down, Effect, taken}
 use Rattle.model.specs.Refusals.{first, isNil, full}
 use Rattle.model.specs.Runs.{runFor, runAfter, wholeBy}
-use Rattle.ends.specs.Changes.{stays, opens, changeBy}
+use Rattle.ends.specs.Changes.{changeBy}
 use Rattle.model.specs.calls.Down.{answers, deciding, answering, arriving, taking, tooTight, firstFull, needsTwo, storeFull}
 use Rattle.model.specs.Bench.{rules, act}
 use Rattle.model.specs.Observer.{Ledger}
 use Rattle.model.specs.invariant.Bench.{Fine}
-use Rattle.model.proofs.Cases.{clash, each}
+use Rattle.model.proofs.Cases.{clash}
 use Rattle.model.proofs.Needs.{need}
 use Rattle.nfcc.proofs.Verdicts.{Fits, judge-fits, after-steady}
 use Rattle.model.proofs.Messages.{notices-few}
 use Rattle.model.proofs.Order.{way-low, way-small}
-use Rattle.model.proofs.Deciding.{dynamic-conn}
-use Rattle.model.proofs.Said.{said-append, answers-said, OpensOwn}
+use Rattle.model.proofs.Deciding.{verdict-ok}
+use Rattle.model.proofs.Said.{said-append, answers-said}
 use Rattle.model.proofs.Small.{Small, grown-within, more-none, at-small, change-controller, open-known}
 
 -- at most two packets answer a command
 answers-few : (gid oid : ℕ) (p : Profile) (v : Verdict) → length (answers gid oid p v) ≤ 2
 answers-few gid oid p v = omega (arith, notices-few (noticeMessage v))
-
-verdict-opens : (gid oid aim : ℕ) (p : Profile) (v : Verdict) → Fits gid oid aim p v → (d : ℕ) → OpensOwn p d (changeBy v d)
-verdict-opens gid oid aim p (verdict.Refuses status) f d = tt
-verdict-opens gid oid aim p (verdict.Resets type) f d = tt
-verdict-opens gid oid aim p verdict.Initialises f d = tt
-verdict-opens gid oid aim p (verdict.Opens c t) f d =
-    each c (λ d b. OpensOwn p d (pick b (opens t) stays)) (dynamic-conn c (f .2) (f .3), f .4) (λ d. tt) d
-verdict-opens gid oid aim p (verdict.Closes c) f d = on (OpensOwn p d) (eqb c d) (λ e. tt) (λ e. tt)
-verdict-opens gid oid aim p (verdict.Turns rf) f d = tt
-verdict-opens gid oid aim p (verdict.Selects pair) f d = tt
-verdict-opens gid oid aim p (verdict.Deactivates type rf) f d = on (OpensOwn p d) (eqb 0 d) (λ e. tt) (λ e. tt)
 
 -- a whole command is answered
 deciding-small : (s : State) (gid oid aim : ℕ) (v : Verdict) → ProfileWithin (s .profile) → Fits gid oid aim (s .profile) v → gid < 16 → oid < 64
@@ -61,7 +50,7 @@ deciding-small s gid oid aim v l f low small fits m =
       downs = m .downs;
       ups = rw length-append (omega (arith, ltb-false 16 (length (s .up) + 2) fits, answers-few gid oid (s .profile) v));
       said = said-append (s .profile) (s .up) (answers gid oid (s .profile) v) (m .said) (answers-said (s .profile) gid oid aim v l f low small);
-      conns = λ d. change-controller d (changeBy v d) (s .conns d) (verdict-opens gid oid aim (s .profile) v f d) (m .conns d);
+      conns = λ d. change-controller d (changeBy v d) (s .conns d) (verdict-ok gid oid aim (s .profile) v f d) (m .conns d);
       steady = after-steady gid oid aim (s .profile) (s .controller) v f (m .steady);
       size-least = m .size-least;
       size-most = m .size-most;

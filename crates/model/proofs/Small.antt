@@ -27,7 +27,8 @@ use Rattle.model.specs.Changes.{atController, atHost}
 use Rattle.model.specs.calls.Up.{hearing}
 use Rattle.model.specs.Reachable.{octetsIn, RunWithin}
 use Rattle.model.proofs.Cases.{clash, each}
-use Rattle.model.proofs.Said.{Said, OpensOwn}
+use Rattle.model.proofs.Fine.{ChangeOk}
+use Rattle.model.proofs.Said.{Said}
 
 -- ---- segments and runs
 
@@ -95,7 +96,7 @@ at-small {p} c f g five h k r =
     each c (λ d b. ConnSmall p d (pick b (f (g d)) (g d))) (record { host = h; controller = k; other = λ e. clash e five }) r
 
 -- what opens, closes and is credited, at either end
-pub change-controller : {p : Profile} (d : ℕ) (c : Change) (k : Connection) → OpensOwn p d c → ConnSmall p d k → ConnSmall p d (withController (atController c (k .controller)) k)
+pub change-controller : {p : Profile} (d : ℕ) (c : Change) (k : Connection) → ChangeOk p d c → ConnSmall p d k → ConnSmall p d (withController (atController c (k .controller)) k)
 change-controller d stays k o m = m
 change-controller d (opens t) k o m =
     record { host = m .host; controller = record { stored = omega arith; speech = omega arith; reassembly = omega arith }; other = λ e. clash e (o .0) }
@@ -107,7 +108,7 @@ change-controller {p} d closes k o m =
     }
 change-controller d (gives n) k o m = m
 
-pub change-host : {p : Profile} (d : ℕ) (c : Change) (k : Connection) → OpensOwn p d c → ConnSmall p d k → ConnSmall p d (withHost (atHost c (k .host)) k)
+pub change-host : {p : Profile} (d : ℕ) (c : Change) (k : Connection) → ChangeOk p d c → ConnSmall p d k → ConnSmall p d (withHost (atHost c (k .host)) k)
 change-host d stays k o m = m
 change-host d (opens t) k o m =
     record {

@@ -6,7 +6,7 @@ use mathlib.Core.List.{List, [], _∷_, _++_}
 use Rattle.octets.specs.Octets.{Octets}
 use Rattle.model.specs.Effects.{command, send, push, down, consume, up}
 use Rattle.model.specs.Observer.{Event}
-use Rattle.model.specs.Table.{shows, goesDown, goesUp, quietly, refusal, readyWith}
+use Rattle.model.specs.Table.{shows, goesDown, goesUp, quietly, refusal, readyWith, opened}
 
 -- n octets 00
 abbrev pub blank : ℕ → Octets
@@ -19,12 +19,7 @@ times (suc n) es = es ++ times n es
 
 -- connection 2 is open, with payload 1 and no flow control
 abbrev pub free : List Event
-free =
-    readyWith (0x20 ∷ 0x01 ∷ 0xFF ∷ 0x04 ∷ 0x01 ∷ [])
-    ++ goesDown (command 0x0 0x04 (0x01 ∷ 0x00 ∷ [])) (0x20 ∷ 0x04 ∷ 0x02 ∷ 0x01 ∷ 0x00 ∷ [])
-    ∷ goesUp down (0x40 ∷ 0x04 ∷ 0x04 ∷ 0x00 ∷ 0x01 ∷ 0xFF ∷ 0x02 ∷ [])
-    ∷ quietly up
-    ∷ []
+free = readyWith (0x20 ∷ 0x01 ∷ 0xFF ∷ 0x04 ∷ 0x01 ∷ []) ++ opened 0x01 0xFF 0x02
 
 -- a message of 32 packets, and one of its packets but the last: pushed, or pushed, taken, consumed and so put on the up wire
 abbrev pub long : List Event

@@ -6,20 +6,12 @@ use mathlib.Core.List.{List, [], _∷_, _++_}
 use Rattle.octets.specs.Octets.{Octets}
 use Rattle.model.specs.Effects.{fresh, command, send, push, down, up, report}
 use Rattle.model.specs.Observer.{Event}
-use Rattle.model.specs.Table.{shows, goesDown, goesUp, quietly, refusal, readyWith, activated}
+use Rattle.model.specs.Table.{shows, goesDown, goesUp, quietly, refusal, readyWith, opened, activated}
 
 -- control payload 32; on 2 payload 1 and one credit, on 3 payload 255 and eight, on 4 payload 4 and no flow control, on 5 payload 16 and three;
 -- on 0 payload 4 and two
 abbrev pub forEach : Octets
 forEach = 0x20 ∷ 0x01 ∷ 0x01 ∷ 0xFF ∷ 0x08 ∷ 0x04 ∷ 0xFF ∷ 0x10 ∷ 0x03 ∷ 0x04 ∷ 0x02 ∷ []
-
--- CONN_CREATE, answered with this payload, these credits and this Conn ID
-abbrev pub opened : ℕ → ℕ → ℕ → List Event
-opened payload credits id =
-    goesDown (command 0x0 0x04 (0x01 ∷ 0x00 ∷ [])) (0x20 ∷ 0x04 ∷ 0x02 ∷ 0x01 ∷ 0x00 ∷ [])
-    ∷ goesUp down (0x40 ∷ 0x04 ∷ 0x04 ∷ 0x00 ∷ payload ∷ credits ∷ id ∷ [])
-    ∷ quietly up
-    ∷ []
 
 -- CONN_CLOSE of a Conn ID
 abbrev pub shut : ℕ → List Event

@@ -76,13 +76,16 @@ profile = 0x20 ∷ 0x04 ∷ 0x02 ∷ 0x04 ∷ 0x01 ∷ []
 abbrev pub ready : List Event
 ready = readyWith profile
 
--- CONN_CREATE: connection 2 is open at both ends
-abbrev pub created : List Event
-created =
+-- CONN_CREATE, answered with this payload, these credits and this Conn ID: the connection is open at both ends
+abbrev pub opened : ℕ → ℕ → ℕ → List Event
+opened payload credits id =
     goesDown (command 0x0 0x04 (0x01 ∷ 0x00 ∷ [])) (0x20 ∷ 0x04 ∷ 0x02 ∷ 0x01 ∷ 0x00 ∷ [])
-    ∷ goesUp down (0x40 ∷ 0x04 ∷ 0x04 ∷ 0x00 ∷ 0x04 ∷ 0x02 ∷ 0x02 ∷ [])
+    ∷ goesUp down (0x40 ∷ 0x04 ∷ 0x04 ∷ 0x00 ∷ payload ∷ credits ∷ id ∷ [])
     ∷ quietly up
     ∷ []
+
+abbrev pub created : List Event
+created = opened 0x04 0x02 0x02
 
 abbrev pub onTwo : List Event
 onTwo = ready ++ created

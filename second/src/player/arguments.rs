@@ -272,6 +272,8 @@ impl Player {
 
     pub(super) fn any_air(&mut self) -> Call {
         let any = self.random.octet();
+        // no line of a sheet says a kind with the octets of another
+        let unknown = if self.lengths == Lengths::Any { any } else { any.max(9) };
         let pair = self.pair();
         match self.random.below(12) {
             0..=1 => {
@@ -282,7 +284,7 @@ impl Player {
             3 => self.activation(3, pair),
             4..=7 => Call::Air(vec![self.random.pick(&[4, 5, 6, 7])]),
             8..=9 => self.endpoint_message(),
-            10 => Call::Air(vec![self.random.pick(&[0, 9, any]), 1, 4, any]),
+            10 => Call::Air(vec![self.random.pick(&[0, 9, unknown]), 1, 4, any]),
             _ => Call::Air(self.noise_for_air()),
         }
     }
