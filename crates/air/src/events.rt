@@ -1,25 +1,17 @@
-// The air (document 01, "The air"): the octets of an event, whether the state takes it, its notification and the state after.
+// The air (document 01, "The air"): the octets of an event, whether the state takes it, and its notification. What it does is in effects.
 use messages::layout::Note;
 use messages::layout::activated_ntf;
 use messages::layout::deactivate_ntf;
 use messages::layout::discover_ntf;
 use messages::layout::generic_error_ntf;
 use messages::layout::no_message;
-use state::conn::empty_hand;
-use state::conn::hand_with;
-use state::conn::opened_at;
-use state::conn::shut_at;
 use state::conn::terms_of;
 use state::kinds::Activation;
-use state::kinds::Controller;
-use state::kinds::Counts;
-use state::kinds::Hand;
 use state::kinds::Pair;
 use state::kinds::Pairs;
 use state::kinds::Profile;
 use state::kinds::Rf;
 use state::kinds::Selection;
-use state::radio::added_to;
 use state::radio::id_ok;
 use state::radio::is_active;
 use state::radio::is_asleep;
@@ -29,7 +21,6 @@ use state::radio::listens;
 use state::radio::pair_of;
 use state::radio::polls;
 use state::radio::same_pair;
-use state::radio::started_with;
 use state::runs::CONTROL_LIMIT;
 ghost use mathlib.Core.Path.{_≡_};
 ghost use Prim.Native.Nat.{_+_, _≤_};
@@ -38,7 +29,7 @@ ghost use Rattle.octets.specs.Octets.{pick};
 ghost use Rattle.state.specs.Conn.{termsOf};
 ghost use Rattle.state.specs.Runs.{controlLimit};
 ghost use Rattle.messages.specs.Layout.{Put, discoverNtf, activatedNtf};
-ghost use Rattle.air.specs.Air.{targetOf, foundIn, pollIn, listenIn, eventOf, kindOf, noRoom, foundTo, foundBy, pollBy, listenBy, failedBy, airedBy, isRefused, airMessage, listedAfter, movedTo, controllerAired, connsAired, endpointAired};
+ghost use Rattle.air.specs.Air.{targetOf, foundIn, pollIn, listenIn, eventOf, kindOf, noRoom, foundTo, foundBy, pollBy, listenBy, failedBy, airedBy, isRefused, airMessage};
 
 // An event, by its kind. Bad: octets outside the limits of any. Found carries the notification type.
 pub enum Event {
@@ -310,71 +301,6 @@ pub fn is_refused(a: Aired) -> bool
         Aired::Activates(_, _) => false,
         Aired::Ends(_) => false,
         Aired::Speaks => false,
-    }
-}
-
-// The list of pairs after an event.
-fn listed_after(ps: Pairs, l: Listing) -> Pairs
-    ensures { λ r. ⌜ r ≡ listedAfter ps l ⌝ }
-{
-    match l {
-        Listing::Keeps => ps,
-        Listing::Starts(p) => started_with(p),
-        Listing::Adds(p) => added_to(ps, p),
-    }
-}
-
-// The controller in another RF state, with these pairs.
-fn moved_to(k: Controller, rf: Rf, ps: Pairs) -> Controller
-    ensures { λ r. ⌜ r ≡ movedTo k rf ps ⌝ }
-{
-    let phase = k.phase;
-    Controller {
-        phase: phase,
-        given: k.given,
-        rf: rf,
-        pairs: ps,
-    }
-}
-
-// The controller after an event.
-pub fn controller_aired(k: Controller, a: Aired) -> Controller
-    ensures { λ r. ⌜ r ≡ controllerAired k a ⌝ }
-{
-    let ps = k.pairs;
-    match a {
-        Aired::Refused => k,
-        Aired::Goes(rf, l) => moved_to(k, rf, listed_after(ps, l)),
-        Aired::Activates(rf, l) => moved_to(k, rf, listed_after(ps, l)),
-        Aired::Ends(rf) => moved_to(k, rf, ps),
-        Aired::Speaks => k,
-    }
-}
-
-// The connections after an event: connection 0 opens with an activation and closes with a deactivation.
-pub fn conns_aired(p: Profile, conns: [Counts; 5], a: Aired) -> [Counts; 5]
-    ensures { λ r. ⌜ r ≡ connsAired p conns a ⌝ }
-{
-    match a {
-        Aired::Refused => conns,
-        Aired::Goes(_, _) => conns,
-        Aired::Activates(_, _) => opened_at(conns, 0, terms_of(p, 0)),
-        Aired::Ends(_) => shut_at(conns, 0),
-        Aired::Speaks => conns,
-    }
-}
-
-// The endpoint's message after an event, n being the octets of the one that it brings: connection 0 opens and closes with
-// none in hand.
-pub fn endpoint_aired(h: Hand, a: Aired, n: usize) -> Hand
-    ensures { λ r. ⌜ r ≡ endpointAired h a n ⌝ }
-{
-    match a {
-        Aired::Refused => h,
-        Aired::Goes(_, _) => h,
-        Aired::Activates(_, _) => empty_hand(),
-        Aired::Ends(_) => empty_hand(),
-        Aired::Speaks => hand_with(n),
     }
 }
 

@@ -2,6 +2,7 @@
 use messages::layout;
 use messages::layout::Note;
 use nfcc::controller;
+use nfcc::effects;
 use state::kinds::Ends;
 use state::runs::CONTROL_LIMIT;
 use state::verdict::Verdict;
@@ -27,10 +28,10 @@ pub fn decide(e: Ends, gid: u8, oid: u8, m: &[u8]) -> Decision
 {
     let conns = e.conns;
     let v = controller::judge(e.profile, e.controller, conns, gid, oid, m);
-    let after = controller::conns_after(conns, v);
+    let after = effects::conns_after(conns, v);
     let mut next = e;
-    next.controller = controller::controller_after(e.controller, v);
-    next.endpoint = controller::endpoint_after(e.endpoint, v);
+    next.controller = effects::controller_after(e.controller, v);
+    next.endpoint = effects::endpoint_after(e.endpoint, v);
     next.conns = after;
     Decision {
         verdict: v,

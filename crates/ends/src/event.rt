@@ -1,4 +1,5 @@
 // An event of the RF field (document 01, "The air").
+use air::effects;
 use air::events;
 use air::events::Aired;
 use air::events::Event;
@@ -22,11 +23,11 @@ pub fn meet(e: Ends, m: &[u8]) -> Met
     let rf = controller.rf;
     let x = events::event_of(m);
     let a = events::judge_event(rf, controller.pairs, x);
-    let after = events::conns_aired(e.profile, conns, a);
+    let after = effects::conns_aired(e.profile, conns, a);
     let spoken = if m.len() == 0 { 0 } else { m.len() - 1 };
     let mut next = e;
-    next.controller = events::controller_aired(controller, a);
-    next.endpoint = events::endpoint_aired(e.endpoint, a, spoken);
+    next.controller = effects::controller_aired(controller, a);
+    next.endpoint = effects::endpoint_aired(e.endpoint, a, spoken);
     next.conns = after;
     Met {
         event: x,

@@ -1,8 +1,8 @@
--- `air::events::listed_after` meets its contract: by the cases of what becomes of the list.
+-- `air::effects::listed_after` meets its contract: by the cases of what becomes of the list.
 -- Assumes nothing.
 use borrow.Author.Needs.{needs}
-use Rattle.air.proofs.events.listed_after.Statement.{statement}
-use Rattle.air.proofs.events.listed_after.Tie as tie
+use Rattle.air.proofs.effects.listed_after.Statement.{statement}
+use Rattle.air.proofs.effects.listed_after.Tie as tie
 
 enum-told : tie.Need-enum-told
 enum-told c = search needs

@@ -1,9 +1,9 @@
--- `nfcc::controller::conns_after` meets its contract: the definition computes at each verdict, at what the calls ensure.
+-- `nfcc::effects::conns_after` meets its contract: the definition computes at each verdict, at what the calls ensure.
 -- Assumes nothing.
 use Rattle.nfcc.specs.Controller.{connsAfter}
 use borrow.Author.Needs.{needs}
-use Rattle.nfcc.proofs.controller.conns_after.Statement.{statement}
-use Rattle.nfcc.proofs.controller.conns_after.Tie as tie
+use Rattle.nfcc.proofs.effects.conns_after.Statement.{statement}
+use Rattle.nfcc.proofs.effects.conns_after.Tie as tie
 
 enum-told : tie.Need-enum-told
 enum-told c = search needs

@@ -1,9 +1,9 @@
--- `nfcc::controller::endpoint_after` meets its contract: by the verdict's cases.
+-- `nfcc::effects::endpoint_after` meets its contract: by the verdict's cases.
 -- Assumes nothing.
 use Rattle.nfcc.specs.Controller.{endpointAfter}
 use borrow.Author.Needs.{needs}
-use Rattle.nfcc.proofs.controller.endpoint_after.Statement.{statement}
-use Rattle.nfcc.proofs.controller.endpoint_after.Tie as tie
+use Rattle.nfcc.proofs.effects.endpoint_after.Statement.{statement}
+use Rattle.nfcc.proofs.effects.endpoint_after.Tie as tie
 
 enum-told : tie.Need-enum-told
 enum-told c = search needs

@@ -1,9 +1,9 @@
--- `air::events::controller_aired` meets its contract: by the cases of what the event does.
+-- `air::effects::controller_aired` meets its contract: by the cases of what the event does.
 -- Assumes nothing.
 use Rattle.air.specs.Air.{controllerAired}
 use borrow.Author.Needs.{needs}
-use Rattle.air.proofs.events.controller_aired.Statement.{statement}
-use Rattle.air.proofs.events.controller_aired.Tie as tie
+use Rattle.air.proofs.effects.controller_aired.Statement.{statement}
+use Rattle.air.proofs.effects.controller_aired.Tie as tie
 
 enum-told : tie.Need-enum-told
 enum-told c = search needs

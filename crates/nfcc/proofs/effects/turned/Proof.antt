@@ -1,9 +1,9 @@
--- `nfcc::controller::turned` meets its contract: both answers by what is_idle and no_pairs ensure.
+-- `nfcc::effects::turned` meets its contract: both answers by what is_idle and no_pairs ensure.
 -- Assumes nothing.
 use mathlib.Core.Path.{sym, _∙_}
 use borrow.Author.Needs.{needs}
-use Rattle.nfcc.proofs.controller.turned.Statement.{statement}
-use Rattle.nfcc.proofs.controller.turned.Tie as tie
+use Rattle.nfcc.proofs.effects.turned.Statement.{statement}
+use Rattle.nfcc.proofs.effects.turned.Tie as tie
 
 is-idle-requires : tie.Need-is-idle-requires
 is-idle-requires c κs = search needs

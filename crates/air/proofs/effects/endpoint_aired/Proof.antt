@@ -1,9 +1,9 @@
--- `air::events::endpoint_aired` meets its contract: by what the event does.
+-- `air::effects::endpoint_aired` meets its contract: by what the event does.
 -- Assumes nothing.
 use Rattle.air.specs.Air.{endpointAired}
 use borrow.Author.Needs.{needs}
-use Rattle.air.proofs.events.endpoint_aired.Statement.{statement}
-use Rattle.air.proofs.events.endpoint_aired.Tie as tie
+use Rattle.air.proofs.effects.endpoint_aired.Statement.{statement}
+use Rattle.air.proofs.effects.endpoint_aired.Tie as tie
 
 enum-told : tie.Need-enum-told
 enum-told c = search needs

@@ -1,9 +1,9 @@
--- `air::events::conns_aired` meets its contract: by the cases of what the event does.
+-- `air::effects::conns_aired` meets its contract: by the cases of what the event does.
 -- Assumes nothing.
 use Rattle.air.specs.Air.{connsAired}
 use borrow.Author.Needs.{needs}
-use Rattle.air.proofs.events.conns_aired.Statement.{statement}
-use Rattle.air.proofs.events.conns_aired.Tie as tie
+use Rattle.air.proofs.effects.conns_aired.Statement.{statement}
+use Rattle.air.proofs.effects.conns_aired.Tie as tie
 
 enum-told : tie.Need-enum-told
 enum-told c = search needs

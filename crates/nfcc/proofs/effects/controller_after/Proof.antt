@@ -1,9 +1,9 @@
--- `nfcc::controller::controller_after` meets its contract: the definition computes at each verdict, at what the calls ensure.
+-- `nfcc::effects::controller_after` meets its contract: the definition computes at each verdict, at what the calls ensure.
 -- Assumes nothing.
 use Rattle.nfcc.specs.Controller.{controllerAfter}
 use borrow.Author.Needs.{needs}
-use Rattle.nfcc.proofs.controller.controller_after.Statement.{statement}
-use Rattle.nfcc.proofs.controller.controller_after.Tie as tie
+use Rattle.nfcc.proofs.effects.controller_after.Statement.{statement}
+use Rattle.nfcc.proofs.effects.controller_after.Tie as tie
 
 enum-told : tie.Need-enum-told
 enum-told c = search needs

@@ -1,9 +1,9 @@
--- `nfcc::controller::spared` meets its contract, by the test.
+-- `nfcc::effects::spared` meets its contract, by the test.
 -- Assumes nothing.
 use borrow.Author.Tests.{eq-eqb, ne-eqb}
 use borrow.Author.Needs.{needs}
-use Rattle.nfcc.proofs.controller.spared.Statement.{statement}
-use Rattle.nfcc.proofs.controller.spared.Tie as tie
+use Rattle.nfcc.proofs.effects.spared.Statement.{statement}
+use Rattle.nfcc.proofs.effects.spared.Tie as tie
 
 empty-hand-requires : tie.Need-empty-hand-requires
 empty-hand-requires c κs = search needs

@@ -1,0 +1,112 @@
+// What a verdict does: to the controller's numbers, to the connections, and to the endpoint's message.
+use state::conn::all_shut;
+use state::conn::empty_hand;
+use state::conn::opened_at;
+use state::conn::shut_at;
+use state::kinds::Controller;
+use state::kinds::Counts;
+use state::kinds::Hand;
+use state::kinds::Phase;
+use state::kinds::Rf;
+use state::kinds::Selection;
+use state::radio::is_idle;
+use state::radio::no_pairs;
+use state::verdict::Verdict;
+ghost use mathlib.Core.Path.{_≡_};
+ghost use lib.Dec.{eqb};
+ghost use Rattle.octets.specs.Octets.{pick};
+ghost use Rattle.state.specs.Conn.{empty};
+ghost use Rattle.nfcc.specs.Controller.{turned, controllerAfter, connsAfter, endpointAfter};
+
+// The controller in another RF state. The list of pairs is emptied in IDLE.
+fn turned(k: Controller, rf: Rf) -> Controller
+    ensures { λ r. ⌜ r ≡ turned k rf ⌝ }
+{
+    let phase = k.phase;
+    let mut pairs = k.pairs;
+    if is_idle(rf) {
+        pairs = no_pairs();
+    }
+    Controller {
+        phase: phase,
+        given: k.given,
+        rf: rf,
+        pairs: pairs,
+    }
+}
+
+// The controller's numbers after a verdict. A refusal changes nothing, so a rejected selection keeps the earlier one.
+pub fn controller_after(k: Controller, v: Verdict) -> Controller
+    ensures { λ r. ⌜ r ≡ controllerAfter k v ⌝ }
+{
+    let phase = k.phase;
+    let rf = k.rf;
+    let pairs = k.pairs;
+    match v {
+        Verdict::Refuses(_) => k,
+        Verdict::Resets(_) => {
+            let none = no_pairs();
+            Controller {
+                phase: Phase::Reset,
+                given: 0,
+                rf: Rf::Idle,
+                pairs: none,
+            }
+        }
+        Verdict::Initialises => Controller {
+            phase: Phase::Ready,
+            given: k.given,
+            rf: rf,
+            pairs: pairs,
+        },
+        Verdict::Opens(id, _) => Controller {
+            phase: phase,
+            given: id,
+            rf: rf,
+            pairs: pairs,
+        },
+        Verdict::Closes(_) => k,
+        Verdict::Turns(next) => turned(k, next),
+        Verdict::Selects(p) => turned(k, Rf::W4HostSelect(Selection::Chosen(p))),
+        Verdict::Deactivates(_, next) => turned(k, next),
+    }
+}
+
+// The connections after a verdict: a deactivation closes connection 0.
+pub fn conns_after(conns: [Counts; 5], v: Verdict) -> [Counts; 5]
+    ensures { λ r. ⌜ r ≡ connsAfter conns v ⌝ }
+{
+    match v {
+        Verdict::Refuses(_) => conns,
+        Verdict::Resets(_) => all_shut(conns),
+        Verdict::Initialises => conns,
+        Verdict::Opens(id, t) => opened_at(conns, id, t),
+        Verdict::Closes(id) => shut_at(conns, id),
+        Verdict::Turns(_) => conns,
+        Verdict::Selects(_) => conns,
+        Verdict::Deactivates(_, _) => shut_at(conns, 0),
+    }
+}
+
+// The endpoint's message after a connection is opened or closed: on 0 none is in hand.
+fn spared(h: Hand, id: u8) -> Hand
+    ensures { λ r. ⌜ r ≡ pick (eqb id 0) empty h ⌝ }
+{
+    if id == 0 { empty_hand() } else { h }
+}
+
+// The endpoint's message after a verdict: connection 0 opens and closes with none in hand.
+pub fn endpoint_after(h: Hand, v: Verdict) -> Hand
+    ensures { λ r. ⌜ r ≡ endpointAfter h v ⌝ }
+{
+    match v {
+        Verdict::Refuses(_) => h,
+        Verdict::Resets(_) => empty_hand(),
+        Verdict::Initialises => h,
+        Verdict::Opens(id, _) => spared(h, id),
+        Verdict::Closes(id) => spared(h, id),
+        Verdict::Turns(_) => h,
+        Verdict::Selects(_) => h,
+        Verdict::Deactivates(_, _) => empty_hand(),
+    }
+}
