@@ -256,7 +256,9 @@ uint64_t nci_air(uint8_t *area, size_t area_len, uint8_t *out, size_t out_len, c
 /* Five numbers of a connection, handed out as a message of five octets: credits held by
  * the host, its packets on the down wire, packets stored, credits owed, credits on the up
  * wire, those inside data packets too. Without flow control the first is 255 and the last
- * two are 0.
+ * two are 0. Of a packet on a wire the three header octets are read, and the contents of
+ * credit notices, create responses and activations alone: a front end may call this for
+ * each connection after every key.
  * Refusals in order: 3, if the Conn ID is not 0 or 2 to 5; 6, if the connection is not open
  * at the controller. */
 uint64_t nci_report(uint8_t *area, size_t area_len, uint8_t *out, size_t out_len, uint8_t conn);

@@ -1,6 +1,6 @@
 #!/usr/bin/env python3
 """The C interface: the library as `./library` builds it, its header, front ends in C and C++ that call every export, damaged
-benches under the sanitizers and valgrind, and the proved bench beside the second implementation (compare/).
+benches under the sanitizers and valgrind, what report reads, and the proved bench beside the second implementation (compare/).
 
 The last line is 'interface: N passed, M failed'. The library is made of proved crates: where they are not proved, this takes
 as long as proving them."""
@@ -36,6 +36,10 @@ LIST_CALLS = 2_000_000
 DAMAGED_CALLS = 1_000_000
 SANITIZED_CALLS = 100_000
 VALGRIND_CALLS = 3_000
+# benches of lists whose payloads are changed for report, and as many with forged wires
+REPORT_BENCHES = 10_000
+# the forged packets on them, as compare/src/forged.rs names them
+FORGED = "init discover data other create-more more create-length unwritten written spare".split()
 # of calls on damaged benches at least so many bring credits past a grant, and past 255, by each of what adds credits
 PAST_GRANT = 500
 PAST_255 = 100
@@ -111,6 +115,10 @@ def exports_from_c(compiler, folder):
     run(build_c("exports", compiler, folder, LIB / "libnci_bench.a"))
 
 
+def reports_from_c(compiler, folder):
+    run(build_c("reports", compiler, folder, LIB / "libnci_bench.a"))
+
+
 def exports_from_shared_object(folder):
     run(build_c("exports", "gcc", folder, f"-L{LIB}", "-lnci_bench", f"-Wl,-rpath,{LIB}"))
 
@@ -118,6 +126,7 @@ def exports_from_shared_object(folder):
 def sanitized(compiler, folder):
     words = ["-g", "-fsanitize=address,undefined", "-fno-sanitize-recover=all", LIB / "libnci_bench.a"]
     run(build_c("exports", compiler, folder, *words))
+    run(build_c("reports", compiler, folder, *words))
     print(run(build_c("damaged", compiler, folder, *words), SANITIZED_CALLS), end="")
 
 
@@ -130,6 +139,18 @@ def valgrind(folder):
     run(*check, build_c("exports", "gcc", folder, LIB / "libnci_bench.a"))
     print(run(*check, build_c("damaged", "gcc", folder, LIB / "libnci_bench.a"), VALGRIND_CALLS), end="")
     run(*check, COMPARE / "target" / "release" / "damaged", VALGRIND_CALLS)
+
+
+def has_header(name):
+    return subprocess.run(["gcc", "-E", "-include", name, "-xc", "/dev/null"], capture_output=True).returncode == 0
+
+
+def valgrind_of_reports(folder):
+    """Payloads that report does not look into are out of its reach, and some were."""
+    program = build_c("reports", "gcc", folder, "-g", LIB / "libnci_bench.a")
+    told = run("valgrind", "--quiet", "--error-exitcode=9", program)
+    print(told, end="")
+    assert int(told.split("kept-out=")[1]) > 0, "no payload was kept out of reach"
 
 
 # ---- beside the second implementation
@@ -174,6 +195,19 @@ def every_octet():
     same((met["difference"], met["benches"]), ("none", str(512 * 256)))
 
 
+def reports():
+    met = program("reports", REPORT_BENCHES)
+    same((met["difference"], met["gaps"]), ("none", "none"))
+    for source in ("lists", "forged"):
+        assert int(met[f"{source}-benches"]) >= REPORT_BENCHES
+        # packets with other payloads on both wires, and beside them packets counted down and credits counted up
+        changed = [int(met[f"{source}-{what}"]) for what in ("down", "up", "counting-down", "counting-up")]
+        assert min(changed) > 0, f"{source}: {changed}"
+    # every kind of forged packet on both wires, and credits counted beside each
+    never = [f"{what}-{kind}" for what in ("down", "up", "beside") for kind in FORGED if int(met[f"{what}-{kind}"]) == 0]
+    same(never, [])
+
+
 # ---- all of it
 
 
@@ -189,13 +223,17 @@ def tests(folder):
     for compiler in compilers:
         yield f"header alone, {compiler}", lambda compiler=compiler: header_alone(compiler, folder)
         yield f"exports, {compiler}", lambda compiler=compiler: exports_from_c(compiler, folder)
+        yield f"reports, {compiler}", lambda compiler=compiler: reports_from_c(compiler, folder)
     yield "exports of the shared object", lambda: exports_from_shared_object(folder)
     yield "a small stack", lambda: stack(folder)
     for compiler in [compiler for compiler in ["gcc", "clang"] if compiler in compilers]:
         yield f"sanitizers, {compiler}", lambda compiler=compiler: sanitized(compiler, folder)
     if shutil.which("valgrind"):
         yield "valgrind", lambda: valgrind(folder)
+        if has_header("valgrind/memcheck.h"):
+            yield "valgrind of reports", lambda: valgrind_of_reports(folder)
     yield "tests of compare", lambda: cargo("test", "--all-targets", "--no-fail-fast")
+    yield "reports", reports
     yield "every octet of the record", every_octet
     yield "lists", lists
     yield "damaged benches", damaged

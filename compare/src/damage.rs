@@ -290,7 +290,7 @@ fn credits(random: &mut Random, place: usize) -> Vec<u8> {
 }
 
 /// All octets changed.
-fn fill(random: &mut Random, octets: &mut [u8]) {
+pub fn fill(random: &mut Random, octets: &mut [u8]) {
     for part in octets.chunks_mut(8) {
         let number = random.number().to_le_bytes();
         part.copy_from_slice(&number[..part.len()]);

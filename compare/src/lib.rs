@@ -5,15 +5,18 @@
 //! and check what they may change; `word` is what they return. `record` reads a bench
 //! in octets as one of the second implementation. `both` makes each call on both and
 //! compares; `lists` plays the second implementation's random lists, `damage` changes
-//! octets of benches and makes all calls on them. `speed` times both.
+//! octets of benches and makes all calls on them. `reports` changes payloads on the wires
+//! and asks report on both, also of wires with the packets of `forged`. `speed` times both.
 
 pub mod both;
 pub mod damage;
 pub mod exports;
 pub mod fence;
+pub mod forged;
 pub mod lent;
 pub mod lists;
 pub mod record;
+pub mod reports;
 pub mod speed;
 pub mod word;
 

@@ -36,6 +36,10 @@ const CONTROLLER_RUNS_AT: usize = HOST_RUNS_AT + 5 * MESSAGE;
 const ASKING_AT: usize = CONTROLLER_RUNS_AT + 5 * MESSAGE;
 const HEARING_AT: usize = ASKING_AT + CONTROL;
 
+/// Where the record has a wire's ring: the slot of its first packet, then how many there are.
+pub const DOWN_RING: usize = RECORD_AT + RECORD - 4;
+pub const UP_RING: usize = DOWN_RING + 2;
+
 /// What a record says.
 pub struct Said {
     pub bench: Bench,

@@ -1,7 +1,8 @@
 //! How fast: each call and a mixed paper on both benches, in one run.
 //!
 //! A call is timed on several benches that all stand where it is taken; they are set
-//! up again outside the time. A paper is timed piece by piece. Everything is done many
+//! up again outside the time. Where calls do not lead, to wires full of long packets,
+//! they are forged. A paper is timed piece by piece. Everything is done many
 //! times and the best counts, since other programs may run meanwhile. The proved bench
 //! gets its area and a buffer, which no one clears; the second implementation keeps its
 //! state in memory of its own and makes vectors of what it answers.
@@ -11,10 +12,12 @@ use std::time::{Duration, Instant};
 
 use exam_bench::bench::Bench;
 use exam_bench::call::Call;
+use exam_bench::connection::CONN_IDS;
+use exam_bench::layout::{self, Endpoint, MOST_PARAMETERS};
 use exam_bench::player::{Lengths, Player};
 
 use crate::exports;
-use crate::record::AREA;
+use crate::record::{self, AREA, DOWN_AT, DOWN_RING, SLOT, UP_AT, UP_RING, WIRE_SLOTS};
 
 /// Benches that one call is timed on together.
 const COPIES: usize = 16;
@@ -64,6 +67,14 @@ impl Octets {
     fn play(&mut self, call: &Call) -> u64 {
         exports::play(&mut self.area, &mut self.buffer, call, exports::argument(call))
     }
+
+    /// Sixteen of this packet on a wire, whatever it held.
+    fn fill(&mut self, (slots, ring): (usize, usize), packet: &[u8]) {
+        for slot in self.area[slots..].chunks_exact_mut(SLOT).take(WIRE_SLOTS) {
+            slot[..packet.len()].copy_from_slice(packet);
+        }
+        self.area[ring..ring + 2].copy_from_slice(&[0, WIRE_SLOTS as u8]);
+    }
 }
 
 fn command(gid: u8, oid: u8, payload: &[u8]) -> Call {
@@ -85,8 +96,18 @@ fn opening() -> Vec<Call> {
     calls
 }
 
-/// Each call by name, with the calls that lead to where it is taken.
-pub fn cases() -> Vec<(&'static str, Vec<Call>, Call)> {
+/// A call to be timed.
+pub struct Case {
+    pub name: &'static str,
+    /// The calls that lead to where it is taken.
+    before: Vec<Call>,
+    /// The packet that then fills the up wire, beside a down wire full of data.
+    filled: Option<Vec<u8>>,
+    call: Call,
+}
+
+/// Each call by name.
+pub fn cases() -> Vec<Case> {
     let long = Call::Send { conn: 2, message: vec![7; 1024] };
     let short = Call::Send { conn: 2, message: vec![7; 9] };
     let pushed = vec![short.clone(), Call::Push(2)];
@@ -95,46 +116,84 @@ pub fn cases() -> Vec<(&'static str, Vec<Call>, Call)> {
     // on a loopback every credit comes back inside a packet: a notice is of connection 0
     let owed = vec![Call::Send { conn: 0, message: vec![7; 9] }, Call::Push(0), Call::Down, Call::Consume(0)];
     let endpoint = Call::Air([vec![8], vec![7; 1024]].concat());
-    let from = |calls: Vec<Call>| [opening(), calls].concat();
-    vec![
-        ("fresh", from(vec![]), Call::Fresh(PROFILE.to_vec())),
-        ("power", from(vec![]), Call::Power),
-        ("command", from(vec![]), command(0, 4, &[1, 0])),
-        ("send, 9 octets", from(vec![]), short),
-        ("send, 1024 octets", from(vec![]), long.clone()),
-        ("push, of 9 octets", from(pushed[..1].to_vec()), Call::Push(2)),
-        ("push, of 1024 octets", from(vec![long]), Call::Push(2)),
-        ("down, data", from(pushed), Call::Down),
-        ("down, a command", from(vec![command(0, 4, &[1, 0])]), Call::Down),
-        ("consume", from(stored), Call::Consume(2)),
-        ("credit", from(owed.clone()), Call::Credit),
-        ("air, activation", opening()[..17].to_vec(), Call::Air(vec![2, 1, 4, 0])),
-        ("air, 1024 octets", from(vec![]), endpoint.clone()),
-        ("reply", from(vec![endpoint]), Call::Reply),
-        ("up, data", from(consumed.clone()), Call::Up),
-        ("up, a notice", from([owed, vec![Call::Credit]].concat()), Call::Up),
-        ("report", from(consumed), Call::Report(2)),
-        ("a refusal", from(vec![]), Call::Push(2)),
-    ]
+    let case = |name, before, call| Case { name, before, filled: None, call };
+    let from = |name, calls: Vec<Call>, call| case(name, [opening(), calls].concat(), call);
+    let mut cases = vec![
+        from("fresh", vec![], Call::Fresh(PROFILE.to_vec())),
+        from("power", vec![], Call::Power),
+        from("command", vec![], command(0, 4, &[1, 0])),
+        from("send, 9 octets", vec![], short),
+        from("send, 1024 octets", vec![], long.clone()),
+        from("push, of 9 octets", pushed[..1].to_vec(), Call::Push(2)),
+        from("push, of 1024 octets", vec![long], Call::Push(2)),
+        from("down, data", pushed, Call::Down),
+        from("down, a command", vec![command(0, 4, &[1, 0])], Call::Down),
+        from("consume", stored, Call::Consume(2)),
+        from("credit", owed.clone(), Call::Credit),
+        case("air, activation", opening()[..17].to_vec(), Call::Air(vec![2, 1, 4, 0])),
+        from("air, 1024 octets", vec![], endpoint.clone()),
+        from("reply", vec![endpoint], Call::Reply),
+        from("up, data", consumed.clone(), Call::Up),
+        from("up, a notice", [owed, vec![Call::Credit]].concat(), Call::Up),
+        from("report", consumed, Call::Report(2)),
+    ];
+    cases.extend(full_wires());
+    cases.push(from("a refusal", vec![], Call::Push(2)));
+    cases
 }
 
-/// Times one call where it stands after these calls.
-pub fn time_call(before: &[Call], call: &Call, rounds: usize) -> Times {
-    let mut octets = Octets::new();
-    let mut bench = Bench::new(&PROFILE).expect("the profile is inside its limits");
-    for call in before {
-        octets.play(call);
-        bench.play(call);
+/// A data packet of connection 2 as long as they get, with so many credits.
+fn full_data(credits: u8) -> Vec<u8> {
+    [vec![0x12, credits, 255], vec![7; 255]].concat()
+}
+
+/// Report with sixteen packets on each wire, by what is on the up wire: data that returns a
+/// credit each, RF_DISCOVER_NTF with all the parameters that it may have, CORE_INIT_RSP, and,
+/// looked into, CORE_CONN_CREDITS_NTF for all connections.
+fn full_wires() -> Vec<Case> {
+    let found = Endpoint { id: 1, protocol: 4, mode: 0, parameters: &[7; MOST_PARAMETERS] };
+    let packets = [
+        ("report, full wires of data", full_data(1)),
+        ("report, full wires of notices", layout::write_discover_ntf(&found, 2)),
+        ("report, full wires of INIT responses", layout::write_init_rsp(PROFILE[0])),
+        ("report, full wires of credit notices", layout::write_credits_ntf(&CONN_IDS.map(|conn| (conn, 1)))),
+    ];
+    let case = |(name, packet)| Case { name, before: opening(), filled: Some(packet), call: Call::Report(2) };
+    packets.into_iter().map(case).collect()
+}
+
+impl Case {
+    /// Both benches where the call is taken.
+    fn benches(&self) -> (Octets, Bench) {
+        let mut octets = Octets::new();
+        let mut bench = Bench::new(&PROFILE).expect("the profile is inside its limits");
+        for call in &self.before {
+            octets.play(call);
+            bench.play(call);
+        }
+        if let Some(packet) = &self.filled {
+            octets.fill((DOWN_AT, DOWN_RING), &full_data(0));
+            octets.fill((UP_AT, UP_RING), packet);
+            bench.down_wire = vec![full_data(0); WIRE_SLOTS].into();
+            bench.up_wire = vec![packet.clone(); WIRE_SLOTS].into();
+        }
+        let said = record::load(&octets.area).expect("the record is sound");
+        assert_eq!(record::difference(&said, &bench), None, "{}", self.name);
+        (octets, bench)
     }
-    let mut areas: Vec<Octets> = (0..COPIES).map(|_| Octets::new()).collect();
-    let mut times = Times { calls: COPIES, proved: Duration::MAX, second: Duration::MAX };
-    for _ in 0..rounds {
-        areas.iter_mut().for_each(|copy| copy.area.copy_from_slice(&octets.area));
-        times.proved = times.proved.min(time(&mut areas, |copy| copy.play(call)));
-        let mut benches: Vec<Bench> = (0..COPIES).map(|_| bench.clone()).collect();
-        times.second = times.second.min(time(&mut benches, |copy| copy.play(call)));
+
+    pub fn time(&self, rounds: usize) -> Times {
+        let (octets, bench) = self.benches();
+        let mut areas: Vec<Octets> = (0..COPIES).map(|_| Octets::new()).collect();
+        let mut times = Times { calls: COPIES, proved: Duration::MAX, second: Duration::MAX };
+        for _ in 0..rounds {
+            areas.iter_mut().for_each(|copy| copy.area.copy_from_slice(&octets.area));
+            times.proved = times.proved.min(time(&mut areas, |copy| copy.play(&self.call)));
+            let mut benches: Vec<Bench> = (0..COPIES).map(|_| bench.clone()).collect();
+            times.second = times.second.min(time(&mut benches, |copy| copy.play(&self.call)));
+        }
+        times
     }
-    times
 }
 
 /// How long it takes to do this with each of them.

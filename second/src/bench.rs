@@ -7,9 +7,9 @@ use crate::air::AirEvent;
 use crate::call::{Call, Outcome, Refusal};
 use crate::connection::{is_dynamic, place_of};
 use crate::controller::Controller;
+use crate::counts;
 use crate::host::Host;
-use crate::layout;
-use crate::packet::{self, InHand, MessageType, Reading, MOST_CONTROL_MESSAGE, MOST_DATA_MESSAGE};
+use crate::packet::{self, InHand, Reading, MOST_CONTROL_MESSAGE, MOST_DATA_MESSAGE};
 use crate::profile::{Profile, Terms, NO_FLOW_CONTROL};
 
 /// Packets that a wire holds.
@@ -281,7 +281,8 @@ impl Bench {
 
     // report
 
-    /// Looks only: a report changes nothing, taken or not.
+    /// Looks only: a report changes nothing, taken or not. Of the wires it reads what
+    /// `counts` reads.
     pub fn report(&self, conn: u8) -> Outcome {
         match self.try_report(conn) {
             Err(refusal) => Outcome::refused(refusal),
@@ -292,27 +293,14 @@ impl Bench {
     fn try_report(&self, conn: u8) -> Result<[u8; 5], Refusal> {
         check_conn(conn)?;
         let open = self.controller.connection(conn).ok_or(Refusal::NotOpen)?;
-        let going_down = octet(self.data_on_down_wire(conn));
+        let going_down = octet(counts::data_packets(&self.down_wire, conn));
         let stored = octet(open.stored());
         if !open.flow_controlled() {
             return Ok([NO_FLOW_CONTROL, going_down, stored, 0, 0]);
         }
         let held = self.host.connection(conn).map_or(0, |open| open.held());
-        Ok([held, going_down, stored, open.owed(), octet(self.credits_on_up_wire(conn))])
-    }
-
-    /// Counted from wire octets.
-    fn data_on_down_wire(&self, conn: u8) -> usize {
-        let is_of_conn = |octets: &&Vec<u8>| {
-            matches!(packet::read(octets), Reading::Packet(packet)
-                if packet.message_type == MessageType::Data && packet.id == conn)
-        };
-        self.down_wire.iter().filter(is_of_conn).count()
-    }
-
-    /// Counted from wire octets; a grant counts while its packet is unread.
-    fn credits_on_up_wire(&self, conn: u8) -> usize {
-        self.up_wire.iter().map(|octets| layout::credits_carried(octets, conn) as usize).sum()
+        let credits = octet(counts::credits(&self.up_wire, conn));
+        Ok([held, going_down, stored, open.owed(), credits])
     }
 
     // For tests: what no list of calls puts there.

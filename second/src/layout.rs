@@ -5,8 +5,8 @@
 //! known, so the host reads exactly that and anything else has no effect. The
 //! readers below answer None for such contents.
 
-use crate::connection::{is_dynamic, place_of, CONN_IDS, STATIC_RF};
-use crate::packet::{self, MessageType, Packet, Reading};
+use crate::connection::{is_dynamic, place_of, CONN_IDS};
+use crate::packet::{self, MessageType};
 use crate::profile::{Terms, LEAST_CONTROL_PAYLOAD, MOST_CREDITS};
 
 // GIDs and OIDs (003, Table 139).
@@ -181,7 +181,8 @@ fn read_init_rsp(payload: &[u8]) -> Option<Response> {
     written.then_some(Response::Init { control_payload })
 }
 
-fn read_create_rsp(payload: &[u8]) -> Option<Response> {
+/// Four octets and no other number.
+pub fn read_create_rsp(payload: &[u8]) -> Option<Response> {
     let [STATUS_OK, payload, credits, conn] = *payload else {
         return None;
     };
@@ -209,7 +210,7 @@ pub fn read_notification(gid: u8, oid: u8, payload: &[u8]) -> Option<Notificatio
 
 /// 1-5 entries at the exact length, Conn IDs ascending among 0 and 2-5, 1-8
 /// credits each.
-fn read_credits_ntf(payload: &[u8]) -> Option<Vec<(u8, u8)>> {
+pub fn read_credits_ntf(payload: &[u8]) -> Option<Vec<(u8, u8)>> {
     let (count, rest) = payload.split_first()?;
     let count = usize::from(*count);
     if !(1..=CONN_IDS.len()).contains(&count) || rest.len() != 2 * count {
@@ -222,7 +223,7 @@ fn read_credits_ntf(payload: &[u8]) -> Option<Vec<(u8, u8)>> {
     (ascending && entries.iter().all(inside)).then_some(entries)
 }
 
-fn read_activated_ntf(payload: &[u8]) -> Option<Terms> {
+pub fn read_activated_ntf(payload: &[u8]) -> Option<Terms> {
     let [id, FRAME_INTERFACE, _protocol, mode, payload, credits, count, rest @ ..] = payload else {
         return None;
     };
@@ -247,47 +248,6 @@ fn is_written_deactivation(payload: &[u8]) -> bool {
             | [DEACTIVATE_SLEEP, REASON_ENDPOINT_REQUEST]
             | [DEACTIVATE_DISCOVERY, REASON_RF_LINK_LOSS | REASON_ENDPOINT_REQUEST]
     )
-}
-
-/// Credits for `conn` that a packet on the up wire carries: those of data, entries of
-/// a credit notice and the grant of an opening (document 01, "report"). Of control
-/// packets only those with written contents count (decision on the fifth number), and
-/// the controller writes each of these in one packet.
-pub fn credits_carried(octets: &[u8], conn: u8) -> u32 {
-    let Reading::Packet(packet) = packet::read(octets) else {
-        return 0;
-    };
-    match packet.message_type {
-        MessageType::Data if packet.id == conn => u32::from(packet.credits),
-        MessageType::Response if !packet.more => granted_by_response(&packet, conn),
-        MessageType::Notification if !packet.more => carried_by_notification(&packet, conn),
-        _ => 0,
-    }
-}
-
-fn granted_by_response(packet: &Packet, conn: u8) -> u32 {
-    match read_response(packet.id, packet.oid, packet.payload) {
-        Some(Response::Created { conn: opened, terms }) if opened == conn => grant_of(terms),
-        _ => 0,
-    }
-}
-
-fn carried_by_notification(packet: &Packet, conn: u8) -> u32 {
-    match read_notification(packet.id, packet.oid, packet.payload) {
-        Some(Notification::Activated(terms)) if conn == STATIC_RF => grant_of(terms),
-        Some(Notification::Credits(entries)) => {
-            entries.iter().filter(|entry| entry.0 == conn).map(|entry| u32::from(entry.1)).sum()
-        }
-        _ => 0,
-    }
-}
-
-fn grant_of(terms: Terms) -> u32 {
-    if terms.flow_controlled() {
-        u32::from(terms.credits)
-    } else {
-        0
-    }
 }
 
 #[cfg(test)]
@@ -419,26 +379,5 @@ mod tests {
         assert_eq!(written, [(0, 0), (1, 0), (1, 1), (2, 0), (3, 0), (3, 1), (3, 2)]);
         assert!(!is_written_deactivation(&[0]));
         assert!(!is_written_deactivation(&[0, 0, 0]));
-    }
-
-    #[test]
-    fn carried_credits_are_counted_from_octets() {
-        assert_eq!(credits_carried(&[0x40, 0x04, 0x04, 0, 4, 2, 3], 3), 2);
-        assert_eq!(credits_carried(&[0x40, 0x04, 0x04, 0, 4, 2, 3], 2), 0);
-        assert_eq!(credits_carried(&[0x40, 0x04, 0x04, 0, 4, 255, 3], 3), 0);
-        assert_eq!(credits_carried(&[0x40, 0x04, 0x01, 1], 2), 0);
-        assert_eq!(credits_carried(&[0x60, 0x06, 0x05, 2, 0, 1, 5, 8], 5), 8);
-        assert_eq!(credits_carried(&[0x70, 0x06, 0x05, 2, 0, 1, 5, 8], 5), 0);
-        assert_eq!(credits_carried(&[0x60, 0x06, 0x05, 2, 0, 1, 5, 9], 0), 0);
-        for first in [0x03, 0x13] {
-            assert_eq!(credits_carried(&[first, 0x02, 0x01, 9], 3), 2);
-            assert_eq!(credits_carried(&[first, 0xFF, 0x01, 9], 3), 3);
-            assert_eq!(credits_carried(&[first, 0xFC, 0x01, 9], 3), 0);
-            assert_eq!(credits_carried(&[first, 0x02, 0x01, 9], 2), 0);
-            assert_eq!(credits_carried(&[first, 0x02, 0x01], 3), 0);
-        }
-        let endpoint = Endpoint { id: 1, protocol: 4, mode: 0, parameters: &[] };
-        assert_eq!(credits_carried(&write_activated_ntf(&endpoint, TERMS), 0), 2);
-        assert_eq!(credits_carried(&write_activated_ntf(&endpoint, TERMS), 2), 0);
     }
 }

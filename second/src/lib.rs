@@ -9,12 +9,12 @@
 //! From the bottom up: `packet` (header, segments, reassembly) and `layout`
 //! (control messages) know octets; `profile` and `connection` have the terms and
 //! IDs of connections, `air` the argument of the call air; `controller` and
-//! `host` are the two ends; `call` and `bench` join them by the twelve calls;
-//! `sheet` is the text front end. `observer` holds demand 3's account and that of
-//! messages in hand, which see calls and outcomes alone, `player` deals random lists
-//! of calls, `trial` plays them, checks each call and counts what was met, with
-//! `trial::grants` for credits past a grant, and `bad_line` makes the lines of a sheet
-//! that are no calls.
+//! `host` are the two ends; `counts` has what report counts on the wires; `call`
+//! and `bench` join the ends by the twelve calls; `sheet` is the text front end.
+//! `observer` holds demand 3's account and that of messages in hand, which see calls
+//! and outcomes alone, `player` deals random lists of calls, `trial` plays them,
+//! checks each call and counts what was met, with `trial::grants` for credits past a
+//! grant, and `bad_line` makes the lines of a sheet that are no calls.
 //!
 //! What a bench holds is public, so that a test can load one in any state.
 
@@ -24,6 +24,7 @@ pub mod bench;
 pub mod call;
 pub mod connection;
 pub mod controller;
+pub mod counts;
 pub mod host;
 pub mod layout;
 pub mod observer;

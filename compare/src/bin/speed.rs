@@ -30,8 +30,8 @@ fn main() {
             }
         }
         _ => {
-            for (name, before, call) in speed::cases() {
-                println!("{}", speed::time_call(&before, &call, ROUNDS).fields(name));
+            for case in speed::cases() {
+                println!("{}", case.time(ROUNDS).fields(case.name));
             }
             println!("{}", speed::time_paper(&paper(Lengths::Any)).fields("a mixed paper"));
         }

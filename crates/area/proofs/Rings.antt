@@ -5,7 +5,7 @@ use Prim.Native.Nat.{ℕ, zero, suc, _+_, _-_, _%_, _≤_, _<_, zero-le, suc-le-
 use native.Mathlib.Nat.{not-suc-le-zero, add-zero, add-suc, suc-add, add-comm}
 use native.Mathlib.Numerals.{add-one, add-three}
 use native.Mathlib.Omega.{arith}
-use mathlib.Core.Path.{_≡_, refl, ap, _∙_}
+use mathlib.Core.Path.{_≡_, refl, sym, ap, _∙_}
 use mathlib.Core.Logic.{_⊎_, inl, inr, ⊎-elim}
 use mathlib.Core.Bool.{Bool, true, false}
 use mathlib.Core.List.{List, [], _∷_, _++_}
@@ -40,6 +40,17 @@ module _ {A : Type 0} where
   unfolding tab
   length-tab f p zero = refl
   length-tab f p (suc n) = ap suc (length-tab f (suc p) n)
+
+-- a sum over the packets of two tables, packet by packet
+pub tab-sum : (sum : List Octets → ℕ) (one : Octets → ℕ) → ((p : Octets) (w : List Octets) → sum (p ∷ w) ≡ one p + sum w)
+    → (f g : ℕ → Octets) (p n : ℕ) → ((i : ℕ) → i < n → one (f (p + i)) ≡ one (g (p + i))) → sum (tab f p n) ≡ sum (tab g p n)
+unfolding tab
+tab-sum sum one step f g p zero h = refl
+tab-sum sum one step f g p (suc n) h =
+    step _ _
+    ∙ (λ k. rw (add-zero p) at (h zero (suc-le-suc zero-le)) k
+    + tab-sum sum one step f g (suc p) n (λ i l. rw (suc-add p i) (rw (add-suc p i) at (h (suc i) (suc-le-suc l)))) k)
+    ∙ sym (step _ _)
 
 -- ---- what a write leaves alone
 

@@ -38,3 +38,4 @@ pub mod Displaying
 pub mod Playing
 pub mod Discarding
 pub mod Profiles
+pub mod Headers

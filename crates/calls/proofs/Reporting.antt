@@ -19,8 +19,9 @@ use Rattle.record.specs.Reading.{decodeOf}
 use Rattle.record.specs.Layout.{bit}
 use Rattle.record.specs.Fit.{Fit}
 use Rattle.views.specs.View.{downOf, upOf, view}
-use Rattle.wires.specs.Tally.{dataCount, creditsUp}
-use Rattle.wires.proofs.Few.{credits-up-few, data-count-few}
+use Rattle.wires.specs.Tally.{dataCount}
+use Rattle.wires.specs.Counted.{countedUp}
+use Rattle.wires.proofs.Few.{counted-up-few, data-count-few}
 use Rattle.model.specs.Effects.{report, taken}
 use Rattle.model.specs.Refusals.{Rule, rule, first}
 use Rattle.model.specs.calls.Report.{reportOf, reportRules}
@@ -57,8 +58,8 @@ module _ (a : Octets) (r : Record) (c : ℕ) (p : Reportable r c) where
   pub down-octet : dataCount c (downOf a r) ≤ 255
   down-octet = omega (arith, data-count-few c (downOf a r), length-packets downAt wireSlots a (r .down), p .down .count)
 
-  pub up-octet : creditsUp c (upOf a r) ≤ 255
-  up-octet = omega (arith, credits-up-few c (upOf a r), length-packets upAt wireSlots a (r .up), p .up .count)
+  pub up-octet : countedUp c (upOf a r) ≤ 255
+  up-octet = omega (arith, counted-up-few c (upOf a r), length-packets upAt wireSlots a (r .up), p .up .count)
 
 -- ---- refinement
 

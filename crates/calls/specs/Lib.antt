@@ -11,3 +11,4 @@ pub mod Checked
 pub mod Played
 pub mod Discards
 pub mod Profiles
+pub mod Headers

@@ -76,6 +76,28 @@ or-other : (a b : Bool) → (a || b) ≡ true → a ≡ false → b ≡ true
 or-other true b h e = absurd (false≢true (sym e))
 or-other false b h e = h
 
+-- the tests of what opens a connection, one by one
+module _ (m : Octets) where
+  pub create-tests : createWritten m ≡ true → (i : ℕ)
+      → getD (eqb (length m) 4 ∷ eqb (getD m 0 0) 0x00 ∷ leb 1 (getD m 1 0) ∷ creditsOk (getD m 2 0) ∷ leb 2 (getD m 3 0) ∷ leb (getD m 3 0) 5 ∷ []) i true ≡ true
+  unfolding createWritten
+  create-tests w = every-at (eqb (length m) 4) (_ ∷ _ ∷ _ ∷ _ ∷ _ ∷ []) w
+
+  pub activated-tests : activatedWritten m ≡ true → (i : ℕ)
+      → getD
+      (idOk (getD m 0 0)
+      ∷ eqb (getD m 1 0) 0x01
+      ∷ (polls (getD m 3 0) || listens (getD m 3 0))
+      ∷ leb 1 (getD m 4 0)
+      ∷ creditsOk (getD m 5 0)
+      ∷ leb (getD m 6 0) 32
+      ∷ eqb (length m) (11 + getD m 6 0)
+      ∷ eqb (getD m (7 + getD m 6 0) 0) (getD m 3 0)
+      ∷ zeros m (8 + getD m 6 0) 3
+      ∷ []) i true ≡ true
+  unfolding activatedWritten
+  activated-tests w = every-at (idOk (getD m 0 0)) (_ ∷ _ ∷ _ ∷ _ ∷ _ ∷ _ ∷ _ ∷ _ ∷ []) w
+
 module _ (m : Octets) (octal : Octal m) where
   init-fits : initWritten m ≡ true → SizeFits (getD m 8 0)
   unfolding initWritten
@@ -94,11 +116,8 @@ module _ (m : Octets) (octal : Octal m) where
       record { least = leb-true leastSize (getD m 8 0) (at 4); most = octal-at octal 8 }
 
   create-fits : createWritten m ≡ true → OpensFit (getD m 3 0) (record { payload = getD m 1 0; credits = getD m 2 0 })
-  unfolding createWritten
   create-fits w =
-      let at =
-      every-at (eqb (length m) 4)
-      (eqb (getD m 0 0) 0x00 ∷ leb 1 (getD m 1 0) ∷ creditsOk (getD m 2 0) ∷ leb 2 (getD m 3 0) ∷ leb (getD m 3 0) 5 ∷ []) w in
+      let at = create-tests m w in
       record {
         least = leb-true 2 (getD m 3 0) (at 4);
         most = leb-true (getD m 3 0) 5 (at 5);
@@ -106,19 +125,8 @@ module _ (m : Octets) (octal : Octal m) where
       }
 
   activated-fits : activatedWritten m ≡ true → TermsFit (record { payload = getD m 4 0; credits = getD m 5 0 })
-  unfolding activatedWritten
   activated-fits w =
-      let at =
-      every-at (idOk (getD m 0 0))
-      (eqb (getD m 1 0) 0x01
-      ∷ (polls (getD m 3 0) || listens (getD m 3 0))
-      ∷ leb 1 (getD m 4 0)
-      ∷ creditsOk (getD m 5 0)
-      ∷ leb (getD m 6 0) 32
-      ∷ eqb (length m) (11 + getD m 6 0)
-      ∷ eqb (getD m (7 + getD m 6 0) 0) (getD m 3 0)
-      ∷ zeros m (8 + getD m 6 0) 3
-      ∷ []) w in
+      let at = activated-tests m w in
       record { least = leb-true 1 (getD m 4 0) (at 3); most = octal-at octal 4; credits-ok = at 4 }
 
   entry-fits : (i : ℕ) → entryOk m i ≡ true → EntryFits m i

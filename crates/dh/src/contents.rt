@@ -98,7 +98,7 @@ fn init_written(m: &[u8]) -> bool
 }
 
 // A CORE_CONN_CREATE_RSP that opens one of the connections 2-5.
-fn create_written(m: &[u8]) -> bool
+pub fn create_written(m: &[u8]) -> bool
     ensures { λ r. ⌜ r ≡ createWritten (now (m .entry)) ⌝ }
 {
     let status = octets::octet_at(m, 0);
@@ -177,7 +177,7 @@ fn entries_ok(m: &[u8], n: usize) -> bool
 }
 
 // A CORE_CONN_CREDITS_NTF of the bench: 1-5 entries, and no octet more.
-fn credits_written(m: &[u8]) -> bool
+pub fn credits_written(m: &[u8]) -> bool
     ensures { λ r. ⌜ r ≡ creditsWritten (now (m .entry)) ⌝ }
 {
     let n = octets::octet_at(m, 0) as usize;
@@ -213,7 +213,7 @@ fn activated_front(m: &[u8]) -> bool
 }
 
 // An RF_INTF_ACTIVATED_NTF of the bench: its mode stands twice, and it has no activation parameters.
-fn activated_written(m: &[u8]) -> bool
+pub fn activated_written(m: &[u8]) -> bool
     ensures { λ r. ⌜ r ≡ activatedWritten (now (m .entry)) ⌝ }
 {
     let mode = octets::octet_at(m, 3);

@@ -155,7 +155,7 @@ fn noticed(n: Notice, m: &[u8]) -> Heard
 }
 
 // What a host that stands alone makes of a response or a notification.
-pub fn heard_alone(p: Pending, mt: u8, gid: u8, oid: u8, m: &[u8]) -> Heard
+fn heard_alone(p: Pending, mt: u8, gid: u8, oid: u8, m: &[u8]) -> Heard
     ensures { λ r. ⌜ r ≡ heardAlone p mt gid oid (now (m .entry)) ⌝ }
 {
     if mt == packets::RESPONSE {

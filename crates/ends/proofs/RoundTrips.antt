@@ -3,7 +3,7 @@
 -- Assumes nothing.
 use Prim.Native.Nat.{ℕ, suc, _+_, _≤_}
 use mathlib.Core.Path.{_≡_, refl, sym, ap, _∙_}
-use mathlib.Core.Bool.{true, _||_}
+use mathlib.Core.Bool.{true}
 use mathlib.Core.List.{[], _∷_, _++_}
 use native.Mathlib.Omega.{arith}
 use lib.ListN.{length, getD, take, drop, length-take, length-drop, take-append-drop, drop-of-length-le}
@@ -19,10 +19,10 @@ use Rattle.ends.specs.Kinds.heard.{Nothing, Activated, Deactivated}
 use Rattle.ends.specs.Kinds.event.{Found, Poll, Listen}
 use Rattle.state.specs.Commands.{commandOf}
 use Rattle.state.specs.Radio.{polls, listens, idOk}
-use Rattle.state.specs.Profile.{creditsOk}
 use Rattle.messages.specs.Layout.{resetNtf, initRsp, createRsp, genericErrorNtf, discoverNtf, activatedNtf, deactivateNtf}
 use Rattle.dh.specs.Contents.{noticeOf, zeros, initWritten, createWritten, discoverWritten, activatedWritten, deactivateWritten, written}
 use Rattle.dh.specs.Host.{answerOf, noticed}
+use Rattle.dh.proofs.Limits.{create-tests, activated-tests}
 use Rattle.air.specs.Air.{foundIn, pollIn, listenIn, eventOf}
 use Rattle.messages.proofs.Messages.{length-discover, length-activated}
 use Rattle.state.proofs.Chains.{every-at, elements, elements-are}
@@ -81,11 +81,8 @@ create-read t id aim = refl
 
 -- the octets that are taken for written are those of the fields
 pub create-back : (m : Octets) → createWritten m ≡ true → createRsp (createTerms m) (getD m 3 0) ≡ m
-unfolding createWritten
 create-back m h =
-    let at =
-    every-at (eqb (length m) 4)
-    (eqb (getD m 0 0) 0x00 ∷ leb 1 (getD m 1 0) ∷ creditsOk (getD m 2 0) ∷ leb 2 (getD m 3 0) ∷ leb (getD m 3 0) 5 ∷ []) h in
+    let at = create-tests m h in
     let long : length m ≡ 4 = eqb-true (length m) 4 (at 0) in
     let ok : getD m 0 0 ≡ 0 = eqb-true (getD m 0 0) 0 (at 1) in
     let none : drop 4 m ≡ [] = drop-of-length-le m {i = 4} (omega arith) in
@@ -175,20 +172,10 @@ activated-heard a t params = refl
 
 pub activated-back : (m : Octets) → activatedWritten m ≡ true
     → activatedNtf (activatedTarget m) (activatedTerms m) (activatedParams m) ≡ m
-unfolding activatedWritten zeros cut
+unfolding zeros cut
 activated-back m h =
     let n = getD m 6 0 in
-    let at =
-    every-at (idOk (getD m 0 0))
-    (eqb (getD m 1 0) 0x01
-    ∷ (polls (getD m 3 0) || listens (getD m 3 0))
-    ∷ leb 1 (getD m 4 0)
-    ∷ creditsOk (getD m 5 0)
-    ∷ leb n 32
-    ∷ eqb (length m) (11 + n)
-    ∷ eqb (getD m (7 + n) 0) (getD m 3 0)
-    ∷ zeros m (8 + n) 3
-    ∷ []) h in
+    let at = activated-tests m h in
     let rest =
     every-at true
     (eqb (getD m (8 + n + 0) 0) 0x00 ∷ eqb (getD m (8 + n + 1) 0) 0x00 ∷ eqb (getD m (8 + n + 2) 0) 0x00 ∷ []) (at 8) in

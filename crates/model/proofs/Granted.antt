@@ -3,8 +3,7 @@
 use Prim.Native.Nat.{ℕ, _≤_}
 use mathlib.Core.Path.{_≡_, refl}
 use mathlib.Core.Bool.{Bool, true, false, _&&_, _||_, not}
-use mathlib.Core.List.{[], _∷_}
-use lib.Dec.{eqb, leb}
+use lib.Dec.{eqb}
 use lib.ListN.{length, getD}
 use Rattle.octets.specs.Octets.{Octets, pick}
 use Rattle.model.specs.Kinds.{Terms, Command, Notice}
@@ -12,13 +11,13 @@ use Rattle.model.specs.Kinds.command.{Reset, Init, ConnCreate, ConnClose
 use Rattle.model.specs.Kinds.notice as notice
 use Rattle.model.specs.Kinds.answer.{Done}
 use Rattle.model.specs.Kinds.heard.{Nothing, Answered}
-use Rattle.state.specs.Radio.{idOk}
 use Rattle.state.specs.Commands.{commandOf}
-use Rattle.state.proofs.Chains.{on, every-at}
+use Rattle.state.proofs.Chains.{on}
 use Rattle.state.specs.Profile.{creditsOk}
 use Rattle.state.proofs.Limits.{credits-small}
-use Rattle.dh.specs.Contents.{statusAlone, createWritten, okWritten, activatedWritten, noticeWritten, noticeOf, written}
+use Rattle.dh.specs.Contents.{statusAlone, okWritten, noticeWritten, noticeOf, written}
 use Rattle.dh.specs.Host.{heardAlone, answerOf, okAnswer, noticed, creditsFor}
+use Rattle.dh.proofs.Limits.{create-tests, activated-tests}
 use Rattle.wires.specs.Tally.{aimedAt, says}
 use Rattle.ends.specs.Changes.{Change, stays, opens, closes, gives, changeHeard}
 
@@ -36,13 +35,10 @@ module _ (m : Octets) (d : ℕ) where
   closes-octet c = on GrantsOctet (eqb c d) (λ e. tt) (λ e. tt)
 
   answer-octet : (c : Command) (aim : ℕ) → okWritten c m ≡ true → GrantsOctet (changeHeard (Answered (okAnswer c aim m)) m d)
-  unfolding createWritten
   answer-octet Reset aim h = tt
   answer-octet Init aim h = tt
   answer-octet ConnCreate aim h =
-      opens-octet (getD m 3 0) _
-      (every-at (eqb (length m) 4)
-      (eqb (getD m 0 0) 0x00 ∷ leb 1 (getD m 1 0) ∷ creditsOk (getD m 2 0) ∷ leb 2 (getD m 3 0) ∷ leb (getD m 3 0) 5 ∷ []) h 3)
+      opens-octet (getD m 3 0) _ (create-tests m h 3)
   answer-octet ConnClose aim h = closes-octet aim
   answer-octet Discover aim h = tt
   answer-octet Select aim h = tt
@@ -59,14 +55,12 @@ module _ (m : Octets) (d : ℕ) where
       go a false h = tt
 
   notice-octet : (n : Notice) → noticeWritten n m ≡ true → GrantsOctet (changeHeard (noticed n m) m d)
-  unfolding activatedWritten
   notice-octet notice.Reset h = tt
   notice-octet notice.Credits h = on GrantsOctet (eqb (creditsFor m d) 0) (λ e. tt) (λ e. tt)
   notice-octet notice.GenericError h = tt
   notice-octet notice.Discover h = tt
   notice-octet notice.Activated h =
-      opens-octet 0 _
-      (every-at (idOk (getD m 0 0)) (_ ∷ _ ∷ _ ∷ creditsOk (getD m 5 0) ∷ _ ∷ _ ∷ _ ∷ _ ∷ []) h 4)
+      opens-octet 0 _ (activated-tests m h 4)
   notice-octet notice.Deactivate h = closes-octet 0
   notice-octet notice.Unknown h = tt
 

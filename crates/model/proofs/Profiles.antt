@@ -12,7 +12,8 @@ use Rattle.air.specs.Air.{pollIn, eventOf, pollBy, airedBy, airMessage, control
 use Rattle.dh.specs.Contents.{noticeOf, zeros, initWritten, createWritten, activatedWritten, written}
 use Rattle.dh.specs.Host.{answerOf, heardAlone, hearOf, hostAfter, dropHeard}
 use Rattle.wires.specs.Meaning.{meaning}
-use Rattle.wires.specs.Tally.{dataCount, creditsUp}
+use Rattle.wires.specs.Tally.{dataCount}
+use Rattle.wires.specs.Counted.{insideOf, countedUp}
 use Rattle.model.specs.Refusals.{first}
 use Rattle.model.specs.Bench.{step}
 use Rattle.model.specs.Observer.{events}
@@ -20,7 +21,7 @@ use Rattle.model.specs.Table.{Plays}
 use Rattle.model.specs.Profiles.{Profiles}
 
 pub profiles : Profiles Plays
-unfolding cut octet0 octet1 packetOf oidOf headerOf readOf segmentsWithin segments placeOf termsOf commandOf shortest allowed resetBy after seek nextId createBy closeBy configsOk discoverBy judgeOf controllerAfter responseOf noticeMessage pollIn eventOf pollBy airedBy airMessage controllerAired noticeOf zeros initWritten createWritten activatedWritten written answerOf heardAlone hearOf hostAfter dropHeard meaning dataCount creditsUp first step events
+unfolding cut octet0 octet1 packetOf oidOf headerOf readOf segmentsWithin segments placeOf termsOf commandOf shortest allowed resetBy after seek nextId createBy closeBy configsOk discoverBy judgeOf controllerAfter responseOf noticeMessage pollIn eventOf pollBy airedBy airMessage controllerAired noticeOf zeros initWritten createWritten activatedWritten written answerOf heardAlone hearOf hostAfter dropHeard meaning dataCount insideOf countedUp first step events
 profiles =
     record {
       each = λ s. refl;

@@ -9,7 +9,8 @@ use Rattle.octets.specs.Octets.{Octets, pick}
 use Rattle.packets.specs.Reassembly.{Prefix}
 use Rattle.packets.proofs.Reassembly.{flow-prefix}
 use Rattle.state.specs.Conn.{termsOf, flows}
-use Rattle.wires.specs.Tally.{dataCount, creditsUp}
+use Rattle.wires.specs.Tally.{dataCount}
+use Rattle.wires.proofs.Same.{same-up}
 use Rattle.model.specs.Connection.{owedOn}
 use Rattle.model.specs.State.{State, cold}
 use Rattle.state.specs.Profile.{profileIn, profileOctetsOk}
@@ -126,7 +127,7 @@ module _ (c : ℕ) (s : State) (aim : ℕ) (l : ℕ → Ledger) (f : Fine s aim 
         rw g
         (λ i.
         counted-held flow refl i ∷ dataCount c (s .down) ∷ sym (stored-counted (f .good c) o) i ∷ (shown-owed ∙ counted-owed flow refl) i
-        ∷ pick flow (creditsUp c (s .up)) 0 ∷ [])
+        ∷ pick flow (same-up c (s .up) i) 0 ∷ [])
 
     none-applies : first (rules (report c) s) ≡ taken
     unfolding first

@@ -6,7 +6,7 @@ use Prim.Native.Nat.{ℕ, zero, suc, _+_, _-_, _≤_, _<_}
 use native.Mathlib.Nat.{le-of-suc-le-suc, not-suc-le-zero, zero-add, suc-add, suc-inj, suc-ne-zero, sub-zero, zero-sub, suc-sub-suc}
 use native.Mathlib.Omega.{arith}
 use lib.ListN.{length, take, drop, set, getD, length-append, length-take, length-drop, take-append-drop}
-use lib.Seq.{take-all, take-take, drop-drop, take-nil, take-add}
+use lib.Seq.{take-all, take-take, drop-drop, take-nil, take-add, getD-take, getD-drop, ext-getD}
 use Rattle.octets.specs.Octets.{Octets, cut, over, splice}
 
 -- ---- cut
@@ -19,6 +19,26 @@ length-cut at n l h = simp (length-take, length-drop) (omega arith)
 pub cut-part : (at n : ℕ) (l : Octets) → take (at + n - at) (drop at l) ≡ cut at n l
 unfolding cut
 cut-part at n l = let e : at + n - at ≡ n = omega arith in ap (λ (k : ℕ). take k (drop at l)) e
+
+-- one octet of a part
+pub octet-cut : (at n : ℕ) (l : Octets) (i : ℕ) → i < n → getD (cut at n l) i 0 ≡ getD l (at + i) 0
+unfolding cut
+octet-cut at n l i h = getD-take n (drop at l) i 0 h ∙ getD-drop at l i 0
+
+pub cut-short : (at n : ℕ) (l : Octets) → length (cut at n l) ≤ n
+unfolding cut
+cut-short at n l = simp (length-take, length-drop) (omega arith)
+
+-- of lists of one length
+pub cut-long : (at n : ℕ) (l m : Octets) → length l ≡ length m → length (cut at n l) ≡ length (cut at n m)
+unfolding cut
+cut-long at n l m e = simp (length-take, length-drop, e)
+
+-- of those that agree on its octets, the part is the same
+pub cut-agree : (at n : ℕ) (l m : Octets) → length l ≡ length m → ((i : ℕ) → i < n → getD l (at + i) 0 ≡ getD m (at + i) 0) → cut at n l ≡ cut at n m
+cut-agree at n l m e h =
+    ext-getD 0 (cut at n l) (cut at n m) (cut-long at n l m e)
+    (λ i k. let j : i < n = omega (arith, cut-short at n l) in octet-cut at n l i j ∙ h i j ∙ sym (octet-cut at n m i j))
 
 -- all that is left from index at on
 pub cut-rest : (at : ℕ) (l : Octets) → cut at (length l) l ≡ drop at l

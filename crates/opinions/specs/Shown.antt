@@ -16,7 +16,8 @@ use Rattle.air.specs.Air.{foundIn, pollIn, listenIn, eventOf, foundBy, pollBy, 
 use Rattle.dh.specs.Contents.{noticeOf, zeros, initWritten, createWritten, entriesOk, creditsWritten, discoverWritten, activatedWritten, deactivateWritten, written}
 use Rattle.dh.specs.Host.{answerOf, heardAlone, hearOf, creditsIn, namesClosed, hostAfter, dropHeard}
 use Rattle.wires.specs.Meaning.{meaning}
-use Rattle.wires.specs.Tally.{dataCount, creditsUp}
+use Rattle.wires.specs.Tally.{dataCount}
+use Rattle.wires.specs.Counted.{insideOf, countedUp}
 use Rattle.model.specs.State.{State, cold}
 use Rattle.model.specs.Effects.{Call, Result, taken, refused, Outcome}
 use Rattle.model.specs.Refusals.{first}
@@ -81,6 +82,6 @@ start = cold (profileIn profile)
 
 -- each call's line. What is named below unfolds wherever `lines` does, so that a list of calls computes.
 unfoldable pub lines : List Call → State → List Line
-unfolding cut octet0 octet1 packetOf oidOf carriedOf spareOf headerOf readOf carrying segmentsWithin segments placeOf connOf termsOf carriable listedIn addedTo commandOf shortest allowed resetBy after seek nextId createBy closeBy configsOk discoverBy deactivateBy judgeOf controllerAfter entriesFrom entryCount responseOf noticeMessage foundIn pollIn listenIn eventOf foundBy pollBy listenBy failedBy airedBy airMessage controllerAired noticeOf zeros initWritten createWritten entriesOk creditsWritten discoverWritten activatedWritten deactivateWritten written answerOf heardAlone hearOf creditsIn namesClosed hostAfter dropHeard meaning dataCount creditsUp first allZero step
+unfolding cut octet0 octet1 packetOf oidOf carriedOf spareOf headerOf readOf carrying segmentsWithin segments placeOf connOf termsOf carriable listedIn addedTo commandOf shortest allowed resetBy after seek nextId createBy closeBy configsOk discoverBy deactivateBy judgeOf controllerAfter entriesFrom entryCount responseOf noticeMessage foundIn pollIn listenIn eventOf foundBy pollBy listenBy failedBy airedBy airMessage controllerAired noticeOf zeros initWritten createWritten entriesOk creditsWritten discoverWritten activatedWritten deactivateWritten written answerOf heardAlone hearOf creditsIn namesClosed hostAfter dropHeard meaning dataCount insideOf countedUp first allZero step
 lines [] s = []
 lines (c ∷ cs) s = lineOf (step c s) ∷ lines cs (step c s .effect .next)

@@ -8,7 +8,7 @@ use mathlib.Core.Path.{_≡_, refl, sym, ap, _∙_, subst}
 use mathlib.Core.Bool.{Bool, true, false}
 use mathlib.Core.List.{[], _∷_, _++_}
 use lib.ListN.{length, getD, drop, set}
-use lib.Dec.{eqb}
+use lib.Dec.{eqb, ltb, leb}
 use borrow.Author.Tests.{le-leb, lt-leb, lt-ltb, le-ltb}
 use Rattle.octets.specs.Octets.{Octets, pick, cut, splice, over}
 use Rattle.octets.specs.Octal.{Octal, octal-cons}
@@ -61,6 +61,19 @@ module _ (p : Octets) where
       → readOf p ≡ Packet (headerOf (getD p 0 0) (getD p 1 0)) (getD p 2 0)
   unfolding readOf
   read-whole h i j = simp (le-ltb _ _ h, lt-leb _ _ i, le-ltb _ _ j)
+
+-- a packet is read by its length and the three octets of its header
+pub read-same : (p q : Octets) → length p ≡ length q → ((i : ℕ) → i < 3 → getD p i 0 ≡ getD q i 0) → readOf p ≡ readOf q
+unfolding readOf
+read-same p q l o =
+    let o0 = o 0 (omega arith) in
+    let o1 = o 1 (omega arith) in
+    let o2 = o 2 (omega arith) in
+    λ i.
+    pick (ltb (l i) 3) Drop
+    (pick (leb 4 (o0 i / 32)) Drop
+    (pick (ltb (l i - 3) (o2 i)) Drop
+    (Packet (headerOf (o0 i) (o1 i)) (o2 i))))
 
 -- what is known of a packet that was read
 pub record Whole (p : Octets) (h : Header) (n : ℕ) : Type 0 where

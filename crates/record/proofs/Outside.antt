@@ -1,13 +1,12 @@
 -- Octets outside the record and the record itself leave each other alone.
 -- Assumes nothing.
 use Prim.Native.Nat.{ℕ, _+_, _≤_, _<_}
-use mathlib.Core.Path.{_≡_, ap, _∙_}
+use mathlib.Core.Path.{_≡_, ap}
 use mathlib.Core.Bool.{_&&_}
 use native.Mathlib.Omega.{arith}
-use lib.ListN.{length, getD, drop}
-use lib.Seq.{getD-take, getD-drop}
+use lib.ListN.{length, getD}
 use Rattle.octets.specs.Octets.{Octets, cut, splice}
-use Rattle.octets.proofs.Octets.{length-splice, cut-before, cut-after}
+use Rattle.octets.proofs.Octets.{octet-cut, length-splice, cut-before, cut-after}
 use Rattle.record.specs.Kinds.{Record}
 use Rattle.record.specs.Layout.{slot, recordEnd}
 use Rattle.area.specs.Map.{recordAt, recordRoom}
@@ -18,8 +17,18 @@ use Rattle.record.specs.Claims.{stored}
 use Rattle.record.proofs.Writing.{length-encode}
 
 pub slot-octet : (area : Octets) (k : ℕ) → k < recordRoom → getD (slot area) k 0 ≡ getD area (recordAt + k) 0
-unfolding slot cut
-slot-octet area k h = getD-take recordRoom (drop recordAt area) k 0 h ∙ getD-drop recordAt area k 0
+unfolding slot
+slot-octet area k h = octet-cut recordAt recordRoom area k h
+
+-- the record and its judgement go by its own octets
+module _ (a b : Octets) (same : slot a ≡ slot b) where
+  pub record-by-slot : decodeOf a ≡ decodeOf b
+  unfolding decodeOf
+  record-by-slot = ap recordOf same
+
+  pub judged-by-slot : judgeOf a ≡ judgeOf b
+  unfolding judgeOf
+  judged-by-slot = λ i. tagsOk (same i) && recordOk (record-by-slot i)
 
 -- ---- writing the record
 
@@ -43,9 +52,7 @@ module _ (area : Octets) (i : ℕ) (v : Octets) (before : i + length v ≤ recor
   same-slot = cut-after area i v recordAt recordRoom before
 
   pub same-record : decodeOf (splice area i v) ≡ decodeOf area
-  unfolding decodeOf
-  same-record = ap recordOf same-slot
+  same-record = record-by-slot (splice area i v) area same-slot
 
   pub same-judgement : judgeOf (splice area i v) ≡ judgeOf area
-  unfolding judgeOf
-  same-judgement = λ i. tagsOk (same-slot i) && recordOk (same-record i)
+  same-judgement = judged-by-slot (splice area i v) area same-slot

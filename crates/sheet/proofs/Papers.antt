@@ -13,7 +13,8 @@ use Rattle.dh.specs.Contents.{noticeOf, zeros, initWritten, createWritten, entr
 use Rattle.dh.specs.Host.{answerOf, heardAlone, hearOf, creditsIn, namesClosed, hostAfter, dropHeard}
 use Rattle.record.specs.Layout.{bit}
 use Rattle.wires.specs.Meaning.{meaning}
-use Rattle.wires.specs.Tally.{dataCount, creditsUp}
+use Rattle.wires.specs.Tally.{dataCount}
+use Rattle.wires.specs.Counted.{insideOf, countedUp}
 use Rattle.model.specs.State.{cold}
 use Rattle.model.specs.Refusals.{first}
 use Rattle.model.specs.calls.Credit.{allZero}
@@ -32,7 +33,7 @@ unfolding threeLines threeAnswers modelled asks argsOf formed among joined digit
 three-lines = refl
 
 first-paper : modelled firstPaper (cold (profileIn firstProfile)) ≡ firstAnswers
-unfolding firstPaper firstAnswers modelled asks argsOf formed among joined digitOf valueOf hexOf allDigits isHex octetsIn decimalOf sameAs startsWith upTo bit cut octet0 octet1 packetOf oidOf carriedOf spareOf headerOf readOf carrying segmentsWithin segments placeOf connOf termsOf carriable commandOf shortest allowed resetBy after seek nextId createBy judgeOf controllerAfter entriesFrom entryCount responseOf noticeMessage noticeOf zeros initWritten createWritten entriesOk creditsWritten written answerOf heardAlone hearOf creditsIn namesClosed hostAfter dropHeard meaning dataCount creditsUp first allZero step
+unfolding firstPaper firstAnswers modelled asks argsOf formed among joined digitOf valueOf hexOf allDigits isHex octetsIn decimalOf sameAs startsWith upTo bit cut octet0 octet1 packetOf oidOf carriedOf spareOf headerOf readOf carrying segmentsWithin segments placeOf connOf termsOf carriable commandOf shortest allowed resetBy after seek nextId createBy judgeOf controllerAfter entriesFrom entryCount responseOf noticeMessage noticeOf zeros initWritten createWritten entriesOk creditsWritten written answerOf heardAlone hearOf creditsIn namesClosed hostAfter dropHeard meaning dataCount insideOf countedUp first allZero step
 first-paper = refl
 
 pub first-papers : FirstPapers

@@ -13,7 +13,8 @@ use Rattle.area.specs.Map.{slotSize, wireSlots}
 use Rattle.area.specs.Ring.{slotAt, trim, slotPacket, tab, packetsFrom}
 use Rattle.area.proofs.Rings.{packets-snoc}
 use Rattle.wires.specs.Meaning.{meaning}
-use Rattle.wires.specs.Tally.{isDataFor, dataCount, creditsOn, creditsUp}
+use Rattle.wires.specs.Tally.{isDataFor, dataCount}
+use Rattle.wires.specs.Counted.{countedOn, countedUp}
 use Rattle.wires.proofs.Slots.{first-slot}
 
 -- ---- slotPacket
@@ -54,23 +55,23 @@ module _ (c : ℕ) where
   data-count-turn base a p n acc one e f =
       (λ i. e i + (f ∙ ap (dataOne c) (part-packet base a ((p + n) % wireSlots))) i) ∙ sym (data-count-more base a p n)
 
--- ---- creditsUp
+-- ---- countedUp
 
 module _ (c : ℕ) where
-  credits-up-snoc : (w : List Octets) (p : Octets) → creditsUp c (w ++ (p ∷ [])) ≡ creditsUp c w + creditsOn c p
-  unfolding creditsUp
-  credits-up-snoc [] p = omega arith
-  credits-up-snoc (q ∷ w) p = ap (λ (n : ℕ). creditsOn c q + n) (credits-up-snoc w p) ∙ sym (add-assoc _ _ _)
+  counted-up-snoc : (w : List Octets) (p : Octets) → countedUp c (w ++ (p ∷ [])) ≡ countedUp c w + countedOn c p
+  unfolding countedUp
+  counted-up-snoc [] p = omega arith
+  counted-up-snoc (q ∷ w) p = ap (λ (n : ℕ). countedOn c q + n) (counted-up-snoc w p) ∙ sym (add-assoc _ _ _)
 
-  pub credits-up-first : (base : ℕ) (a : Octets) (p : ℕ) → 0 ≡ creditsUp c (packetsFrom base wireSlots a p 0)
-  unfolding packetsFrom tab creditsUp
-  credits-up-first base a p = refl
+  pub counted-up-first : (base : ℕ) (a : Octets) (p : ℕ) → 0 ≡ countedUp c (packetsFrom base wireSlots a p 0)
+  unfolding packetsFrom tab countedUp
+  counted-up-first base a p = refl
 
-  pub credits-up-more : (base : ℕ) (a : Octets) (p n : ℕ)
-      → creditsUp c (packetsFrom base wireSlots a p (n + 1)) ≡ creditsUp c (packetsFrom base wireSlots a p n) + creditsOn c (slotPacket base a ((p + n) % wireSlots))
-  credits-up-more base a p n = ap (creditsUp c) (packets-snoc base wireSlots a p n) ∙ credits-up-snoc _ _
+  pub counted-up-more : (base : ℕ) (a : Octets) (p n : ℕ)
+      → countedUp c (packetsFrom base wireSlots a p (n + 1)) ≡ countedUp c (packetsFrom base wireSlots a p n) + countedOn c (slotPacket base a ((p + n) % wireSlots))
+  counted-up-more base a p n = ap (countedUp c) (packets-snoc base wireSlots a p n) ∙ counted-up-snoc _ _
 
-  pub credits-up-turn : (base : ℕ) (a : Octets) (p n acc more : ℕ) → acc ≡ creditsUp c (packetsFrom base wireSlots a p n)
-      → more ≡ creditsOn c (trim (slotPart base a ((p + n) % wireSlots))) → acc + more ≡ creditsUp c (packetsFrom base wireSlots a p (n + 1))
-  credits-up-turn base a p n acc more e f =
-      (λ i. e i + (f ∙ ap (λ (q : Octets). creditsOn c q) (part-packet base a ((p + n) % wireSlots))) i) ∙ sym (credits-up-more base a p n)
+  pub counted-up-turn : (base : ℕ) (a : Octets) (p n acc more : ℕ) → acc ≡ countedUp c (packetsFrom base wireSlots a p n)
+      → more ≡ countedOn c (trim (slotPart base a ((p + n) % wireSlots))) → acc + more ≡ countedUp c (packetsFrom base wireSlots a p (n + 1))
+  counted-up-turn base a p n acc more e f =
+      (λ i. e i + (f ∙ ap (λ (q : Octets). countedOn c q) (part-packet base a ((p + n) % wireSlots))) i) ∙ sym (counted-up-more base a p n)

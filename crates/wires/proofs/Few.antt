@@ -5,34 +5,27 @@ use Prim.Native.Nat.{ℕ, zero, suc, _+_, _*_, _-_, _≤_, _<_}
 use native.Mathlib.Omega.{arith}
 use mathlib.Core.Path.{_≡_, refl, sym, _∙_, subst}
 use mathlib.Core.Logic.{_⊎_, inl, inr}
-use mathlib.Core.Bool.{Bool, true, false, _&&_, _||_, not, false≢true}
+use mathlib.Core.Bool.{Bool, true, false, _||_, not, false≢true}
 use mathlib.Core.List.{List, [], _∷_}
 use lib.Dec.{eqb, ltb, leb}
 use lib.ListN.{length, getD}
 use borrow.Author.Tests.{eqb-true, ltb-true, leb-true, eq-eqb}
 use Rattle.octets.specs.Octets.{Octets, pick}
-use Rattle.packets.specs.declared.Header.{Header}
 use Rattle.packets.specs.declared.Reading.{Reading}
 use Rattle.packets.specs.declared.Reading.the-variants.{Packet, Drop}
 use Rattle.packets.specs.Packet.{readOf, payloadOf}
-use Rattle.packets.specs.Segments.{Segment, more, last, segment}
 use Rattle.packets.proofs.Packet.{read-ranged}
-use Rattle.state.specs.declared.commands.Command.{Command}
-use Rattle.state.specs.declared.commands.Command.the-variants.{Reset, Init, ConnCreate, ConnClose, Discover, Select, Deactivate, Unknown}
 use Rattle.state.specs.Conn.{placeOf, metered}
 use Rattle.state.specs.Profile.{creditsOk}
-use Rattle.state.specs.Radio.{idOk}
-use Rattle.state.specs.Commands.{commandOf}
 use Rattle.state.proofs.Chains.{on, every-at}
 use Rattle.state.proofs.Limits.{credits-few}
-use Rattle.dh.specs.declared.contents.Notice.{Notice}
-use Rattle.dh.specs.declared.contents.Notice.the-variants as notice
-use Rattle.dh.specs.declared.host.Answer.the-variants.{Done}
-use Rattle.dh.specs.declared.host.Heard.the-variants.{Nothing, Answered}
-use Rattle.dh.specs.Contents.{noticeOf, entryId, entryCredits, entriesOk, creditsWritten, createWritten, activatedWritten, noticeWritten, statusAlone, okWritten, written}
-use Rattle.dh.specs.Host.{okAnswer, answerOf, noticed, heardAlone, creditsIn, creditsFor}
-use Rattle.wires.specs.Meaning.{datum, control, meant, meaningIn, meaning}
-use Rattle.wires.specs.Tally.{aimedAt, says, creditsSaid, creditsMeant, creditsOn, creditsUp, dataCount}
+use Rattle.dh.specs.Contents.{entryId, entryCredits, entriesOk, creditsWritten, createWritten, activatedWritten}
+use Rattle.dh.specs.Host.{creditsIn, creditsFor}
+use Rattle.dh.proofs.Limits.{create-tests, activated-tests}
+use Rattle.wires.specs.declared.up.Inside.{Inside}
+use Rattle.wires.specs.declared.up.Inside.the-variants.{CreditsNtf, CreateRsp, ActivatedNtf, Other}
+use Rattle.wires.specs.Tally.{dataCount}
+use Rattle.wires.specs.Counted.{insideOf, creditsInside, countedIn, countedOn, countedUp}
 use Rattle.wires.proofs.Counting.{data-one-small}
 
 -- ---- a grant
@@ -79,7 +72,7 @@ module _ (m : Octets) (c : ℕ) where
       go few (inr above) (inr some) true e = let same = eqb-true (entryId m n) c e in absurd (omega (arith, some .2))
       go few (inr above) (inr some) false e = inr (omega (arith, some .0), omega arith, omega (arith, some .2))
 
-  notice-few : creditsWritten m ≡ true → creditsFor m c ≤ 8
+  pub notice-few : creditsWritten m ≡ true → creditsFor m c ≤ 8
   unfolding creditsWritten Once
   notice-few e = go (once (getD m 0 0) (every-at (leb 1 (getD m 0 0)) (_ ∷ _ ∷ entriesOk m (getD m 0 0) ∷ []) e 3))
     where
@@ -87,88 +80,40 @@ module _ (m : Octets) (c : ℕ) where
       go (inl none) = omega arith
       go (inr some) = some .0
 
-  -- ---- a message
+  -- ---- what is inside
 
   opens-few : (d n : ℕ) → creditsOk n ≡ true → pick (eqb d c) (metered n) 0 ≤ 8
   opens-few d n h = on (λ (k : ℕ). k ≤ 8) (eqb d c) (λ e. metered-few n h) (λ e. omega arith)
 
-  answer-few : (x : Command) → okWritten x m ≡ true → creditsSaid c m (Answered (okAnswer x 0 m)) ≤ 8
-  unfolding createWritten
-  answer-few Reset h = omega arith
-  answer-few Init h = omega arith
-  answer-few ConnCreate h =
-      opens-few (getD m 3 0) (getD m 2 0)
-      (every-at (eqb (length m) 4)
-      (eqb (getD m 0 0) 0x00 ∷ leb 1 (getD m 1 0) ∷ creditsOk (getD m 2 0) ∷ leb 2 (getD m 3 0) ∷ leb (getD m 3 0) 5 ∷ []) h 3)
-  answer-few ConnClose h = omega arith
-  answer-few Discover h = omega arith
-  answer-few Select h = omega arith
-  answer-few Deactivate h = omega arith
-  answer-few Unknown h = omega arith
+  create-few : createWritten m ≡ true → pick (eqb (getD m 3 0) c) (metered (getD m 2 0)) 0 ≤ 8
+  create-few h = opens-few (getD m 3 0) (getD m 2 0) (create-tests m h 3)
 
-  response-few : (x : Command) → (statusAlone m || okWritten x m) ≡ true → creditsSaid c m (Answered (answerOf x 0 m)) ≤ 8
-  unfolding answerOf
-  response-few x = go (eqb (length m) 1) (eqb (getD m 0 0) 0x00)
-    where
-      go : (a b : Bool) → ((a && not b) || okWritten x m) ≡ true → creditsSaid c m (Answered (pick b (okAnswer x 0 m) Done)) ≤ 8
-      go true true h = answer-few x h
-      go false true h = answer-few x h
-      go a false h = omega arith
+  activated-few : activatedWritten m ≡ true → pick (eqb 0 c) (metered (getD m 5 0)) 0 ≤ 8
+  activated-few h = opens-few 0 (getD m 5 0) (activated-tests m h 4)
 
-  noticed-few : (n : Notice) → noticeWritten n m ≡ true → creditsSaid c m (noticed n m) ≤ 8
-  unfolding activatedWritten
-  noticed-few notice.Reset h = omega arith
-  noticed-few notice.Credits h = notice-few h
-  noticed-few notice.GenericError h = omega arith
-  noticed-few notice.Discover h = omega arith
-  noticed-few notice.Activated h =
-      opens-few 0 (getD m 5 0) (every-at (idOk (getD m 0 0)) (_ ∷ _ ∷ _ ∷ creditsOk (getD m 5 0) ∷ _ ∷ _ ∷ _ ∷ _ ∷ []) h 4)
-  noticed-few notice.Deactivate h = omega arith
-  noticed-few notice.Unknown h = omega arith
-
-  says-few : (mt gid oid : ℕ) → creditsSaid c m (says 0 mt gid oid m) ≤ 8
-  unfolding written heardAlone
-  says-few mt gid oid = go (written mt gid oid m) refl
-    where
-      alone : (b : Bool) → pick b (statusAlone m || okWritten (commandOf gid oid) m) (noticeWritten (noticeOf gid oid) m) ≡ true
-          → creditsSaid c m (pick b (Answered (answerOf (commandOf gid oid) 0 m)) (noticed (noticeOf gid oid) m)) ≤ 8
-      alone true h = response-few (commandOf gid oid) h
-      alone false h = noticed-few (noticeOf gid oid) h
-
-      go : (b : Bool) → written mt gid oid m ≡ b → creditsSaid c m (pick b (heardAlone (aimedAt 0) mt gid oid m) Nothing) ≤ 8
-      go true e = alone (eqb mt 2) e
-      go false e = omega arith
+  inside-few : (x : Inside) → creditsInside c m x ≤ 8
+  inside-few CreditsNtf = on (λ (k : ℕ). k ≤ 8) (creditsWritten m) notice-few (λ e. omega arith)
+  inside-few CreateRsp = on (λ (k : ℕ). k ≤ 8) (createWritten m) create-few (λ e. omega arith)
+  inside-few ActivatedNtf = on (λ (k : ℕ). k ≤ 8) (activatedWritten m) activated-few (λ e. omega arith)
+  inside-few Other = omega arith
 
 -- ---- a packet, and a wire
 
-control-few : (c mt gid oid : ℕ) (x : Segment) → creditsMeant c (control mt gid oid x) ≤ 8
-control-few c mt gid oid (more b) = omega arith
-control-few c mt gid oid (last m) = go (eqb mt 1)
-  where
-    go : (b : Bool) → creditsSaid c m (pick b Nothing (says 0 mt gid oid m)) ≤ 8
-    go true = omega arith
-    go false = says-few m c mt gid oid
-
 -- the field of a data packet holds at most 3
-meant-few : (c : ℕ) (h : Header) (x : Segment) → h .credits < 4 → creditsMeant c (meant h x) ≤ 8
-meant-few c h x few = go (eqb (h .mt) 0)
-  where
-    go : (b : Bool) → creditsMeant c (pick b (datum (h .id) (h .credits) x) (control (h .mt) (h .id) (h .oid) x)) ≤ 8
-    go true = on (λ (k : ℕ). k ≤ 8) (eqb (h .id) c) (λ e. omega arith) (λ e. omega arith)
-    go false = control-few c (h .mt) (h .id) (h .oid) x
-
-packet-few : (c : ℕ) (p : Octets) → creditsOn c p ≤ 8
-unfolding meaning
+packet-few : (c : ℕ) (p : Octets) → countedOn c p ≤ 8
 packet-few c p = go (readOf p) refl
   where
-    go : (r : Reading) → readOf p ≡ r → creditsMeant c (meaningIn p r) ≤ 8
-    go (Packet h n) e = meant-few c h (segment (h .pbf) (payloadOf p n)) (read-ranged p h n e .credits)
+    go : (r : Reading) → readOf p ≡ r → countedIn c p r ≤ 8
+    go (Packet h n) e =
+        on (λ (k : ℕ). k ≤ 8) (eqb (h .mt) 0)
+        (λ z. on (λ (k : ℕ). k ≤ 8) (eqb (h .id) c) (λ y. omega (arith, read-ranged p h n e .credits)) (λ y. omega arith))
+        (λ z. inside-few (payloadOf p n) c (insideOf h n))
     go Drop e = omega arith
 
-pub credits-up-few : (c : ℕ) (w : List Octets) → creditsUp c w ≤ 8 * length w
-unfolding creditsUp
-credits-up-few c [] = omega arith
-credits-up-few c (p ∷ w) = omega (arith, packet-few c p, credits-up-few c w)
+pub counted-up-few : (c : ℕ) (w : List Octets) → countedUp c w ≤ 8 * length w
+unfolding countedUp
+counted-up-few c [] = omega arith
+counted-up-few c (p ∷ w) = omega (arith, packet-few c p, counted-up-few c w)
 
 pub data-count-few : (c : ℕ) (w : List Octets) → dataCount c w ≤ length w
 unfolding dataCount

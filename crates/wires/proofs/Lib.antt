@@ -2,5 +2,6 @@
 -- Assumes nothing.
 pub mod Slots
 pub mod Counting
-pub mod Saying
+pub mod Counted
+pub mod Same
 pub mod Few

@@ -1,14 +1,12 @@
-// Credits on the up wire: what the packets of a ring have for a connection, inside data, in credit notices and in the grants of
-// what opens it.
+// Credits on the up wire: what the packets of a ring have for a connection. The header of each is read, and three messages are
+// looked into: what other packets have as payload, nobody asks.
 use area::map;
 use dh::contents;
 use dh::host;
-use dh::host::Answer;
-use dh::host::Heard;
+use octets::choose;
+use packets::Header;
 use packets::Reading;
 use state::conn;
-use state::kinds::Asked;
-use state::kinds::Pending;
 ghost use mathlib.Core.Path.{_≡_};
 ghost use Prim.Native.Nat.{_+_, _≤_, _<_};
 ghost use lib.ListN.{length};
@@ -17,22 +15,43 @@ ghost use Rattle.octets.specs.Octets.{pick};
 ghost use Rattle.area.specs.Map.{wireSlots, wireSize};
 ghost use Rattle.area.specs.Ring.{trim, packetsFrom};
 ghost use Rattle.state.specs.Conn.{metered};
-ghost use Rattle.dh.specs.Host.{creditsFor};
-ghost use Rattle.wires.specs.Tally.{says, creditsSaid, creditsOn, creditsUp};
+ghost use Rattle.wires.specs.Counted.{isNamed, insideOf, creditsInside, countedOn, countedUp};
 
-// What a whole control message says; contents that are never written here say nothing. Which connection a CONN_CLOSE named
-// makes no difference to credits.
-fn said(mt: u8, gid: u8, oid: u8, m: &[u8]) -> Heard
-    ensures { λ r. ⌜ r ≡ says 0 mt gid oid (now (m .entry)) ⌝ }
+// What has credits inside: a CORE_CONN_CREDITS_NTF, an RF_INTF_ACTIVATED_NTF, the CORE_CONN_CREATE_RSP that opens a connection.
+pub enum Inside {
+    CreditsNtf,
+    ActivatedNtf,
+    CreateRsp,
+    Other,
+}
+
+// Whether it is a packet of the control message with this MT, GID and OID.
+fn is_named(h: Header, mt: u8, gid: u8, oid: u8) -> bool
+    ensures { λ r. ⌜ r ≡ isNamed h mt gid oid ⌝ }
 {
-    let close = Pending::Command(Asked {
-        gid: 0,
-        oid: 5,
-        aim: 0,
-    });
-    let x = host::heard_alone(close, mt, gid, oid, m);
-    let ours = contents::written(mt, gid, oid, m);
-    if ours { x } else { Heard::Nothing }
+    (h.mt == mt) & (h.id == gid) & (h.oid == oid)
+}
+
+// What a packet with this header has inside, which states n octets of payload.
+fn inside_of(h: Header, n: usize) -> Inside
+    ensures { λ r. ⌜ r ≡ insideOf h n ⌝ }
+{
+    if h.pbf {
+        return Inside::Other;
+    }
+    let credits = is_named(h, packets::NOTIFICATION, 0, 6);
+    if credits {
+        return Inside::CreditsNtf;
+    }
+    let activated = is_named(h, packets::NOTIFICATION, 1, 5);
+    if activated {
+        return Inside::ActivatedNtf;
+    }
+    let created = is_named(h, packets::RESPONSE, 0, 4);
+    if created & (n == 4) {
+        return Inside::CreateRsp;
+    }
+    Inside::Other
 }
 
 // The credits that an opening of connection id has for the connection: the grant, which counts as nothing without flow control.
@@ -46,31 +65,48 @@ fn granted(id: u8, credits: u8, conn: u8) -> u8
     }
 }
 
-// The credits that a response has for the connection.
-fn answer_credits(a: Answer, m: &[u8], conn: u8) -> u8
-    ensures { λ r. ⌜ r ≡ creditsSaid conn (now (m .entry)) (Heard.Answered a) ⌝ }
+// The credits of a credit notice for the connection.
+fn notice_credits(m: &[u8], conn: u8) -> u8
+    ensures { λ r. ⌜ r ≡ creditsInside conn (now (m .entry)) Inside.CreditsNtf ⌝ }
 {
-    match a {
-        Answer::Done => 0,
-        Answer::ClosesAll => 0,
-        Answer::Sized(_) => 0,
-        Answer::Opens(id, t) => granted(id, t.credits, conn),
-        Answer::Closes(_) => 0,
+    let ours = contents::credits_written(m);
+    if ours {
+        host::credits_for(m, conn) as u8
+    } else {
+        0
     }
 }
 
-// The credits that a heard message has for the connection. Those of a notice must fit an octet; all that are written here do.
-fn said_credits(x: Heard, m: &[u8], conn: u8) -> u8
-    requires { ⌜ (x ≡ Heard.Credits → creditsFor (now m) conn ≤ 255) ⌝ }
-    ensures { λ r. ⌜ r ≡ creditsSaid conn (now (m .entry)) x ⌝ }
+// The grant of an activation, where the connection is 0.
+fn activated_credits(m: &[u8], conn: u8) -> u8
+    ensures { λ r. ⌜ r ≡ creditsInside conn (now (m .entry)) Inside.ActivatedNtf ⌝ }
+{
+    let activates = contents::activated_written(m);
+    let credits = octets::octet_at(m, 5);
+    let grant = granted(0, credits, conn);
+    choose(activates, grant, 0)
+}
+
+// The grant of a create response, where it opens the connection.
+fn create_credits(m: &[u8], conn: u8) -> u8
+    ensures { λ r. ⌜ r ≡ creditsInside conn (now (m .entry)) Inside.CreateRsp ⌝ }
+{
+    let opens = contents::create_written(m);
+    let credits = octets::octet_at(m, 2);
+    let id = octets::octet_at(m, 3);
+    let grant = granted(id, credits, conn);
+    choose(opens, grant, 0)
+}
+
+// The credits inside a message for the connection.
+fn inside_credits(x: Inside, m: &[u8], conn: u8) -> u8
+    ensures { λ r. ⌜ r ≡ creditsInside conn (now (m .entry)) x ⌝ }
 {
     match x {
-        Heard::Nothing => 0,
-        Heard::Dropped => 0,
-        Heard::Answered(a) => answer_credits(a, m, conn),
-        Heard::Activated(t) => granted(0, t.credits, conn),
-        Heard::Deactivated => 0,
-        Heard::Credits => host::credits_for(m, conn) as u8,
+        Inside::CreditsNtf => notice_credits(m, conn),
+        Inside::ActivatedNtf => activated_credits(m, conn),
+        Inside::CreateRsp => create_credits(m, conn),
+        Inside::Other => 0,
     }
 }
 
@@ -81,9 +117,9 @@ fn carried(id: u8, n: u8, conn: u8) -> u8
     if id == conn { n } else { 0 }
 }
 
-// The credits for the connection in the packet that a slot starts with: data, or a whole response or notification.
+// The credits for the connection in the packet that a slot starts with.
 pub fn credits_on(slot: &[u8], conn: u8) -> u8
-    ensures { λ r. ⌜ r ≡ creditsOn conn (trim (now (slot .entry))) ⌝ }
+    ensures { λ r. ⌜ r ≡ countedOn conn (trim (now (slot .entry))) ⌝ }
 {
     let got = packets::read(slot);
     let Reading::Packet(h, n) = got else {
@@ -92,18 +128,15 @@ pub fn credits_on(slot: &[u8], conn: u8) -> u8
     if h.mt == packets::DATA {
         return carried(h.id, h.credits, conn);
     }
-    if h.pbf | (h.mt == packets::COMMAND) {
-        return 0;
-    }
+    let x = inside_of(h, n);
     let m = packets::payload(slot, n);
-    let x = said(h.mt, h.id, h.oid, m);
-    said_credits(x, m, conn)
+    inside_credits(x, m, conn)
 }
 
 // Credits for the connection, over the count packets from slot head on in the ring at base.
 pub fn credits_up(area: &[u8], base: usize, head: usize, count: usize, conn: u8) -> usize
     requires { ⌜ (head < wireSlots) × (count ≤ wireSlots) × (base + wireSize ≤ length (now area)) ⌝ }
-    ensures { λ r. ⌜ r ≡ creditsUp conn (packetsFrom base wireSlots (now (area .entry)) head count) ⌝ }
+    ensures { λ r. ⌜ r ≡ countedUp conn (packetsFrom base wireSlots (now (area .entry)) head count) ⌝ }
 {
     let mut sum: usize = 0;
     let mut i: usize = 0;

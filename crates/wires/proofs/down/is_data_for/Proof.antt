@@ -2,7 +2,7 @@
 -- Assumes nothing.
 use mathlib.Core.Path.{sym, _∙_}
 use Rattle.wires.proofs.Slots.{meaning-junk, meaning-packet}
-use Rattle.wires.proofs.Saying.{data-meant}
+use Rattle.wires.proofs.Counted.{data-meant}
 use borrow.Author.Needs.{needs}
 use Rattle.wires.proofs.down.is_data_for.Statement.{statement}
 use Rattle.wires.proofs.down.is_data_for.Tie as tie

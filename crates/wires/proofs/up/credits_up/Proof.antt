@@ -5,19 +5,19 @@ use mathlib.Core.Path.{_≡_, ap, _∙_}
 use native.Mathlib.Omega.{arith}
 use borrow.Author.Needs.{needs}
 use Rattle.area.specs.Ring.{packetsFrom}
-use Rattle.wires.specs.Tally.{creditsUp}
-use Rattle.wires.proofs.Counting.{credits-up-first, credits-up-turn}
+use Rattle.wires.specs.Counted.{countedUp}
+use Rattle.wires.proofs.Counting.{counted-up-first, counted-up-turn}
 use Rattle.wires.proofs.up.credits_up.Statement.{statement}
 use Rattle.wires.proofs.up.credits_up.Tie as tie
 
 abbrev Inv-loop : tie.InvT-loop
-Inv-loop area base head count conn sum₀ i₀ sum i = (i ≤ count) × (sum ≤ 255 * i) × (sum ≡ creditsUp conn (packetsFrom base 16 area head i))
+Inv-loop area base head count conn sum₀ i₀ sum i = (i ≤ count) × (sum ≤ 255 * i) × (sum ≡ countedUp conn (packetsFrom base 16 area head i))
 
 abbrev μ-loop : tie.MeasureT-loop
 μ-loop area base head count conn sum₀ i₀ sum i = count - i
 
 loop-holds : tie.Need-loop-holds Inv-loop μ-loop
-loop-holds c = (search needs, search needs, credits-up-first _ _ _ _)
+loop-holds c = (search needs, search needs, counted-up-first _ _ _ _)
 
 add-at : tie.Need-add-at Inv-loop μ-loop
 add-at c = search needs
@@ -58,14 +58,14 @@ loop-less c = search needs
 loop-again : tie.Need-loop-again Inv-loop μ-loop
 loop-again c =
     let l = c .before .before .before .loop in
-    (search needs, search needs, credits-up-turn _ _ _ _ (l .i) _ _ (l .inv .2) (c .credits-on .ensures))
+    (search needs, search needs, counted-up-turn _ _ _ _ (l .i) _ _ (l .inv .2) (c .credits-on .ensures))
 
 returns : tie.Need-returns Inv-loop μ-loop
 returns c =
     let l = c .before in
     let b = l .before .before .args in
     let all : l .loop .i ≡ b .count = omega arith in
-    l .loop .inv .2 ∙ ap (λ (k : ℕ). creditsUp (b .conn) (packetsFrom (b .base) 16 (b .area .now) (b .head) k)) all
+    l .loop .inv .2 ∙ ap (λ (k : ℕ). countedUp (b .conn) (packetsFrom (b .base) 16 (b .area .now) (b .head) k)) all
 
 pub credits-up-spec : {M : Type 1} → statement M
 credits-up-spec =
