@@ -33,7 +33,7 @@ use Rattle.record.proofs.Outside.{record-by-slot, judged-by-slot}
 use Rattle.views.specs.View.{downOf, upOf, view, viewOf}
 use Rattle.model.specs.Connection.{owedOn}
 use Rattle.model.specs.Effects.{Result, taken, refused}
-use Rattle.model.specs.Refusals.{Rule, rule, first, noConn}
+use Rattle.model.specs.Refusals.{rule, first, noConn}
 use Rattle.model.specs.calls.Report.{fiveOf, reportOf, reportRules}
 use Rattle.calls.specs.Outcome.{outcome, decided, entryRules, called}
 use Rattle.calls.specs.calls.Report.{reportedWord, reportCall}

@@ -45,7 +45,7 @@ use Rattle.model.specs.Bench.{rules, act}
 use Rattle.model.specs.Observer.{Ledger}
 use Rattle.model.specs.Reachable.{Always, RunWithin, Sizes}
 use Rattle.model.specs.invariant.Bench.{Fine, SoundIn, StoredIn}
-use Rattle.model.proofs.Cases.{clash, each}
+use Rattle.model.proofs.Cases.{clash}
 use Rattle.model.proofs.Needs.{need}
 use Rattle.model.proofs.Link.{held-le, owed-le}
 use Rattle.air.proofs.Taken.{Within, event-within, aired-steady}

@@ -12,7 +12,6 @@ use Rattle.octets.specs.Octets.{Octets}
 use Rattle.state.specs.Commands.{aimIn}
 use Rattle.packets.specs.Segments.{Segment, more, last}
 use Rattle.model.specs.Kinds.{Profile, Verdict}
-use Rattle.model.specs.Kinds.verdict as verdict
 use Rattle.state.specs.Runs.{controlLimit}
 use Rattle.state.specs.Profile.{ProfileWithin}
 use Rattle.nfcc.specs.Controller.{judgeOf}

@@ -4,7 +4,7 @@
 use Prim.Native.Nat.{ℕ, zero, suc}
 use mathlib.Core.List.{List, [], _∷_, _++_}
 use Rattle.octets.specs.Octets.{Octets}
-use Rattle.model.specs.Effects.{command, send, push, down, consume, up}
+use Rattle.model.specs.Effects.{command, send, push, down, consume}
 use Rattle.model.specs.Observer.{Event}
 use Rattle.model.specs.Table.{shows, goesDown, goesUp, quietly, refusal, readyWith, opened}
 

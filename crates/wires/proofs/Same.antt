@@ -18,7 +18,6 @@ use Rattle.packets.specs.Segments.{segment}
 use Rattle.packets.proofs.Packet.{read-facts, read-ranged}
 use Rattle.state.specs.declared.commands.Command.{Command}
 use Rattle.state.specs.declared.commands.Command.the-variants as command
-use Rattle.state.specs.Conn.{metered}
 use Rattle.state.specs.Commands.{commandOf}
 use Rattle.state.proofs.Chains.{on}
 use Rattle.dh.specs.declared.contents.Notice.{Notice}
@@ -119,13 +118,6 @@ module _ (c : ℕ) (m : Octets) where
   unfolding answerOf
   created n l = go (createWritten m) refl
     where
-      grant : ℕ
-      grant = pick (eqb (getD m 3 0) c) (metered (getD m 2 0)) 0
-
-      unwritten : (b : Bool) → creditsInside c m (pick b CreateRsp Other) ≡ pick b (pick (createWritten m) grant 0) 0
-      unwritten true = refl
-      unwritten false = refl
-
       alone : (one ok : Bool) → 0 ≡ creditsSaid c m (pick ((one && not ok) || false) (Answered (pick ok (okAnswer command.ConnCreate 0 m) Done)) Nothing)
       alone true true = refl
       alone true false = refl
@@ -135,9 +127,9 @@ module _ (c : ℕ) (m : Octets) where
           ≡ creditsSaid c m (pick (statusAlone m || createWritten m) (Answered (pick (eqb (getD m 0 0) 0x00) (okAnswer command.ConnCreate 0 m) Done)) Nothing)
       go true w =
           let four : length m ≡ 4 = eqb-true (length m) 4 (create-tests m w 0) in
-          unwritten (eqb n 4) ∙ rw (eq-eqb n 4 (sym l ∙ four), w, create-tests m w 1, four) refl
+          rw (eq-eqb n 4 (sym l ∙ four), w, create-tests m w 1, four) refl
       go false w =
-          unwritten (eqb n 4) ∙ (λ i. pick (eqb n 4) (pick (w i) grant 0) 0) ∙ on (λ (k : ℕ). k ≡ 0) (eqb n 4) (λ e. refl) (λ e. refl)
+          on (λ (x : Inside). creditsInside c m x ≡ 0) (eqb n 4) (λ _. rw w refl) (λ _. refl)
           ∙ rw w (alone (eqb (length m) 1) (eqb (getD m 0 0) 0x00))
 
   response-same : (x : Command) (n : ℕ) → length m ≡ n → creditsInside c m (insideResponse x n)
