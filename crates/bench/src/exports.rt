@@ -3,6 +3,7 @@ use crate::entry::enter;
 use bench_calls::fresh;
 use bench_calls::packet;
 use bench_calls::power;
+use bench_calls::read;
 use bench_calls::report;
 use consume_call::consume;
 use controller_calls::airing;
@@ -28,6 +29,7 @@ ghost use Rattle.calls.specs.calls.Up.{upCall};
 ghost use Rattle.calls.specs.calls.Air.{airCall};
 ghost use Rattle.calls.specs.calls.Report.{reportCall};
 ghost use Rattle.calls.specs.Packet.{packetCall};
+ghost use Rattle.calls.specs.Read.{readCall};
 
 // A new bench with a profile of five octets or eleven.
 #[no_mangle]
@@ -258,4 +260,13 @@ pub extern "C" fn nci_packet(area: &[u8], out: &mut [u8], wire: u8, back: u8) ->
         return n as u64;
     }
     packet::act(area, out, r, wire, back)
+}
+
+// Octets that are read as a packet going up, and nothing else, for front ends that show reserved bits. It is none of the twelve
+// calls.
+#[no_mangle]
+pub extern "C" fn nci_read(octets: &[u8]) -> u64
+    ensures { λ w. ⌜ w ≡ readCall (now (octets .entry)) ⌝ }
+{
+    read::read(octets)
 }

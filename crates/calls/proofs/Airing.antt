@@ -169,6 +169,7 @@ module _ (a out : Octets) (r : Record) (m : Octets) (s : Sound a r) (small : Sma
           small = octets-small;
           short = omega arith;
           drop = refl;
+          rfu = refl;
           message = refl;
           next = next-view (speaks m) refl;
           toDown = added-none (q .down) (r .down) (view a r .down) down;

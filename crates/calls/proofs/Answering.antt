@@ -179,6 +179,7 @@ module _ (a out : Octets) (t : Record) (s : Sound a t) (small : Small t) (o : Oc
         small = next-small;
         short = omega arith;
         drop = refl;
+        rfu = refl;
         message = refl;
         next = next-view;
         toDown = added-none (q .down) (t .down) (effect .next .down) fd;

@@ -167,6 +167,7 @@ module _ (a out : Octets) (t : Record) (s : Sound a t) (small : Small t) (o : Oc
           small = after-small;
           short = omega arith;
           drop = asked-flag;
+          rfu = refl;
           message = refl;
           next = asked-view;
           toDown = added-none (q .down) (t .down) (askedState .down) fd;

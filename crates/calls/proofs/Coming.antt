@@ -6,32 +6,36 @@ use mathlib.Core.Path.{_≡_, refl, sym, ap, _∙_, subst}
 use mathlib.Core.Bool.{Bool, true, false}
 use lib.ListN.{length}
 use lib.Dec.{eqb}
-use Rattle.octets.specs.Octets.{Octets, pick}
+use Rattle.octets.specs.Octets.{Octets, pick, cut}
 use Rattle.octets.specs.Octal.{Octal}
+use Rattle.octets.proofs.Octal.{octal-cut}
 use Rattle.packets.specs.Segments.{Segment}
+use Rattle.packets.proofs.Reserved.{rfu-octet}
 use Rattle.calls.specs.Kinds.{Header, Reading, Record}
 use Rattle.calls.specs.Kinds.reading.{Packet, Drop}
+use Rattle.calls.specs.Kinds.way as way
 use Rattle.state.specs.Conn.{heldOpen}
 use Rattle.state.proofs.Conns.{held-place}
-use Rattle.area.specs.Map.{messageSize}
+use Rattle.area.specs.Map.{messageSize, slotSize}
 use Rattle.record.specs.Reading.{decodeOf}
 use Rattle.record.specs.Small.{Small}
 use Rattle.record.proofs.Small.{small-decode}
 use Rattle.wires.specs.Meaning.{Meaning, datum, control, meant, meaning}
 use Rattle.views.specs.View.{view}
 use Rattle.views.specs.Moves.{Sound}
-use Rattle.model.specs.Effects.{Effect, up, taken, flaggedAs}
+use Rattle.model.specs.Effects.{Effect, up, taken, flaggedAs, telling}
 use Rattle.model.specs.Refusals.{first}
 use Rattle.model.specs.calls.Up.{receiving, heard, coming}
 use Rattle.calls.specs.Outcome.{Outcome}
 use Rattle.calls.specs.Seen.{Puts}
 use Rattle.calls.specs.Refines.{Good, Follows, Along, RefinesTo, Refines}
 use Rattle.calls.specs.calls.Push.{hostSide}
-use Rattle.calls.specs.calls.Up.{upRead, upRecord, droppedUp, received, receivedUp, heardUp, comingUp, readUp, upped, upCall, Uppable}
+use Rattle.calls.specs.calls.Up.{upSlot, upRead, upRecord, droppedUp, received, receivedUp, heardUp, comingUp, readUp, upped, upCall, Uppable}
 use Rattle.calls.proofs.Called.{sound-area}
 use Rattle.calls.proofs.Refining.{called-refines}
 use Rattle.calls.proofs.Quiet.{quiet-refines}
-use Rattle.calls.proofs.Upping.{upPacket, packet-read, packet-dropped, up-acts, upSegment, up-tests, up-facts, up-small, took-sound}
+use Rattle.calls.proofs.Taken.{tells-refines}
+use Rattle.calls.proofs.Upping.{upPacket, packet-read, packet-dropped, packet-rfu, up-acts, upSegment, up-tests, up-facts, up-small, took-sound}
 use Rattle.calls.proofs.Receiving.{receivedBy, received-refines}
 use Rattle.calls.proofs.Controlling.{heard-refines}
 
@@ -50,7 +54,7 @@ module _ (a out : Octets) (r : Record) (s : Sound a r) (small : Small r) (o : Oc
   drops =
       let ts = took-sound a r s in
       quiet-refines a took (ts .room) (ts .fit) (ts .shape) o
-      (up-small r (r .ends) (small .own) (small .conns)) up refl q fd follows true false 0 out (flaggedAs true (view a took)) (omega arith) refl refl refl refl refl
+      (up-small r (r .ends) (small .own) (small .conns)) up refl q fd follows true false 0 out (flaggedAs true (view a took)) (omega arith) refl refl refl refl refl refl
 
   -- ---- a packet
 
@@ -97,5 +101,7 @@ up-refines q a out g room al =
     called-refines up (upped r a out) q a out g room al refl
     (λ t.
     let p : Uppable r = up-facts r (s .fit) (s .shape) (ap first (sym (up-tests a r)) ∙ t) in
-    subst (λ (f : Effect). RefinesTo up q (upped r a out) (record { answer = taken; effect = f })) (sym (up-acts a r s (p .some)))
-    (read-does a out r s (small-decode a (g .octal)) (g .octal) p room q (al .down) (al .up) (upRead r a) refl))
+    subst (λ (f : Effect). RefinesTo up q (upped r a out) (record { answer = taken; effect = f }))
+    (sym (up-acts a r s (p .some) ∙ (λ i. telling (packet-rfu a r i) (coming (meaning (upPacket a r)) (view a (upRecord r (r .ends)))))))
+    (tells-refines up q _ _ _ (rfu-octet way.Up (cut (upSlot r) slotSize a) (octal-cut (upSlot r) slotSize (g .octal)))
+    (read-does a out r s (small-decode a (g .octal)) (g .octal) p room q (al .down) (al .up) (upRead r a) refl)))

@@ -137,6 +137,7 @@ module _ (a out : Octets) (r : Record) (gid oid : ℕ) (m : Octets) (s : Sound a
         small = command-small r gid oid m p small;
         short = omega arith;
         drop = refl;
+        rfu = refl;
         message = refl;
         next = moves a (between r gid oid m p) between-sound .puts-down (controlHeader 1 gid oid) (r .ends .host .size) m least most (p .free);
         toDown =

@@ -206,6 +206,7 @@ module _ (a out : Octets) (r : Record) (c : ℕ) (s : Sound a r) (small : Small 
           small = consume-small r c p (s .shape) (j .next) small;
           short = on (λ (n : ℕ). n < 65536) (j .done) (λ d. omega (arith, k .few d)) (λ _. omega arith);
           drop = k .dropped;
+          rfu = refl;
           message = handed-seen (j .done) (cut (base a r c s p) len b) out len message-long (λ d. omega (arith, k .few d, room)) ∙ k .message;
           next = next-view;
           toDown = added-none (q .down) (r .down) (view a r .down) down;

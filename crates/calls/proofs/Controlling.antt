@@ -135,7 +135,7 @@ module _ (a : Octets) (r : Record) (s : Sound a r) (small : Small r) (o : Octal 
         (up-fit r (joinedEnds r h n) (s .fit) joined-own (s .fit .conns))
         (up-shape r (joinedEnds r h n) (s .shape .pairs) (s .shape .conns)) octal
         (up-small r (joinedEnds r h n) joined-octal (small .conns)) up refl q fd fu
-        (heardJoin r h n .dropped) false 0 out (effectOf []) (omega arith) (heard-flag a r s h n e) refl refl refl joined-is
+        (heardJoin r h n .dropped) false 0 out (effectOf []) (omega arith) (heard-flag a r s h n e) refl refl refl refl joined-is
 
     -- it makes a message whole
     hears : heardJoin r h n .done ≡ true
@@ -148,7 +148,7 @@ module _ (a : Octets) (r : Record) (s : Sound a r) (small : Small r) (o : Octal 
         (up-fit r (endsHeard k m y) (s .fit) (heard-own k five m y fits joined-own joined-octal) (heard-fits k five m y fits (small .conns) (s .fit .conns)))
         (up-shape r (endsHeard k m y) (s .shape .pairs) (length-heard (r .ends .conns) m y ∙ five)) octal
         (up-small r (endsHeard k m y) (heard-octal k five m y fits joined-own joined-octal) (heard-small k five m y fits (small .conns))) up refl q fd fu
-        (heededUp r h n a .dropped) false 0 out (understanding y m joinedState) (omega arith) refl refl refl refl heard-is
+        (heededUp r h n a .dropped) false 0 out (understanding y m joinedState) (omega arith) refl refl refl refl refl heard-is
 
     pub heard-refines : RefinesTo up q (heardUp r h n a out) (record { answer = taken; effect = heard (h .mt) (h .id) (h .oid) x (view a took) })
     unfolding heardEnds heardDrop

@@ -217,6 +217,7 @@ module _ (a out : Octets) (r : Record) (s : Sound a r) (small : Small r) (p : Cr
         small = credit-small r p (s .shape) small;
         short = omega arith;
         drop = refl;
+        rfu = refl;
         message = refl;
         next = next-view;
         toDown = added-none (q .down) (r .down) (view a r .down) down;

@@ -12,13 +12,15 @@ use Rattle.octets.specs.Octets.{Octets, pick, cut}
 use Rattle.octets.specs.Octal.{Octal}
 use Rattle.octets.proofs.Octets.{length-splice}
 use Rattle.octets.proofs.Octal.{octal-cut, octal-splice}
-use Rattle.packets.specs.Packet.{payloadOf}
+use Rattle.packets.specs.Packet.{readOf, payloadOf}
+use Rattle.packets.specs.Reserved.{rfuBy}
 use Rattle.packets.specs.Segments.{Segment, segment}
 use Rattle.packets.proofs.Packet.{read-ranged}
+use Rattle.packets.proofs.Reserved.{rfu-octet}
 use Rattle.calls.specs.Kinds.{Header, Reading, Counts, Record}
 use Rattle.calls.specs.Kinds.reading.{Packet, Drop}
+use Rattle.calls.specs.Kinds.way as way
 use Rattle.state.specs.Conn.{placeOf, countsOf, openAt}
-use Rattle.state.proofs.Chains.{on}
 use Rattle.state.proofs.Conns.{open-place}
 use Rattle.area.specs.Map.{messageSize, slotSize, wireSlots, storeSlots, places, downAt, storeAt}
 use Rattle.area.specs.Ring.{slotPacket, trim, freeAt, putInto}
@@ -36,12 +38,12 @@ use Rattle.views.specs.Moves.{Sound}
 use Rattle.views.proofs.Whole.{moves}
 use Rattle.views.proofs.Tests.{packets-nil, up-full}
 use Rattle.wires.specs.Meaning.{Meaning, datum, control, junk, meant, meaning}
-use Rattle.wires.proofs.Slots.{first-slot, meaning-junk, meaning-packet}
+use Rattle.wires.proofs.Slots.{first-slot, read-trim, meaning-junk, meaning-packet}
 use Rattle.model.specs.Connection as connection
 use Rattle.model.specs.State as bench
-use Rattle.model.specs.Effects.{Effect, down, taken, quiet, flaggedAs}
+use Rattle.model.specs.Effects.{Effect, down, taken, quiet, flaggedAs, telling}
 use Rattle.model.specs.Refusals.{Rule, rule, first, isNil, full}
-use Rattle.model.specs.calls.Down.{needsTwo, tooTight, storeFull, firstFull, asked, storing, arriving, taking, downRules}
+use Rattle.model.specs.calls.Down.{needsTwo, tooTight, storeFull, firstFull, asked, storing, arriving, downRules}
 use Rattle.model.specs.Bench.{act}
 use Rattle.model.proofs.Order.{need}
 use Rattle.calls.specs.Outcome.{Outcome, lowest}
@@ -50,7 +52,7 @@ use Rattle.calls.specs.Refines.{Good, Follows, Along, RefinesTo, Refines
 use Rattle.calls.specs.calls.Down.{downSlot, downRead, tookDown, downDropped, controllerSide, storedRecord, storedSlot, dataStored, dataDown, commandDown, arrived, downed, downCall, Arrivable, Downable}
 use Rattle.calls.proofs.Called.{sound-area}
 use Rattle.calls.proofs.Refining.{called-refines}
-use Rattle.calls.proofs.Taken.{added-none, took-refines}
+use Rattle.calls.proofs.Taken.{added-none, took-refines, tells-refines}
 use Rattle.calls.proofs.Asking.{does-command}
 
 -- ---- the rules on numbers, by what the reader finds in the first slot
@@ -84,6 +86,9 @@ module _ (a : Octets) (r : Record) where
 
   pub packet-dropped : downRead r a ≡ Drop → meaning packet ≡ junk
   packet-dropped e = ap meaning (first-slot downAt a (r .down .head)) ∙ meaning-junk (cut (downSlot r) slotSize a) e
+
+  pub packet-rfu : rfuBy way.Down (readOf packet) ≡ rfuBy way.Down (downRead r a)
+  packet-rfu = ap (λ (p : Octets). rfuBy way.Down (readOf p)) (first-slot downAt a (r .down .head)) ∙ ap (rfuBy way.Down) (read-trim (cut (downSlot r) slotSize a))
 
 -- ---- its tests
 
@@ -256,6 +261,7 @@ module _ (a out : Octets) (t : Record) (s : Sound a t) (small : Small t) (o : Oc
         small = stored-small;
         short = omega arith;
         drop = refl;
+        rfu = refl;
         message = refl;
         next = moves a t s .put-store c slot place room free;
         toDown = added-none (q .down) (t .down) (downOf a t) fd;
@@ -284,8 +290,8 @@ module _ (a out : Octets) (r : Record) (s : Sound a r) (small : Small r) (o : Oc
   Does y e = RefinesTo down q y (record { answer = taken; effect = e })
 
   -- the model takes the packet off the wire
-  acts : act down (view a r) ≡ arriving (meaning (packet a r)) (packet a r) (view a t)
-  acts = let e = moves a r s .took-down (d .some) in λ i. taking (e i .down) (e i)
+  acts : act down (view a r) ≡ telling (rfuBy way.Down (readOf (packet a r))) (arriving (meaning (packet a r)) (packet a r) (view a t))
+  acts = ap (act down) (moves a r s .took-down (d .some))
 
   drops : Does (downDropped t a out) (flaggedAs true (view a t))
   drops =
@@ -298,6 +304,7 @@ module _ (a out : Octets) (r : Record) (s : Sound a r) (small : Small r) (o : Oc
         small = tsmall;
         short = omega arith;
         drop = refl;
+        rfu = refl;
         message = refl;
         next = refl;
         toDown = added-none (q .down) (t .down) (downOf a t) td;
@@ -359,7 +366,10 @@ module _ (a out : Octets) (r : Record) (s : Sound a r) (small : Small r) (o : Oc
   does-down Drop e = subst (λ (z : Meaning). Does (downDropped t a out) (arriving z (packet a r) (view a t))) (sym (packet-dropped a r e)) drops
 
   pub down-done : Does (downed r a out) (act down (view a r))
-  down-done = subst (λ (e : Effect). Does (downed r a out) e) (sym acts) (does-down (downRead r a) refl)
+  down-done =
+      subst (λ (e : Effect). Does (downed r a out) e)
+      (sym (acts ∙ (λ i. telling (packet-rfu a r i) (arriving (meaning (packet a r)) (packet a r) (view a t)))))
+      (tells-refines down q _ _ _ (rfu-octet way.Down (cut (downSlot r) slotSize a) (octal-cut (downSlot r) slotSize o)) (does-down (downRead r a) refl))
 
 -- a down on octets is the model's down
 pub down-refines : (q : Puts) (a out : Octets) → Good a → messageSize ≤ length out → Along q a → Refines down q a (downCall a out)

@@ -1,6 +1,8 @@
 pub mod Rules
 pub mod Called
 pub mod Words
+pub mod Read
+pub mod Reserved
 pub mod Refining
 pub mod Taken
 pub mod Handed

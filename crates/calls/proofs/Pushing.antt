@@ -2,7 +2,7 @@
 -- Assumes nothing.
 use Prim.Native.Nat.{ℕ, _+_, _≤_, _<_}
 use mathlib.Core.Path.{_≡_, refl, sym, ap, _∙_, subst}
-use mathlib.Core.Bool.{false, not, _&&_}
+use mathlib.Core.Bool.{not, _&&_}
 use mathlib.Core.List.{List, [], _∷_, _++_}
 use native.Mathlib.Omega.{arith}
 use lib.ListN.{length, length-set}
@@ -224,6 +224,7 @@ module _ (a out : Octets) (r : Record) (c : ℕ) (s : Sound a r) (small : Small 
         small = push-small r c p (s .shape) small;
         short = omega arith;
         drop = refl;
+        rfu = refl;
         message = refl;
         next = next-view;
         toDown = added-one (q .down) (r .down) (downOf a r) (pushedPacket r c a) down;

@@ -23,10 +23,10 @@ use Rattle.calls.proofs.Taken.{Added, added-none, took-refines}
 -- the record after the call, and the octets into which it is written
 module _ (x : Octets) (r : Record) (long : areaSize ≤ length x) (fit : Fit r) (shape : Shape r) (octal : Octal x) (small : Small r) where
   pub quiet-refines : (c : Call) → starts c ≡ false → (q : Puts) → Follows (q .down) (r .down) → Follows (q .up) (r .up)
-      → (d h : Bool) (len : ℕ) (out : Octets) (e : Effect) → len < 65536 → d ≡ e .drop → [] ≡ e .toDown → [] ≡ e .toUp
+      → (d h : Bool) (len : ℕ) (out : Octets) (e : Effect) → len < 65536 → d ≡ e .drop → 0 ≡ e .rfu → [] ≡ e .toDown → [] ≡ e .toUp
       → pick h (cut 0 len out ∷ []) [] ≡ e .message → view x r ≡ e .next
       → RefinesTo c q (outcome (wordOf d h len 0 0) (stored x r) out) (record { answer = taken; effect = e })
-  quiet-refines c goes-on q down up d h len out e few dr td tu ms nx =
+  quiet-refines c goes-on q down up d h len out e few dr rf td tu ms nx =
       took-refines c q x out r d h len 0 0 e
       (record {
         long = long;
@@ -36,6 +36,7 @@ module _ (x : Octets) (r : Record) (long : areaSize ≤ length x) (fit : Fit r) 
         small = small;
         short = few;
         drop = dr;
+        rfu = rf;
         message = ms;
         next = nx;
         toDown = subst (Added (q .down) 0 (r .down) (e .next .down)) td (added-none (q .down) (r .down) (e .next .down) down);

@@ -50,6 +50,7 @@ abbrev pub receivedBy : ℕ → ℕ → Segment → bench.State → Effect
 receivedBy c n x s =
     record {
       drop = flagged messageSize (s .conns c .host .run) x;
+      rfu = 0;
       toDown = [];
       toUp = [];
       message = finished messageSize (s .conns c .host .run) x;
@@ -206,5 +207,5 @@ module _ (a : Octets) (r : Record) (s : Sound a r) (h : Header) (n : ℕ) (e : u
       subst (λ (b : Bool). RefinesTo up q (received r h n a out) (record { answer = taken; effect = pick b does (flaggedAs true (view a took)) })) (sym opened)
       (quiet-refines (receivedArea r h n a) (upRecord r (receivedEnds r h n)) long fit shape
       (octal-run messageSize base a before (upPayload r n a) o (octal-cut 3 n (octal-cut (upSlot r) slotSize o))) (small-after small) up refl q fd fu
-      (receivedJoin r h n .dropped) (receivedJoin r h n .done) size (receivedOut r h n a out) does (omega (arith, size-few)) dropped-is refl refl
+      (receivedJoin r h n .dropped) (receivedJoin r h n .done) size (receivedOut r h n a out) does (omega (arith, size-few)) dropped-is refl refl refl
       (out-is out room) next-is)

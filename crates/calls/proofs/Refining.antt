@@ -29,7 +29,7 @@ use Rattle.model.specs.Effects.{Call, Result, taken, refused}
 use Rattle.model.specs.Refusals.{first}
 use Rattle.model.specs.Bench.{rules, judged, step}
 use Rattle.model.specs.Grants.{WithinGrants}
-use Rattle.calls.specs.Word.{answerIn, droppedIn, handedIn, lengthIn, downIn, upIn}
+use Rattle.calls.specs.Word.{answerIn, droppedIn, handedIn, lengthIn, downIn, upIn, rfuIn}
 use Rattle.calls.specs.Outcome.{Outcome, outcome, decided, called}
 use Rattle.calls.specs.Seen.{Puts, noPuts, restarts, putsAfter}
 use Rattle.calls.specs.Refines.{Good, Follows, Along, RefinesTo, Refines}
@@ -67,6 +67,10 @@ module _ (n : ℕ) (s : small n ≡ true) where
   refusal-up : upIn n ≡ 0
   unfolding upIn
   refusal-up = omega (arith, below)
+
+  refusal-rfu : rfuIn n ≡ 0
+  unfolding rfuIn
+  refusal-rfu = omega (arith, below)
 
 -- ---- an area in which the record n was written last
 
@@ -135,6 +139,7 @@ module _ (c : Call) (o : Outcome) (p : Puts) (a out : Octets) (g : Good a) (room
               call = c;
               answer = ans i;
               dropped = refusal-dropped n s i;
+              rfu = refusal-rfu n s i;
               toDown = packetsFrom downAt wireSlots a (p .down) (dn i);
               toUp = packetsFrom upAt wireSlots a (p .up) (un i);
               message = pick (refusal-handed n s i) (cut 0 (lengthIn n) out ∷ []) [];

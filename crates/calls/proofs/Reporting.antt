@@ -27,7 +27,7 @@ use Rattle.model.specs.Refusals.{Rule, rule, first}
 use Rattle.model.specs.calls.Report.{reportOf, reportRules}
 use Rattle.model.specs.Bench.{judged}
 use Rattle.model.proofs.Order.{need}
-use Rattle.calls.specs.Word.{wordOf, answerIn, droppedIn, handedIn, lengthIn, downIn, upIn}
+use Rattle.calls.specs.Word.{wordOf, answerIn, droppedIn, handedIn, lengthIn, downIn, upIn, rfuIn}
 use Rattle.calls.specs.Outcome.{lowest}
 use Rattle.calls.specs.Seen.{Puts}
 use Rattle.calls.specs.Refines.{Good, Along, RefinesTo, Refines}
@@ -65,11 +65,11 @@ module _ (a : Octets) (r : Record) (c : ℕ) (p : Reportable r c) where
 
 report-done : (c : ℕ) (q : Puts) (a out : Octets) → Good a → Along q a → cut 0 5 (splice out 0 (reportOf c (view a (decodeOf a)))) ≡ reportOf c (view a (decodeOf a))
     → RefinesTo (report c) q (reported (decodeOf a) c a out) (judged taken (report c) (view a (decodeOf a)))
-unfolding wordOf bit answerIn droppedIn handedIn lengthIn downIn upIn packetsFrom tab
+unfolding wordOf bit answerIn droppedIn handedIn lengthIn downIn upIn rfuIn packetsFrom tab
 report-done c q a out g al e =
     record {
       good = λ _. g;
-      event = λ i. record { call = report c; answer = taken; dropped = false; toDown = []; toUp = []; message = e i ∷ [] };
+      event = λ i. record { call = report c; answer = taken; dropped = false; rfu = 0; toDown = []; toUp = []; message = e i ∷ [] };
       next = refl;
       along = record { down = omega (arith, al .down); up = omega (arith, al .up) };
       there = record { down = omega arith; up = omega arith };

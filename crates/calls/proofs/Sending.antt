@@ -109,6 +109,7 @@ module _ (a out : Octets) (r : Record) (c : ℕ) (m : Octets) (s : Sound a r) (s
         small = send-small r c m p (s .shape) small;
         short = omega arith;
         drop = refl;
+        rfu = refl;
         message = refl;
         next = moves a r s .put-hand c m (p .place) (p .short);
         toDown = added-none (q .down) (r .down) (downOf a r) down;

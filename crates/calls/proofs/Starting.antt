@@ -35,7 +35,7 @@ use Rattle.model.specs.Effects.{fresh, power, Result, taken, refused}
 use Rattle.model.specs.Refusals.{first}
 use Rattle.model.specs.Bench.{rules, judged}
 use Rattle.model.specs.Grants.{WithinGrants}
-use Rattle.calls.specs.Word.{wordOf, answerIn, droppedIn, handedIn, lengthIn, downIn, upIn}
+use Rattle.calls.specs.Word.{wordOf, answerIn, droppedIn, handedIn, lengthIn, downIn, upIn, rfuIn}
 use Rattle.calls.specs.Outcome.{outcome, decided, lowest}
 use Rattle.calls.specs.Seen.{Puts, noPuts}
 use Rattle.calls.specs.Refines.{Good, Follows, Along, RefinesTo, Refines}
@@ -174,7 +174,7 @@ module _ (a m : Octets) (long : areaSize ≤ length a) (o : Octal a) (ok : profi
   fresh-along out = cold-along (profileIn m) (profile-limits m ok) cleared cleared-long cleared-octal
 
   pub fresh-done : (p : Puts) (out : Octets) → RefinesTo (fresh m) p (freshed m a out) (judged taken (fresh m) (viewOf a))
-  unfolding wordOf bit answerIn droppedIn handedIn lengthIn downIn upIn packetsFrom tab
+  unfolding wordOf bit answerIn droppedIn handedIn lengthIn downIn upIn rfuIn packetsFrom tab
   fresh-done p out = record { good = λ _. fresh-good out; event = refl; next = fresh-view out; along = fresh-along out; there = record { down = omega arith; up = omega arith } }
 
 pub fresh-refines : (m : Octets) (p : Puts) (a out : Octets) → Good a → messageSize ≤ length out → Along p a → Refines (fresh m) p a (freshCall a out m)
@@ -194,7 +194,7 @@ module _ (a out : Octets) (g : Good a) where
   profile-kept = sound-area a (g .long) (g .judged) .fit .own .profile
 
   power-done : (p : Puts) → RefinesTo power p (powered (decodeOf a) a out) (judged taken power (viewOf a))
-  unfolding wordOf bit answerIn droppedIn handedIn lengthIn downIn upIn packetsFrom tab
+  unfolding wordOf bit answerIn droppedIn handedIn lengthIn downIn upIn rfuIn packetsFrom tab
   power-done p =
       let x = decodeOf a .ends .profile in
       record {

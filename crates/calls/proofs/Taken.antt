@@ -21,13 +21,14 @@ use Rattle.record.proofs.Stored.{stored-record}
 use Rattle.views.specs.View.{view, viewOf}
 use Rattle.views.proofs.Stored.{stored-view}
 use Rattle.model.specs.State.{State}
-use Rattle.model.specs.Effects.{Call, Effect, taken}
+use Rattle.model.specs.Effects.{Call, Effect, taken, telling}
 use Rattle.model.specs.Grants.{WithinGrants}
-use Rattle.calls.specs.Word.{wordOf}
-use Rattle.calls.specs.Outcome.{outcome}
-use Rattle.calls.specs.Seen.{Puts, starts}
+use Rattle.model.specs.Observer.{Event}
+use Rattle.calls.specs.Word.{wordOf, wordTelling}
+use Rattle.calls.specs.Outcome.{Outcome, outcome, tells}
+use Rattle.calls.specs.Seen.{Puts, noPuts, starts, restarts, putsAfter}
 use Rattle.calls.specs.Refines.{Follows, Along, RefinesTo}
-use Rattle.calls.proofs.Words.{word-down, word-up, word-seen, word-puts}
+use Rattle.calls.proofs.Words.{word-down, word-up, word-seen, word-puts, told-answer, told-dropped, told-handed, told-length, told-down, told-up, told-rfu}
 use Rattle.calls.proofs.Refining.{stored-good, puts-seen}
 
 -- ---- a wire
@@ -73,6 +74,7 @@ module _ (c : Call) (q : Puts) (x t : Octets) (n : Record) where
     pub small : Small n
     pub short : len < 65536
     pub drop : d ≡ e .drop
+    pub rfu : 0 ≡ e .rfu
     pub message : pick h (cut 0 len t ∷ []) [] ≡ e .message
     pub next : view x n ≡ e .next
     pub toDown : Added (q .down) down (n .down) (e .next .down) (e .toDown)
@@ -116,6 +118,7 @@ module _ (c : Call) (q : Puts) (x t : Octets) (n : Record) where
                 call = c;
                 answer = taken;
                 dropped = k .drop i;
+                rfu = k .rfu i;
                 toDown = added-seen downAt area (q .down) down (decodeOf area .down) (e .next .down) (e .toDown) downs on-down i;
                 toUp = added-seen upAt area (q .up) up (decodeOf area .up) (e .next .up) (e .toUp) ups on-up i;
                 message = k .message i;
@@ -132,3 +135,31 @@ module _ (c : Call) (q : Puts) (x t : Octets) (n : Record) where
                     omega (arith, word-up d h len down up (k .short) few-down few-up, parts upAt area (q .up) up (decodeOf area .up) (e .next .up) (e .toUp) ups on-up);
               };
         }
+
+-- ---- a call that takes a packet tells its reserved bits: the model's effect with them
+
+pub tells-refines : (c : Call) (q : Puts) (n : ℕ) (o : Outcome) (e : Effect) → n < 256 → RefinesTo c q o (record { answer = taken; effect = e })
+    → RefinesTo c q (tells n o) (record { answer = taken; effect = telling n e })
+tells-refines c q n o e small r =
+    let w = o .word in
+    let seen = r .event in
+    let puts : putsAfter c q (wordTelling n w) ≡ putsAfter c q w =
+    (λ i. pick (restarts c (told-answer n w i)) noPuts (record { down = q .down + told-down n w i; up = q .up + told-up n w i }))
+    in
+    record {
+      good = r .good;
+      event =
+          λ i.
+          record {
+            call = c;
+            answer = (told-answer n w ∙ ap (λ (x : Event). x .answer) seen) i;
+            dropped = (told-dropped n w ∙ ap (λ (x : Event). x .dropped) seen) i;
+            rfu = (told-rfu n w small ∙ ap (λ (x : Event). pick (x .dropped) 0 n) seen) i;
+            toDown = ((λ j. packetsFrom downAt wireSlots (o .area) (q .down) (told-down n w j)) ∙ ap (λ (x : Event). x .toDown) seen) i;
+            toUp = ((λ j. packetsFrom upAt wireSlots (o .area) (q .up) (told-up n w j)) ∙ ap (λ (x : Event). x .toUp) seen) i;
+            message = ((λ j. pick (told-handed n w j) (cut 0 (told-length n w j) (o .out) ∷ []) []) ∙ ap (λ (x : Event). x .message) seen) i;
+          };
+      next = r .next;
+      along = subst (λ (p : Puts). Along p (o .area)) (sym puts) (r .along);
+      there = record { down = omega (arith, told-down n w, r .there .down); up = omega (arith, told-up n w, r .there .up) };
+    }

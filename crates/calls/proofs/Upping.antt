@@ -8,10 +8,13 @@ use lib.ListN.{length}
 use lib.Dec.{eqb}
 use borrow.Author.Tests.{eqb-false}
 use Rattle.octets.specs.Octets.{Octets, cut}
+use Rattle.packets.specs.Packet.{readOf}
+use Rattle.packets.specs.Reserved.{rfuBy}
 use Rattle.packets.specs.Segments.{Segment, segment, body, flag}
 use Rattle.packets.proofs.Segments.{flag-segment, body-segment}
 use Rattle.calls.specs.Kinds.{Header, Ends, Record}
 use Rattle.calls.specs.Kinds.reading.{Packet, Drop}
+use Rattle.calls.specs.Kinds.way as way
 use Rattle.state.specs.Runs.{handedOn, runFor, controlJoined}
 use Rattle.area.specs.Map.{payloadSize, slotSize, wireSlots, controlSize, places, upAt, hearingAt}
 use Rattle.area.specs.Ring.{slotPacket}
@@ -22,17 +25,17 @@ use Rattle.record.specs.Small.{SmallCounts, SmallEnds, Small}
 use Rattle.record.specs.Layout.{pairsRoom}
 use Rattle.record.proofs.Taken.{wire-took}
 use Rattle.wires.specs.Meaning.{junk, meant, meaning}
-use Rattle.wires.proofs.Slots.{first-slot, meaning-junk, meaning-packet}
+use Rattle.wires.proofs.Slots.{first-slot, read-trim, meaning-junk, meaning-packet}
 use Rattle.views.specs.View.{view}
 use Rattle.views.specs.Moves.{Sound}
 use Rattle.views.proofs.Controls.{control-whole, control-flag}
 use Rattle.views.proofs.Tests.{packets-nil}
 use Rattle.views.proofs.Whole.{moves}
-use Rattle.model.specs.Effects.{up, taken}
+use Rattle.model.specs.Effects.{up, taken, telling}
 use Rattle.model.specs.Refusals.{Rule, rule, first}
 use Rattle.model.specs.Runs.{wholeBy, flagBy}
 use Rattle.model.specs.Bench.{act}
-use Rattle.model.specs.calls.Up.{coming, reading, upRules}
+use Rattle.model.specs.calls.Up.{coming, upRules}
 use Rattle.model.proofs.Order.{need}
 use Rattle.calls.specs.calls.Up.{upSlot, upRead, upPayload, upRecord, heardJoin, heardMessage, Uppable}
 
@@ -48,9 +51,12 @@ module _ (a : Octets) (r : Record) where
   pub packet-dropped : upRead r a ≡ Drop → meaning upPacket ≡ junk
   packet-dropped e = ap meaning (first-slot upAt a (r .up .head)) ∙ meaning-junk (cut (upSlot r) slotSize a) e
 
+  pub packet-rfu : rfuBy way.Up (readOf upPacket) ≡ rfuBy way.Up (upRead r a)
+  packet-rfu = ap (λ (p : Octets). rfuBy way.Up (readOf p)) (first-slot upAt a (r .up .head)) ∙ ap (rfuBy way.Up) (read-trim (cut (upSlot r) slotSize a))
+
   module _ (s : Sound a r) (some : 0 < r .up .count) where
-    pub up-acts : act up (view a r) ≡ coming (meaning upPacket) (view a (upRecord r (r .ends)))
-    up-acts = let e = moves a r s .took-up some in λ i. reading (e i .up) (e i)
+    pub up-acts : act up (view a r) ≡ telling (rfuBy way.Up (readOf upPacket)) (coming (meaning upPacket) (view a (upRecord r (r .ends))))
+    up-acts = ap (act up) (moves a r s .took-up some)
 
 -- ---- a packet that was read, as a segment
 

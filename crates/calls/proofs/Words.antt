@@ -1,6 +1,6 @@
 -- What a word says of a call that is taken is what it was made of.
 -- Assumes nothing.
-use Prim.Native.Nat.{ℕ, _+_, _/_, _%_, _≤_, _<_}
+use Prim.Native.Nat.{ℕ, _+_, _*_, _/_, _%_, _≤_, _<_}
 use native.Mathlib.Omega.{arith}
 use mathlib.Core.Path.{_≡_, refl, ap, _∙_}
 use mathlib.Core.Bool.{Bool, true, false}
@@ -11,8 +11,8 @@ use Rattle.area.specs.Map.{downAt, upAt, wireSlots}
 use Rattle.area.specs.Ring.{packetsFrom}
 use Rattle.record.specs.Layout.{bit}
 use Rattle.model.specs.Effects.{Call, taken, refused}
-use Rattle.calls.specs.Word.{dropBit, handedBit, wordOf, answerIn, droppedIn, handedIn, lengthIn, downIn, upIn}
-use Rattle.calls.specs.Outcome.{outcome}
+use Rattle.calls.specs.Word.{dropBit, handedBit, wordOf, answerIn, droppedIn, handedIn, lengthIn, downIn, upIn, rfuIn, wordTelling}
+use Rattle.calls.specs.Outcome.{Outcome, outcome, tells}
 use Rattle.calls.specs.Seen.{Puts, noPuts, starts, restarts, putsAfter, seenBy}
 
 pub bit-least : (b : Bool) → bit b ≤ 1
@@ -57,6 +57,10 @@ module _ (d h : Bool) (len down up : ℕ) where
       unfolding upIn wordOf
       word-up n = omega (arith, bit-least d, bit-least h, l, m, n)
 
+      pub word-rfu : up < 256 → rfuIn word ≡ 0
+      unfolding rfuIn wordOf
+      word-rfu n = omega (arith, bit-least d, bit-least h, l, m, n)
+
       -- what is seen of a call that answers it, and the packets put after it
       module _ (n : up < 256) (c : Call) (q : Puts) where
         pub word-seen : (area out : Octets)
@@ -65,6 +69,7 @@ module _ (d h : Bool) (len down up : ℕ) where
               call = c;
               answer = taken;
               dropped = d;
+              rfu = 0;
               toDown = packetsFrom downAt wireSlots area (q .down) down;
               toUp = packetsFrom upAt wireSlots area (q .up) up;
               message = pick h (cut 0 len out ∷ []) [];
@@ -74,6 +79,7 @@ module _ (d h : Bool) (len down up : ℕ) where
               call = c;
               answer = word-answer i;
               dropped = word-dropped i;
+              rfu = word-rfu n i;
               toDown = packetsFrom downAt wireSlots area (q .down) (word-down i);
               toUp = packetsFrom upAt wireSlots area (q .up) (word-up n i);
               message = pick (word-handed i) (cut 0 (word-length i) out ∷ []) [];
@@ -83,3 +89,51 @@ module _ (d h : Bool) (len down up : ℕ) where
         word-puts s =
             (λ i. pick (restarts c (word-answer i)) noPuts (record { down = q .down + word-down i; up = q .up + word-up n i }))
             ∙ (λ i. pick (s i) noPuts (record { down = q .down + down; up = q .up + up }))
+
+-- ---- a word that tells reserved bits says all else as before
+
+module _ (n w : ℕ) where
+  abbrev told : ℕ
+  told = wordTelling n w
+
+  pub told-answer : answerIn told ≡ answerIn w
+  unfolding answerIn wordTelling
+  told-answer = let e : wordTelling n w % 256 ≡ w % 256 = omega arith in ap (λ (k : ℕ). pick (eqb k 0) taken (refused k)) e
+
+  pub told-dropped : droppedIn told ≡ droppedIn w
+  unfolding droppedIn wordTelling
+  told-dropped = let e : wordTelling n w / dropBit % 2 ≡ w / dropBit % 2 = omega arith in ap (λ (k : ℕ). eqb k 1) e
+
+  pub told-handed : handedIn told ≡ handedIn w
+  unfolding handedIn wordTelling
+  told-handed = let e : wordTelling n w / handedBit % 2 ≡ w / handedBit % 2 = omega arith in ap (λ (k : ℕ). eqb k 1) e
+
+  pub told-length : lengthIn told ≡ lengthIn w
+  unfolding lengthIn wordTelling
+  told-length = omega arith
+
+  pub told-down : downIn told ≡ downIn w
+  unfolding downIn wordTelling
+  told-down = omega arith
+
+  pub told-up : upIn told ≡ upIn w
+  unfolding upIn wordTelling
+  told-up = omega arith
+
+  -- and of them it tells these, or none with the drop flag up
+  pub told-rfu : n < 256 → rfuIn told ≡ pick (droppedIn w) 0 n
+  unfolding rfuIn wordTelling
+  told-rfu h = go (droppedIn w)
+    where
+      go : (b : Bool) → (w % 281474976710656 + pick b 0 n * 281474976710656) / 281474976710656 % 256 ≡ pick b 0 n
+      go true = omega arith
+      go false = omega (arith, h)
+
+-- of a packet that is dropped it tells none
+pub told-none : (n : ℕ) → wordTelling n (wordOf true false 0 0 0) ≡ wordOf true false 0 0 0
+unfolding wordTelling wordOf bit droppedIn
+told-none n = refl
+
+-- what a call comes to whose word tells them after all else is done
+pub tells-by : (n : ℕ) {w x : ℕ} {a out : Octets} {o : Outcome} → x ≡ wordTelling n w → outcome w a out ≡ o → outcome x a out ≡ tells n o
+tells-by n {w} {x} {a} {out} e p = (λ i. outcome (e i) a out) ∙ ap (tells n) p

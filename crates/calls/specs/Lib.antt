@@ -4,6 +4,7 @@ pub mod Outcome
 pub mod Seen
 pub mod Refines
 pub mod Packet
+pub mod Read
 pub mod calls
 pub mod Demand
 pub mod Reached
@@ -12,3 +13,4 @@ pub mod Played
 pub mod Discards
 pub mod Profiles
 pub mod Headers
+pub mod Reserved

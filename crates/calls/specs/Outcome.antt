@@ -13,6 +13,7 @@ use Rattle.record.specs.Reading.{decodeOf}
 use Rattle.record.specs.Judge.{judgeOf}
 use Rattle.model.specs.Effects.{Result, taken, refused}
 use Rattle.model.specs.Refusals.{Rule, rule, first}
+use Rattle.calls.specs.Word.{wordTelling}
 
 -- the word answered, the area and the message buffer after the call
 pub record Outcome : Type 0 where
@@ -22,6 +23,10 @@ pub record Outcome : Type 0 where
 
 abbrev pub outcome : ℕ → Octets → Octets → Outcome
 outcome w a out = record { word = w; area = a; out = out }
+
+-- the same with a word that tells reserved bits
+abbrev pub tells : ℕ → Outcome → Outcome
+tells n o = outcome (wordTelling n (o .word)) (o .area) (o .out)
 
 -- a refusal is its number, and changes no octet
 abbrev pub decided : Result → Outcome → Octets → Octets → Outcome

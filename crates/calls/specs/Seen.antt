@@ -8,7 +8,7 @@ use Rattle.area.specs.Map.{downAt, upAt, wireSlots}
 use Rattle.area.specs.Ring.{packetsFrom}
 use Rattle.model.specs.Effects.{Call, fresh, power, command, send, push, down, consume, credit, air, reply, up, report, Result, taken, refused}
 use Rattle.model.specs.Observer.{Event}
-use Rattle.calls.specs.Word.{answerIn, droppedIn, handedIn, lengthIn, downIn, upIn}
+use Rattle.calls.specs.Word.{answerIn, droppedIn, handedIn, lengthIn, downIn, upIn, rfuIn}
 use Rattle.calls.specs.Outcome.{Outcome}
 
 -- how many packets were put on each wire since the last fresh or power: the next one goes into the slot of that number, modulo 16
@@ -50,6 +50,7 @@ seenBy c p o =
       call = c;
       answer = answerIn (o .word);
       dropped = droppedIn (o .word);
+      rfu = rfuIn (o .word);
       toDown = packetsFrom downAt wireSlots (o .area) (p .down) (downIn (o .word));
       toUp = packetsFrom upAt wireSlots (o .area) (p .up) (upIn (o .word));
       message = pick (handedIn (o .word)) (cut 0 (lengthIn (o .word)) (o .out) ∷ []) [];

@@ -5,6 +5,7 @@
 --   bits 16-31  its length
 --   bits 32-39  packets put on the down wire
 --   bits 40-47  packets put on the up wire
+--   bits 48-55  the reserved bits of octet 1 that the packet taken had at 1
 -- Assumes nothing.
 use Prim.Native.Nat.{ℕ, _+_, _*_, _/_, _%_}
 use mathlib.Core.Bool.{Bool}
@@ -29,6 +30,9 @@ downUnit = 4294967296
 abbrev pub upUnit : ℕ
 upUnit = 1099511627776
 
+abbrev pub rfuUnit : ℕ
+rfuUnit = 281474976710656
+
 -- of a call that is taken: the drop flag, whether a message was handed out, its length, packets put down and up
 unfoldable pub wordOf : Bool → Bool → ℕ → ℕ → ℕ → ℕ
 wordOf dropped handed len down up = bit dropped * dropBit + bit handed * handedBit + len * lengthUnit + down * downUnit + up * upUnit
@@ -52,3 +56,12 @@ downIn w = w / downUnit % 256
 
 unfoldable pub upIn : ℕ → ℕ
 upIn w = w / upUnit % 256
+
+unfoldable pub rfuIn : ℕ → ℕ
+rfuIn w = w / rfuUnit % 256
+
+-- ---- the word of a call that takes a packet
+
+-- the word w with the packet's reserved bits n; with the drop flag up it tells none
+unfoldable pub wordTelling : ℕ → ℕ → ℕ
+wordTelling n w = w % rfuUnit + pick (droppedIn w) 0 n * rfuUnit

@@ -1,6 +1,5 @@
 // consume: the controller takes the oldest stored packet of a connection into reassembly and hands out a finished message; on
 // a loopback the packet also goes up, unchanged but for the credits that it carries.
-use crate::word;
 use area::map;
 use area::movers;
 use area::ring;
@@ -200,7 +199,7 @@ fn leave(area: &mut [u8], r: Record, conn: u8, j: Joined, len: usize) -> u64
     let next = plan(r, conn, progress);
     write::encode(area, next);
     let up = ups(conn);
-    word::answer(j.dropped, j.done, len, up)
+    words::answer(j.dropped, j.done, len, up)
 }
 
 // ---- the run

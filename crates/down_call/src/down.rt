@@ -7,6 +7,7 @@ use messages::layout::Note;
 use octets::choose;
 use packets::Header;
 use packets::Reading;
+use packets::Way;
 use record::write;
 use state::conn;
 use state::kinds::ControlRun;
@@ -14,7 +15,7 @@ use state::kinds::Record;
 use state::kinds::Ring;
 use state::runs;
 ghost use mathlib.Core.Path.{_≡_};
-ghost use mathlib.Core.Bool.{false, _&&_};
+ghost use mathlib.Core.Bool.{_&&_};
 ghost use Prim.Native.Nat.{_+_, _≤_, _<_};
 ghost use lib.ListN.{length};
 ghost use lib.Dec.{eqb, leb};
@@ -26,7 +27,6 @@ ghost use Rattle.area.specs.Movers.{putsAll};
 ghost use Rattle.record.specs.Fit.{FitRing};
 ghost use Rattle.views.specs.View.{view};
 ghost use Rattle.model.specs.calls.Down.{downRules};
-ghost use Rattle.calls.specs.Word.{wordOf};
 ghost use Rattle.calls.specs.Outcome.{lowest, ComesTo};
 ghost use Rattle.calls.specs.calls.Down.{tookDown, downDropped, controllerSide, storedRecord, storedSlot, dataDown, joinedArea, notePacket, notePackets, commandIn, answered, commandDown, arrived, downed, Arrivable, Downable};
 
@@ -234,13 +234,6 @@ fn answer(area: &mut [u8], t: Record, h: Header, len: usize) -> u64
     n as u64 * 1099511627776
 }
 
-// The word of a call that puts no packet.
-fn word(flag: bool) -> u64
-    ensures { λ w. ⌜ w ≡ wordOf flag false 0 0 0 ⌝ }
-{
-    if flag { 256 } else { 0 }
-}
-
 // A command's segment joins its run; a whole command is answered, one past its limit is not.
 fn command_packet(area: &mut [u8], t: Record, slot: usize, h: Header, n: usize) -> u64
     requires { ⌜ (areaSize ≤ length (now area)) × (slot + slotSize ≤ length (now area)) × (n ≤ payloadSize) × Arrivable (t .ends .conns) (t .up) h × (h .mt ≡ 1) ⌝ }
@@ -263,7 +256,7 @@ fn command_packet(area: &mut [u8], t: Record, slot: usize, h: Header, n: usize) 
         return answer(area, next, h, j.base + n);
     }
     write::encode(area, next);
-    word(j.dropped)
+    words::quiet(j.dropped, false, 0)
 }
 
 // ---- the call
@@ -294,5 +287,6 @@ pub fn act(area: &mut [u8], r: Record) -> u64
     let Reading::Packet(h, n) = got else {
         return dropped(area, t);
     };
-    packet(area, t, slot, h, n)
+    let w = packet(area, t, slot, h, n);
+    words::telling(packets::rfu(Way::Down, h), w)
 }

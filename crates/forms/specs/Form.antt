@@ -2,7 +2,7 @@
 -- Assumes nothing.
 use Prim.Native.Nat.{ℕ}
 use mathlib.Core.Path.{_≡_}
-use mathlib.Core.Bool.{Bool, false, _&&_, _||_}
+use mathlib.Core.Bool.{Bool, true, false, _&&_, _||_}
 use mathlib.Core.List.{[], _∷_}
 use lib.ListN.{length, drop, getD}
 use lib.Dec.{eqb, leb, ltb}
@@ -11,7 +11,7 @@ use Rattle.ascii.specs.Letters as letter
 use Rattle.ascii.specs.Words.{startsWith, upTo}
 use Rattle.ascii.specs.Digits.{isHex, octetsIn}
 use Rattle.forms.specs.Kinds.{Name, Asked}
-use Rattle.forms.specs.Kinds.name.{Fresh, Power, Command, Send, Push, Down, Consume, Credit, Air, Reply, Up, Report, Bad}
+use Rattle.forms.specs.Kinds.name.{Fresh, Power, Command, Send, Push, Down, Consume, Credit, Air, Reply, Up, Report, Read, Bad}
 use Rattle.forms.specs.Names.{nameIn}
 
 -- ---- the form
@@ -64,6 +64,7 @@ fits Air m = kindFits (getD m 0 0) (length m)
 fits Reply m = eqb (length m) 0
 fits Up m = eqb (length m) 0
 fits Report m = eqb (length m) 1
+fits Read m = true
 fits Bad m = false
 
 -- ---- the name that a line asks for: bad for a line of another form

@@ -6,7 +6,7 @@ use Rattle.octets.specs.Octets.{Octets, pick}
 use Rattle.ascii.specs.Letters.{a, b, c, d, e, f, h, i, l, m, n, o, p, r, s, t, u, w, y}
 use Rattle.ascii.specs.Words.{sameAs}
 use Rattle.forms.specs.Kinds.{Name}
-use Rattle.forms.specs.Kinds.name.{Fresh, Power, Command, Send, Push, Down, Consume, Credit, Air, Reply, Up, Report, Bad}
+use Rattle.forms.specs.Kinds.name.{Fresh, Power, Command, Send, Push, Down, Consume, Credit, Air, Reply, Up, Report, Read, Bad}
 
 abbrev pub textOf : Name → Octets
 textOf Fresh = f ∷ r ∷ e ∷ s ∷ h ∷ []
@@ -21,11 +21,12 @@ textOf Air = a ∷ i ∷ r ∷ []
 textOf Reply = r ∷ e ∷ p ∷ l ∷ y ∷ []
 textOf Up = u ∷ p ∷ []
 textOf Report = r ∷ e ∷ p ∷ o ∷ r ∷ t ∷ []
+textOf Read = r ∷ e ∷ a ∷ d ∷ []
 textOf Bad = b ∷ a ∷ d ∷ []
 
--- those of the calls
+-- those of the twelve calls, and of reading alone
 abbrev pub names : List Name
-names = Fresh ∷ Power ∷ Command ∷ Send ∷ Push ∷ Down ∷ Consume ∷ Credit ∷ Air ∷ Reply ∷ Up ∷ Report ∷ []
+names = Fresh ∷ Power ∷ Command ∷ Send ∷ Push ∷ Down ∷ Consume ∷ Credit ∷ Air ∷ Reply ∷ Up ∷ Report ∷ Read ∷ []
 
 -- the name that a word is
 unfoldable pub among : List Name → Octets → Name
@@ -48,4 +49,5 @@ isBad Air = false
 isBad Reply = false
 isBad Up = false
 isBad Report = false
+isBad Read = false
 isBad Bad = true

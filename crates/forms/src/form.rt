@@ -86,6 +86,7 @@ fn fits(name: Name, args: &[u8]) -> bool
         Name::Reply => n == 0,
         Name::Up => n == 0,
         Name::Report => n == 1,
+        Name::Read => true,
         Name::Bad => false,
     }
 }

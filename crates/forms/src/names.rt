@@ -21,6 +21,7 @@ pub enum Name {
     Reply,
     Up,
     Report,
+    Read,
     Bad,
 }
 
@@ -40,6 +41,7 @@ pub fn is_bad(name: Name) -> bool
         Name::Reply => false,
         Name::Up => false,
         Name::Report => false,
+        Name::Read => false,
         Name::Bad => true,
     }
 }
@@ -72,6 +74,8 @@ pub fn name_in(word: &[u8]) -> Name
         Name::Up
     } else if same(word, b"report") {
         Name::Report
+    } else if same(word, b"read") {
+        Name::Read
     } else {
         Name::Bad
     }
@@ -95,6 +99,7 @@ pub fn put_name(text: &mut [u8], at: usize, name: Name) -> usize
         Name::Reply => put(text, at, b"reply"),
         Name::Up => put(text, at, b"up"),
         Name::Report => put(text, at, b"report"),
+        Name::Read => put(text, at, b"read"),
         Name::Bad => put(text, at, b"bad"),
     }
 }

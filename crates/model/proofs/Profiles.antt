@@ -2,7 +2,7 @@
 -- Assumes nothing.
 use mathlib.Core.Path.{refl}
 use Rattle.octets.specs.Octets.{cut}
-use Rattle.packets.specs.Packet.{octet0, octet1, packetOf, oidOf, headerOf, readOf}
+use Rattle.packets.specs.Packet.{octet0, octet1, packetOf, oidOf, carriedOf, spareOf, headerOf, readOf}
 use Rattle.packets.specs.Segments.{segmentsWithin, segments}
 use Rattle.state.specs.Conn.{placeOf, termsOf}
 use Rattle.state.specs.Commands.{commandOf}
@@ -21,7 +21,7 @@ use Rattle.model.specs.Table.{Plays}
 use Rattle.model.specs.Profiles.{Profiles}
 
 pub profiles : Profiles Plays
-unfolding cut octet0 octet1 packetOf oidOf headerOf readOf segmentsWithin segments placeOf termsOf commandOf shortest allowed resetBy after seek nextId createBy closeBy configsOk discoverBy judgeOf controllerAfter responseOf noticeMessage pollIn eventOf pollBy airedBy airMessage controllerAired noticeOf zeros initWritten createWritten activatedWritten written answerOf heardAlone hearOf hostAfter dropHeard meaning dataCount insideOf countedUp first step events
+unfolding cut octet0 octet1 packetOf oidOf carriedOf spareOf headerOf readOf segmentsWithin segments placeOf termsOf commandOf shortest allowed resetBy after seek nextId createBy closeBy configsOk discoverBy judgeOf controllerAfter responseOf noticeMessage pollIn eventOf pollBy airedBy airMessage controllerAired noticeOf zeros initWritten createWritten activatedWritten written answerOf heardAlone hearOf hostAfter dropHeard meaning dataCount insideOf countedUp first step events
 profiles =
     record {
       each = λ s. refl;

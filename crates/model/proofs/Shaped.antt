@@ -1,17 +1,20 @@
 -- Packets that an end writes are well formed, as an invariant: what is on the wires, in the stores and in hand.
 -- Assumes nothing.
-use Prim.Native.Nat.{ℕ, zero, suc, _+_, _≤_, _<_}
+use Prim.Native.Nat.{ℕ, zero, suc, _+_, _*_, _/_, _%_, _≤_, _<_}
 use native.Mathlib.Omega.{arith}
-use mathlib.Core.Path.{_≡_, refl, sym, ap, _∙_}
+use mathlib.Core.Path.{_≡_, refl, sym, ap, _∙_, subst}
 use mathlib.Core.Logic.{inl, inr}
-use mathlib.Core.Bool.{Bool, false}
+use mathlib.Core.Bool.{Bool, true, false}
 use mathlib.Core.List.{List, [], _∷_, map, append-nil}
 use lib.Dec.{eqb, ltb}
 use lib.ListN.{length, drop, length-append, length-take, length-drop}
-use borrow.Author.Tests.{ltb-false}
-use Rattle.octets.specs.Octets.{Octets}
-use Rattle.model.specs.Kinds.{Header, Profile, Verdict, Event}
-use Rattle.packets.specs.Packet.{packetOf, readOf, carrying, credited, Writable}
+use borrow.Author.Tests.{ltb-false, eqb-false}
+use Rattle.octets.specs.Octets.{Octets, pick}
+use Rattle.model.specs.Kinds.{Header, Reading, Profile, Verdict, Event}
+use Rattle.model.specs.Kinds.reading.{Packet}
+use Rattle.model.specs.Kinds.way as way
+use Rattle.packets.specs.Packet.{packetOf, readOf, payloadOf, carrying, credited, Writable}
+use Rattle.packets.specs.Reserved.{rfuBy}
 use Rattle.packets.specs.Segments.{Segment, body, flag, marked, segment, segmentsWithin, segments, segmentPacket}
 use Rattle.packets.proofs.RoundTrip.{read-written, carrying-written}
 use Rattle.model.specs.Kinds.verdict as verdict
@@ -23,7 +26,7 @@ use Rattle.state.proofs.Chains.{on}
 use Rattle.model.specs.Connection.{Connection, withHost, withController}
 use Rattle.packets.specs.Headers.{dataHeader, controlHeader}
 use Rattle.messages.specs.Packets.{noticePacket, noticePackets}
-use Rattle.wires.specs.Meaning.{datum, meaning}
+use Rattle.wires.specs.Meaning.{datum, control, meaningIn, meaning}
 use Rattle.wires.proofs.Slots.{meant-data}
 use Rattle.model.specs.State.{State, cold}
 use Rattle.model.specs.Refusals.{noConn}
@@ -50,15 +53,40 @@ formed-long : (p : Octets) (f : Formed p) → length p ≡ 3 + length (f .payloa
 unfolding packetOf
 formed-long p f = let long : length p ≡ suc (suc (suc (length (f .payload)))) = ap length (f .same) in omega arith
 
+formed-reads : (p : Octets) (f : Formed p) → readOf p ≡ Packet (f .header) (length (f .payload))
+formed-reads p f = ap readOf (f .same) ∙ (rw append-nil at (read-written (f .header) (f .payload) [] (f .writable)))
+
 pub formed-well : (p : Octets) → Formed p → WellFormed p
 formed-well p f =
     record {
       header = f .header;
       size = length (f .payload);
-      reads = ap readOf (f .same) ∙ (rw append-nil at (read-written (f .header) (f .payload) [] (f .writable)));
+      reads = formed-reads p f;
       whole = formed-long p f;
       most = omega (arith, formed-long p f, f .short);
     }
+
+-- it has no reserved bit at 1: going up by its header alone, going down because it carries no credits
+pub formed-clear-up : (p : Octets) → Formed p → rfuBy way.Up (readOf p) ≡ 0
+formed-clear-up p f = ap (rfuBy way.Up) (formed-reads p f) ∙ f .writable .spare
+
+pub formed-clear-down : (p : Octets) → Formed p → GoesDown (meaning p) → rfuBy way.Down (readOf p) ≡ 0
+unfolding meaning
+formed-clear-down p f g =
+    ap (rfuBy way.Down) (formed-reads p f)
+    ∙ go (eqb (f .header .mt) 0) refl (subst (λ (r : Reading). GoesDown (meaningIn p r)) (formed-reads p f) g)
+  where
+    none : f .header .credits ≡ 0 → f .header .spare / 4 * 4 + f .header .credits % 4 ≡ 0
+    none z = omega (arith, z, f .writable .spare)
+
+    x : Segment
+    x = segment (f .header .pbf) (payloadOf p (length (f .payload)))
+
+    go : (b : Bool) → eqb (f .header .mt) 0 ≡ b
+        → GoesDown (pick b (datum (f .header .id) (f .header .credits) x) (control (f .header .mt) (f .header .id) (f .header .oid) x))
+        → f .header .spare / 4 * 4 + f .header .credits % 4 ≡ 0
+    go true e h = none (h .1)
+    go false e h = none (f .writable .control-credits (eqb-false (f .header .mt) 0 e))
 
 -- on either wire
 abbrev pub DownOk : Octets → Type 0

@@ -9,9 +9,11 @@ use lib.Dec.{eqb, ltb}
 use lib.ListN.{length, drop}
 use borrow.Author.Tests.{ltb-false, not-false}
 use Rattle.octets.specs.Octets.{Octets, pick}
-use Rattle.packets.specs.Packet.{carrying}
+use Rattle.packets.specs.Packet.{readOf, carrying}
+use Rattle.packets.specs.Reserved.{rfuBy}
 use Rattle.packets.specs.Segments.{Segment, segments, segmentPacket, packetsOf}
-use Rattle.model.specs.Kinds.{Verdict, Aired}
+use Rattle.model.specs.Kinds.{Profile, Verdict, Aired}
+use Rattle.model.specs.Kinds.way as way
 use Rattle.model.specs.Kinds.aired.{Refused, Goes, Activates, Ends, Speaks}
 use Rattle.state.specs.Conn.{placeOf, termsOf}
 use Rattle.state.specs.Profile.{profileIn, ProfileWithin}
@@ -24,7 +26,7 @@ use Rattle.model.specs.Connection.{Connection, withHost, withController,
 use Rattle.packets.specs.Headers.{dataHeader, controlHeader}
 use Rattle.wires.proofs.Slots.{meaning-carrying}
 use Rattle.wires.specs.Meaning.{Meaning, datum, control, junk, meaning}
-use Rattle.model.specs.State.{State, isOpen, at, withConns, withDown, withUp, withAsking, withHearing}
+use Rattle.model.specs.State.{State, cold, isOpen, at, withConns, withDown, withUp, withAsking, withHearing}
 use Rattle.model.specs.Effects.{Call, fresh, power, command, send, push, down, consume, credit, air, reply, up, report, Effect, taken}
 use Rattle.model.specs.Refusals.{first, noConn, isNil, isHeld}
 use Rattle.model.specs.Runs.{runAfter, wholeBy}
@@ -43,10 +45,10 @@ use Rattle.model.proofs.Cases.{clash, each, each-append, each-map}
 use Rattle.model.proofs.Needs.{need}
 use Rattle.air.proofs.Taken.{event-within}
 use Rattle.model.proofs.Order.{way-low, way-small}
-use Rattle.model.proofs.Always.{always}
+use Rattle.model.proofs.Always.{Stays, always}
 use Rattle.model.proofs.Small.{Small, cold-small, held-terms}
 use Rattle.model.proofs.Sizes.{act-small}
-use Rattle.model.proofs.Shaped.{Formed, formed-well, DownOk, UpOk, Short, short-segments, data-down, data-up, carrying-formed, commands-down, answers-up, air-up, credit-up, ConnShaped, Shaped, cold-shaped, controller-shaped, host-shaped}
+use Rattle.model.proofs.Shaped.{Formed, formed-well, formed-clear-up, formed-clear-down, DownOk, UpOk, Short, short-segments, data-down, data-up, carrying-formed, commands-down, answers-up, air-up, credit-up, ConnShaped, Shaped, cold-shaped, controller-shaped, host-shaped}
 
 -- one connection changes
 at-shaped : (c : ℕ) (f : Connection → Connection) (g : ℕ → Connection) → ConnShaped (f (g c)) → ((d : ℕ) → ConnShaped (g d)) → (d : ℕ) → ConnShaped (at c f g d)
@@ -275,18 +277,26 @@ act-shaped reply s aim l t f k m = reply-shaped s m
 act-shaped up s aim l t f k m = up-shaped s t m
 act-shaped (report c) s aim l t f k m = m
 
-wires : (s : State) → Shaped s → Wires s
+pub wires : (s : State) → Shaped s → Wires s
 wires s m =
     record {
       down = each-map DownOk (λ p. WellFormed p) (s .down) (λ p h. formed-well p (h .0)) (m .down);
       down-kinds = each-map DownOk (λ p. GoesDown (meaning p)) (s .down) (λ p h. h .1) (m .down);
       up = each-map UpOk (λ p. WellFormed p) (s .up) (λ p h. formed-well p (h .0)) (m .up);
       up-kinds = each-map UpOk (λ p. GoesUp (meaning p)) (s .up) (λ p h. h .1) (m .up);
+      down-rfu = each-map DownOk (λ p. rfuBy way.Down (readOf p) ≡ 0) (s .down) (λ p h. formed-clear-down p (h .0) (h .1)) (m .down);
+      up-rfu = each-map UpOk (λ p. rfuBy way.Up (readOf p) ≡ 0) (s .up) (λ p h. formed-clear-up p (h .0)) (m .up);
     }
 
+-- what each call keeps of it, sizes with it
+abbrev pub SmallShaped : State → Type 0
+SmallShaped s = Small s × Shaped s
+
+pub shaped-stays : Stays SmallShaped
+shaped-stays c s aim l t f h = (act-small c s aim l t f (h .0), act-shaped c s aim l t f (h .0) (h .1))
+
+pub shaped-start : (p : Profile) → ProfileWithin p → SmallShaped (cold p)
+shaped-start p l = (cold-small p, cold-shaped p)
+
 pub wires-well-formed : Always Wires
-wires-well-formed profile ok calls =
-    wires _
-    (always (λ s. Small s × Shaped s)
-    (λ c s aim l t f h. (act-small c s aim l t f (h .0), act-shaped c s aim l t f (h .0) (h .1)))
-    (λ p l. (cold-small p, cold-shaped p)) profile ok calls .1)
+wires-well-formed profile ok calls = wires _ (always SmallShaped shaped-stays shaped-start profile ok calls .1)

@@ -5,8 +5,9 @@ use mathlib.Core.Bool.{not}
 use mathlib.Core.List.{List, [], _∷_}
 use Rattle.state.specs.Profile.{profileIn, profileOctetsOk}
 use Rattle.air.specs.Air.{eventOf}
+use Rattle.model.specs.Kinds.way.{Down, Up}
 use Rattle.model.specs.State.{State, cold}
-use Rattle.model.specs.Effects.{Call, Result, Effect, Outcome, quiet, fresh, power, command, send, push, down, consume, credit, air, reply, up, report, taken, refused}
+use Rattle.model.specs.Effects.{Call, Result, Effect, Outcome, quiet, firstRfu, telling, fresh, power, command, send, push, down, consume, credit, air, reply, up, report, taken, refused}
 use Rattle.model.specs.Refusals.{Rule, rule, first}
 use Rattle.model.specs.calls.Command.{commanding, commandRules}
 use Rattle.model.specs.calls.Send.{sending, sendRules}
@@ -39,12 +40,12 @@ act power s = quiet (cold (s .profile))
 act (command gid oid m) s = commanding gid oid m s
 act (send c m) s = sending c m s
 act (push c) s = pushing c (s .conns c .host .hand) s
-act down s = taking (s .down) s
+act down s = telling (firstRfu Down (s .down)) (taking (s .down) s)
 act (consume c) s = consuming c (s .conns c .controller .store) s
 act credit s = crediting s
 act (air m) s = airingAs (eventOf m) (airing s m) m s
 act reply s = replying (s .conns 0 .controller .speech) s
-act up s = reading (s .up) s
+act up s = telling (firstRfu Up (s .up)) (reading (s .up) s)
 act (report c) s = reporting c s
 
 -- a refusal changes nothing

@@ -2,8 +2,11 @@
 -- Assumes nothing.
 use Prim.Native.Nat.{ℕ}
 use mathlib.Core.Bool.{Bool, false}
-use mathlib.Core.List.{List, [], _++_}
-use Rattle.octets.specs.Octets.{Octets}
+use mathlib.Core.List.{List, [], _∷_, _++_}
+use Rattle.octets.specs.Octets.{Octets, pick}
+use Rattle.packets.specs.Packet.{readOf}
+use Rattle.packets.specs.Reserved.{rfuBy}
+use Rattle.model.specs.Kinds.{Way}
 use Rattle.model.specs.State.{State, withDown, withUp}
 
 pub data Call : Type 0 where
@@ -24,9 +27,10 @@ pub data Result : Type 0 where
   taken : Result
   refused : ℕ → Result
 
--- what a call does: the drop flag, the packets put on each wire, the message handed out, the state after it
+-- what a call does: the drop flag, the reserved bits that it tells, the packets put on each wire, the message handed out, the state after it
 pub record Effect : Type 0 where
   pub drop : Bool
+  pub rfu : ℕ
   pub toDown : List Octets
   pub toUp : List Octets
   pub message : List Octets
@@ -37,15 +41,27 @@ pub record Outcome : Type 0 where
   pub effect : Effect
 
 abbrev pub quiet : State → Effect
-quiet s = record { drop = false; toDown = []; toUp = []; message = []; next = s }
+quiet s = record { drop = false; rfu = 0; toDown = []; toUp = []; message = []; next = s }
 
 abbrev pub flaggedAs : Bool → State → Effect
-flaggedAs b s = record { drop = b; toDown = []; toUp = []; message = []; next = s }
+flaggedAs b s = record { drop = b; rfu = 0; toDown = []; toUp = []; message = []; next = s }
 
 -- packets are put on the down wire
 abbrev pub puttingDown : List Octets → State → Effect
-puttingDown ps s = record { drop = false; toDown = ps; toUp = []; message = []; next = withDown (s .down ++ ps) s }
+puttingDown ps s = record { drop = false; rfu = 0; toDown = ps; toUp = []; message = []; next = withDown (s .down ++ ps) s }
 
 -- packets are put on the up wire, with a drop flag and a message handed out
 abbrev pub puttingUp : Bool → List Octets → List Octets → State → Effect
-puttingUp b ps ms s = record { drop = b; toDown = []; toUp = ps; message = ms; next = withUp (s .up ++ ps) s }
+puttingUp b ps ms s = record { drop = b; rfu = 0; toDown = []; toUp = ps; message = ms; next = withUp (s .up ++ ps) s }
+
+-- ---- the reserved bits of the packet that a call takes
+
+-- those of the first packet of a wire, as reading tells them
+abbrev pub firstRfu : Way → List Octets → ℕ
+firstRfu way [] = 0
+firstRfu way (p ∷ w) = rfuBy way (readOf p)
+
+-- the same effect, which tells them; with the drop flag up it tells none
+abbrev pub telling : ℕ → Effect → Effect
+telling n e =
+    record { drop = e .drop; rfu = pick (e .drop) 0 n; toDown = e .toDown; toUp = e .toUp; message = e .message; next = e .next }

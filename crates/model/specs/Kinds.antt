@@ -4,6 +4,8 @@
 pub use Rattle.packets.specs.declared.Header.{Header}
 pub use Rattle.packets.specs.declared.Reading.{Reading}
 pub use Rattle.packets.specs.declared.Reading.the-variants as reading
+pub use Rattle.packets.specs.declared.Way.{Way}
+pub use Rattle.packets.specs.declared.Way.the-variants as way
 pub use Rattle.state.specs.declared.commands.Command.{Command}
 pub use Rattle.state.specs.declared.commands.Command.the-variants as command
 pub use Rattle.state.specs.declared.kinds.Activation.{Activation}

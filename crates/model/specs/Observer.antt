@@ -1,7 +1,7 @@
 -- The observer: what is counted from arguments, answers, packets put on wires and messages handed out, never from the bench's own
 -- numbers (document 01, "Demand 3 is a single claim about the list"). A refused call counts for nothing.
 -- Assumes nothing.
-use Prim.Native.Nat.{ℕ, _+_, _-_}
+use Prim.Native.Nat.{ℕ, _+_}
 use mathlib.Core.Bool.{Bool, true, false}
 use mathlib.Core.List.{List, [], _∷_, _++_}
 use lib.Dec.{eqb}
@@ -21,6 +21,7 @@ pub record Event : Type 0 where
   pub call : Call
   pub answer : Result
   pub dropped : Bool
+  pub rfu : ℕ
   pub toDown : List Octets
   pub toUp : List Octets
   pub message : List Octets
@@ -206,6 +207,7 @@ eventOf c r =
       call = c;
       answer = r .answer;
       dropped = r .effect .drop;
+      rfu = r .effect .rfu;
       toDown = r .effect .toDown;
       toUp = r .effect .toUp;
       message = r .effect .message;

@@ -9,7 +9,9 @@ use lib.ListN.{length}
 use Rattle.octets.specs.Octets.{Octets}
 use Rattle.model.specs.Kinds.{Header}
 use Rattle.model.specs.Kinds.reading.{Packet}
+use Rattle.model.specs.Kinds.way as way
 use Rattle.packets.specs.Packet.{readOf}
+use Rattle.packets.specs.Reserved.{rfuBy}
 use Rattle.packets.specs.Segments.{Segment, more, last, body}
 use Rattle.packets.specs.Reassembly.{Run, run, lost}
 use Rattle.state.specs.Conn.{termsOf}
@@ -130,6 +132,9 @@ pub record Wires (s : State) : Type 0 where
   pub down-kinds : Each (λ p. GoesDown (meaning p)) (s .down)
   pub up : Each (λ p. WellFormed p) (s .up)
   pub up-kinds : Each (λ p. GoesUp (meaning p)) (s .up)
+  -- no sender leaves a reserved bit at 1
+  pub down-rfu : Each (λ p. rfuBy way.Down (readOf p) ≡ 0) (s .down)
+  pub up-rfu : Each (λ p. rfuBy way.Up (readOf p) ≡ 0) (s .up)
 
 -- ---- data on the up wire
 

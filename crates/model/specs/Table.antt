@@ -17,9 +17,9 @@ use Rattle.model.specs.Observer.{Event, eventOf, events, after}
 
 -- ---- calls with what is seen of them
 
--- the call is taken: the packets put on the down wire, those put on the up wire, the messages handed out; no drop flag
+-- the call is taken: the packets put on the down wire, those put on the up wire, the messages handed out; no drop flag, no reserved bit
 abbrev pub shows : Call → List Octets → List Octets → List Octets → Event
-shows c d u ms = record { call = c; answer = taken; dropped = false; toDown = d; toUp = u; message = ms }
+shows c d u ms = record { call = c; answer = taken; dropped = false; rfu = 0; toDown = d; toUp = u; message = ms }
 
 -- one packet goes on the down wire, or one on the up wire, or nothing is to be seen
 abbrev pub goesDown : Call → Octets → Event
@@ -33,7 +33,7 @@ quietly c = shows c [] [] []
 
 -- the call is not taken
 abbrev pub refusal : Call → ℕ → Event
-refusal c n = record { call = c; answer = refused n; dropped = false; toDown = []; toUp = []; message = [] }
+refusal c n = record { call = c; answer = refused n; dropped = false; rfu = 0; toDown = []; toUp = []; message = [] }
 
 abbrev pub callsOf : List Event → List Call
 callsOf es = map (λ (e : Event). e .call) es

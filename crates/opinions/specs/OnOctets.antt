@@ -11,12 +11,12 @@ use Rattle.calls.specs.Seen.{noPuts}
 use Rattle.calls.specs.calls.Fresh.{freshCall}
 use Rattle.calls.specs.Demand.{Key, AllOctal, seenIn}
 use Rattle.calls.specs.Played.{callsIn, AllRoom}
-use Rattle.opinions.specs.Shown.{Line, line, numberOf, joined, profile}
+use Rattle.opinions.specs.Shown.{Line, numberOf, joined, profile}
 use Rattle.opinions.specs.FirstPaper.{paper, paperShows}
 
 -- the line of what is seen of a call
 abbrev pub seenLine : Event → Line
-seenLine e = line (numberOf (e .answer)) (e .dropped) (joined (e .toDown) ++ joined (e .toUp)) (e .message)
+seenLine e = record { answer = numberOf (e .answer); drop = e .dropped; rfu = e .rfu; packets = joined (e .toDown) ++ joined (e .toUp); message = e .message }
 
 abbrev pub PaperOnOctets : Type 0
 PaperOnOctets =

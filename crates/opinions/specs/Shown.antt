@@ -1,4 +1,4 @@
--- A list of calls as the paper sheet shows it: for each call its answer, the drop flag, the octets put on wires and the message.
+-- A list of calls as the paper sheet shows it: for each call its answer, the drop flag, the reserved bits, the octets put on wires and the message.
 -- Assumes nothing.
 use Prim.Native.Nat.{ℕ, zero, suc, _/_, _%_}
 use mathlib.Core.Bool.{Bool, false}
@@ -40,12 +40,14 @@ hex n x = hexBefore [] n x
 pub record Line : Type 0 where
   pub answer : ℕ
   pub drop : Bool
+  pub rfu : ℕ
   pub packets : Octets
   -- none or one
   pub message : List Octets
 
+-- of a list of calls none has a reserved bit to show
 abbrev pub line : ℕ → Bool → Octets → List Octets → Line
-line a d p m = record { answer = a; drop = d; packets = p; message = m }
+line a d p m = record { answer = a; drop = d; rfu = 0; packets = p; message = m }
 
 -- the lines that are met most: not taken; taken with nothing to show, with packets put, with a message handed out
 abbrev pub refusal : ℕ → Line
@@ -71,7 +73,9 @@ joined [] = []
 joined (p ∷ ps) = p ++ joined ps
 
 abbrev pub lineOf : Outcome → Line
-lineOf o = line (numberOf (o .answer)) (o .effect .drop) (joined (o .effect .toDown) ++ joined (o .effect .toUp)) (o .effect .message)
+lineOf o =
+    let e = o .effect in
+    record { answer = numberOf (o .answer); drop = e .drop; rfu = e .rfu; packets = joined (e .toDown) ++ joined (e .toUp); message = e .message }
 
 -- the profile and the bench that a sheet starts with
 abbrev pub profile : Octets

@@ -15,24 +15,27 @@ use Rattle.octets.specs.Octets.{Octets, pick, cut}
 use Rattle.packets.specs.Types.{mtData}
 use Rattle.packets.specs.declared.Header.{Header}
 use Rattle.packets.specs.declared.Reading.the-variants.{Packet}
+use Rattle.packets.specs.declared.Way.{Way}
+use Rattle.packets.specs.declared.Way.the-variants.{Down, Up}
 use Rattle.packets.specs.Packet.{octet0, octet1, oidOf, carriedOf, spareOf, packetOf, headerOf, readOf, payloadOf, carrying, credited, Writable}
+use Rattle.packets.specs.Reserved.{rfuOf, creditsGoing, packetWith}
 use Rattle.octets.proofs.Octets.{length-cut}
 use Rattle.packets.proofs.Packet.{read-whole, read-facts}
 
 -- ---- octet 0, written and read
 
 module _ (mt id : ℕ) where
-  octet0-mt : (pbf : Bool) → mt < 4 → octet0 mt pbf id / 32 ≡ mt
+  pub octet0-mt : (pbf : Bool) → mt < 4 → octet0 mt pbf id / 32 ≡ mt
   unfolding octet0
   octet0-mt true h = omega arith
   octet0-mt false h = omega arith
 
-  octet0-pbf : (pbf : Bool) → eqb (octet0 mt pbf id / 16 % 2) 1 ≡ pbf
+  pub octet0-pbf : (pbf : Bool) → eqb (octet0 mt pbf id / 16 % 2) 1 ≡ pbf
   unfolding octet0
   octet0-pbf true = eq-eqb ((mt % 8 * 32 + 16 + id % 16) / 16 % 2) 1 (omega arith)
   octet0-pbf false = ne-eqb ((mt % 8 * 32 + id % 16) / 16 % 2) 1 (omega arith)
 
-  octet0-id : (pbf : Bool) → id < 16 → octet0 mt pbf id % 16 ≡ id
+  pub octet0-id : (pbf : Bool) → id < 16 → octet0 mt pbf id % 16 ≡ id
   unfolding octet0
   octet0-id true h = omega arith
   octet0-id false h = omega arith
@@ -120,20 +123,29 @@ module _ (first second : ℕ) (small : first < 256) (octet : second < 256) where
       go (yes e) = rw (ne-eqb (first / 16 % 2) 1 (λ (z : first / 16 % 2 ≡ 1). omega arith), top, low) (omega (arith, half))
       go (no e) = rw (eq-eqb (first / 16 % 2) 1 (omega arith), top, low) (omega (arith, half))
 
-  octet1-read : (mt : ℕ) → spareOf mt second ≡ 0 → octet1 mt (oidOf mt second) (carriedOf mt second) ≡ second
+  -- octet 1 is its fields and the bits that are none
+  octet1-parts : (mt : ℕ) → octet1 mt (oidOf mt second) (carriedOf mt second) + spareOf mt second ≡ second
   unfolding octet1 oidOf carriedOf spareOf
-  octet1-read mt = go (decLe mt 0)
+  octet1-parts mt = go (eqb mt 0)
     where
-      go : Dec (mt ≤ 0) → pick (eqb mt 0) (second / 4 * 4) (second / 64 * 64) ≡ 0
-          → pick (eqb mt 0) (pick (eqb mt 0) (second % 4) 0 % 4) (pick (eqb mt 0) 0 (second % 64) % 64) ≡ second
-      go (yes e) h =
-          let t = eq-eqb mt 0 (omega arith) in
-          let s : second / 4 * 4 ≡ 0 = rw t at h in
-          rw t (omega arith)
-      go (no n) h =
-          let t = ne-eqb mt 0 (λ (z : mt ≡ 0). n (omega arith)) in
-          let s : second / 64 * 64 ≡ 0 = rw t at h in
-          rw t (omega arith)
+      go : (b : Bool) → pick b (pick b (second % 4) 0 % 4) (pick b 0 (second % 64) % 64) + pick b (second / 4 * 4) (second / 64 * 64) ≡ second
+      go true = omega arith
+      go false = omega arith
+
+  -- going down, CR is none of its fields
+  octet1-down : (mt : ℕ) → octet1 mt (oidOf mt second) 0 + (spareOf mt second / 4 * 4 + carriedOf mt second % 4) ≡ second
+  unfolding octet1 oidOf carriedOf spareOf
+  octet1-down mt = go (eqb mt 0)
+    where
+      go : (b : Bool)
+          → pick b 0 (pick b 0 (second % 64) % 64) + (pick b (second / 4 * 4) (second / 64 * 64) / 4 * 4 + pick b (second % 4) 0 % 4) ≡ second
+      go true = omega arith
+      go false = omega arith
+
+  octet1-again : (way : Way) → let h = headerOf first second in octet1 (h .mt) (h .oid) (creditsGoing way (h .credits)) + rfuOf way h ≡ second
+  unfolding headerOf
+  octet1-again Down = octet1-down (first / 32)
+  octet1-again Up = octet1-parts (first / 32)
 
 -- the first three octets, and the rest
 three : (p : Octets) → 3 ≤ length p → p ≡ getD p 0 0 ∷ getD p 1 0 ∷ getD p 2 0 ∷ drop 3 p
@@ -142,21 +154,28 @@ three (x ∷ []) h = absurd (not-suc-le-zero (le-of-suc-le-suc h))
 three (x ∷ y ∷ []) h = absurd (not-suc-le-zero (le-of-suc-le-suc (le-of-suc-le-suc h)))
 three (x ∷ y ∷ z ∷ p) h = refl
 
--- the packet itself, up to its stated length, where no spare bit of it is set
+-- the packet itself, up to its stated length, its reserved bits with it
 module _ (p : Octets) (octets : (i : ℕ) → getD p i 0 < 256) where
-  written-whole : 3 ≤ length p → getD p 2 0 ≤ length p - 3 → headerOf (getD p 0 0) (getD p 1 0) .spare ≡ 0
-      → packetOf (headerOf (getD p 0 0) (getD p 1 0)) (payloadOf p (getD p 2 0)) ≡ take (3 + getD p 2 0) p
-  unfolding packetOf headerOf cut
-  written-whole long room z =
+  again-whole : (way : Way) → 3 ≤ length p → getD p 2 0 ≤ length p - 3
+      → let h = headerOf (getD p 0 0) (getD p 1 0) in packetWith way (rfuOf way h) h (payloadOf p (getD p 2 0)) ≡ take (3 + getD p 2 0) p
+  unfolding packetWith headerOf cut
+  again-whole way long room =
       let first = octet0-read (getD p 0 0) (getD p 1 0) (octets 0) (octets 1) in
-      let second = octet1-read (getD p 0 0) (getD p 1 0) (octets 0) (octets 1) _ z in
+      let second = octet1-again (getD p 0 0) (getD p 1 0) (octets 0) (octets 1) way in
       let third = length-cut 3 (getD p 2 0) p (omega arith) in
       let n : 3 + getD p 2 0 ≡ suc (suc (suc (getD p 2 0))) = omega arith in
       (λ i. first i ∷ second i ∷ third i ∷ take (getD p 2 0) (drop 3 p)) ∙ sym (λ i. take (n i) (three p long i))
 
-  pub written-read : (h : Header) (n : ℕ) → readOf p ≡ Packet h n → h .spare ≡ 0 → packetOf h (payloadOf p n) ≡ take (3 + n) p
-  written-read h n e z =
+  pub written-again : (way : Way) (h : Header) (n : ℕ) → readOf p ≡ Packet h n → packetWith way (rfuOf way h) h (payloadOf p n) ≡ take (3 + n) p
+  written-again way h n e =
       let w = read-facts p h n e in
-      (λ i. packetOf (w .header i) (payloadOf p (w .size i)))
-      ∙ written-whole (w .long) (w .room) (sym (ap (λ (k : Header). k .spare) (w .header)) ∙ z)
+      (λ i. packetWith way (rfuOf way (w .header i)) (w .header i) (payloadOf p (w .size i)))
+      ∙ again-whole way (w .long) (w .room)
       ∙ ap (λ (k : ℕ). take (3 + k) p) (sym (w .size))
+
+  -- where no spare bit of it is set, as a writer writes it
+  pub written-read : (h : Header) (n : ℕ) → readOf p ≡ Packet h n → h .spare ≡ 0 → packetOf h (payloadOf p n) ≡ take (3 + n) p
+  unfolding packetOf packetWith
+  written-read h n e z =
+      let bare : octet1 (h .mt) (h .oid) (h .credits) ≡ octet1 (h .mt) (h .oid) (h .credits) + h .spare = omega (arith, z) in
+      (λ i. octet0 (h .mt) (h .pbf) (h .id) ∷ bare i ∷ length (payloadOf p n) ∷ payloadOf p n) ∙ written-again Up h n e

@@ -5,6 +5,7 @@ ghost use Prim.Native.Nat.{_+_, _*_, _/_, _%_, _≤_};
 ghost use lib.ListN.{length};
 ghost use lib.Dec.{ltb};
 ghost use Rattle.packets.specs.Packet.{octet0, octet1, oidOf, carriedOf, spareOf, readOf, payloadOf, carrying, Written};
+ghost use Rattle.packets.specs.Reserved.{rfuOf};
 ghost use Rattle.packets.specs.Segments.{segments, segmentAt, marked, body, flag};
 
 // Message types (003, Table 2). 4 to 7 are RFU.
@@ -26,6 +27,12 @@ pub struct Header {
     pub oid: u8,
     pub credits: u8,
     pub spare: u8,
+}
+
+// Which way a packet goes: down to the controller, or up to the host.
+pub enum Way {
+    Down,
+    Up,
 }
 
 // What reading finds: a packet's header and the length of its payload, or a packet to drop.
@@ -148,6 +155,17 @@ pub fn set_credits(p: &mut [u8], n: u8)
 {
     if 1 < p.len() {
         p[1] = recredited(p[1], n);
+    }
+}
+
+// The reserved bits of octet 1 that a sender left at 1, in their places, from the header that was read: going down those of the
+// credits too, which data carries only going up.
+pub fn rfu(way: Way, h: Header) -> u8
+    ensures { λ r. ⌜ r ≡ rfuOf way h ⌝ }
+{
+    match way {
+        Way::Down => recredited(h.spare, h.credits),
+        Way::Up => h.spare,
     }
 }
 

@@ -21,7 +21,7 @@ use Rattle.sheet.proofs.Fitting.{answer-short}
 
 module _ (l a out : Octets) where
   -- the text has room for every answer, so all of it is written
-  pub answers : (t after : Octets) (n : ℕ) (x : Answer) → answerTo l a out ≡ x → length t ≡ 18600 → Wrote t 0 (x .line) n after
+  pub answers : (t after : Octets) (n : ℕ) (x : Answer) → answerTo l a out ≡ x → length t ≡ 18608 → Wrote t 0 (x .line) n after
       → Answers (answerTo l a out) t n after (x .area) (x .out)
   answers t after n x e long w =
       let short = ap (λ (y : Answer). length (y .line)) e in

@@ -11,6 +11,7 @@ use borrow.Author.Tests.{ltb-true, ltb-false, leb-false, ne-eqb, not-false}
 use lib.ListN.{length, getD, length-append, length-take}
 use lib.Dec.{ltb, eqb}
 use Rattle.octets.specs.Octets.{Octets, pick, cut}
+use Rattle.packets.specs.Packet.{readOf}
 use Rattle.state.specs.Conn.{openAt}
 use Rattle.state.proofs.Chains.{and-right, on}
 use Rattle.state.proofs.Progress.{done-room}
@@ -25,9 +26,10 @@ use Rattle.model.specs.Bench.{rules}
 use Rattle.model.proofs.Needs.{need}
 use Rattle.calls.specs.Kinds.{Record, Reading}
 use Rattle.calls.specs.Kinds.reading.{Packet, Drop}
-use Rattle.calls.specs.Word.{wordOf, answerIn, droppedIn, handedIn, lengthIn, downIn, upIn}
+use Rattle.calls.specs.Word.{wordOf, wordTelling, answerIn, droppedIn, handedIn, lengthIn, downIn, upIn, rfuIn}
 use Rattle.calls.specs.Outcome.{Outcome, outcome, decided, entryRules, called}
 use Rattle.calls.specs.Packet.{wireRing, packetBack, packetRules, shownPacket, packetCall, handedBy, lastPackets}
+use Rattle.calls.specs.Read.{foundWord, readCall}
 use Rattle.calls.specs.calls.Fresh.{roomRules, freshCall}
 use Rattle.calls.specs.calls.Power.{powerCall}
 use Rattle.calls.specs.calls.Command.{commandCall}
@@ -42,15 +44,15 @@ use Rattle.calls.specs.calls.Air.{airCall}
 use Rattle.calls.specs.calls.Report.{reportCall}
 use Rattle.calls.proofs.Rules.{small, numbered, refused-small}
 use Rattle.calls.proofs.Called.{sound-area}
-use Rattle.calls.proofs.Words.{word-length}
+use Rattle.calls.proofs.Words.{word-length, told-length}
 use Rattle.calls.proofs.Showing.{wire-fits, length-slot}
 use Rattle.ascii.proofs.Digits.{length-hex, length-decimal}
 use Rattle.sheet.specs.Kinds.{Name}
-use Rattle.sheet.specs.Kinds.name.{Fresh, Power, Command, Send, Push, Down, Consume, Credit, Air, Reply, Up, Report, Bad}
+use Rattle.sheet.specs.Kinds.name.{Fresh, Power, Command, Send, Push, Down, Consume, Credit, Air, Reply, Up, Report, Read, Bad}
 use Rattle.forms.specs.Names.{textOf, isBad}
 use Rattle.forms.specs.Form.{evLabel, argsOf, asks}
 use Rattle.sheet.specs.Play.{played}
-use Rattle.sheet.specs.Show.{zeroBuffer, joined, wireShown, putOn, messageText, eventField, answerField, dropField, packetField, messageField, lineOf, numberOf}
+use Rattle.sheet.specs.Show.{zeroBuffer, joined, wireShown, putOn, messageText, eventField, answerField, dropField, rfuField, packetField, messageField, lineOf, numberOf}
 use Rattle.sheet.specs.Sheet.{Answer, answerTo}
 use Rattle.forms.proofs.Naming.{name-short}
 use Rattle.sheet.proofs.Showing.{joined-append}
@@ -154,6 +156,10 @@ worded d h len down up s = omega (arith, word-length d h len down up (omega arit
 quietly : (d : Bool) (down up : ℕ) → lengthIn (wordOf d false 0 down up) ≤ messageSize
 quietly d down up = worded d false 0 down up (omega arith)
 
+-- reserved bits say nothing of a message
+telling-modest : (n w : ℕ) → lengthIn w ≤ messageSize → lengthIn (wordTelling n w) ≤ messageSize
+telling-modest n w h = omega (arith, told-length n w)
+
 down-modest : (t : Record) (slot : ℕ) (x : Reading) (a out : Octets) → Modest (arrived t slot x a out)
 unfolding arrived dataDown commandDown
 down-modest t slot (Packet h n) a out =
@@ -180,21 +186,26 @@ up-modest r (Packet h n) a out =
     (λ _. on Modest (eqb (h .mt) 1) (λ _. quietly _ _ _) (λ _. quietly _ _ _))
 up-modest r Drop a out = quietly _ _ _
 
+read-modest : (x : Reading) → lengthIn (foundWord x) ≤ messageSize
+read-modest (Packet h n) = telling-modest _ _ (quietly _ _ _)
+read-modest Drop = quietly _ _ _
+
 pub play-modest : (x : Name) (m a out : Octets) → Modest (played x m a out)
-unfolding freshCall powerCall commandCall sendCall pushCall downCall consumeCall creditCall replyCall upCall airCall reportCall
+unfolding freshCall powerCall commandCall sendCall pushCall downCall consumeCall creditCall replyCall upCall airCall reportCall readCall
 play-modest Fresh m a out =
     decided-by Modest (roomRules (length a) (length out) ++ rules (fresh m) (viewOf a)) _ a out refl (λ _. quietly _ _ _) (λ n h. number-length n h)
 play-modest Power m a out = called-by Modest (rules power (viewOf a)) _ a out refl (λ _. quietly _ _ _) (λ n h. number-length n h)
 play-modest Command m a out = called-by Modest _ _ a out refl (λ _. quietly _ _ _) (λ n h. number-length n h)
 play-modest Send m a out = called-by Modest _ _ a out refl (λ _. quietly _ _ _) (λ n h. number-length n h)
 play-modest Push m a out = called-by Modest _ _ a out refl (λ _. quietly _ _ _) (λ n h. number-length n h)
-play-modest Down m a out = called-by Modest _ _ a out refl (λ _. down-modest (tookDown (decodeOf a)) (downSlot (decodeOf a)) (downRead (decodeOf a) a) a out) (λ n h. number-length n h)
+play-modest Down m a out = called-by Modest _ _ a out refl (λ _. telling-modest _ _ (down-modest (tookDown (decodeOf a)) (downSlot (decodeOf a)) (downRead (decodeOf a) a) a out)) (λ n h. number-length n h)
 play-modest Consume m a out = called-by Modest _ _ a out refl (λ _. consume-modest (decodeOf a) (getD m 0 0) (oldestRead (decodeOf a) (getD m 0 0) a) a out) (λ n h. number-length n h)
 play-modest Credit m a out = called-by Modest _ _ a out refl (λ _. quietly _ _ _) (λ n h. number-length n h)
 play-modest Air m a out = called-by Modest _ _ a out refl (λ _. quietly _ _ _) (λ n h. number-length n h)
 play-modest Reply m a out = called-by Modest _ _ a out refl (λ _. quietly _ _ _) (λ n h. number-length n h)
-play-modest Up m a out = called-by Modest _ _ a out refl (λ _. up-modest (decodeOf a) (upRead (decodeOf a) a) a out) (λ n h. number-length n h)
+play-modest Up m a out = called-by Modest _ _ a out refl (λ _. telling-modest _ _ (up-modest (decodeOf a) (upRead (decodeOf a) a) a out)) (λ n h. number-length n h)
 play-modest Report m a out = called-by Modest _ _ a out refl (λ _. worded false true 5 0 0 (omega arith)) (λ n h. number-length n h)
+play-modest Read m a out = on (λ (w : ℕ). lengthIn w ≤ messageSize) (ltb slotSize (length m)) (λ _. number-length 3 (omega arith)) (λ _. read-modest (readOf m))
 play-modest Bad m a out = number-length 3 (omega arith)
 
 -- ---- the line
@@ -220,26 +231,28 @@ wires-short o =
     )
 
 -- each field, and all of them
-line-short : (x : Name) (o : Outcome) → Modest o → length (lineOf x o) ≤ 18599
+line-short : (x : Name) (o : Outcome) → Modest o → length (lineOf x o) ≤ 18607
 line-short x o h =
     let w = o .word in
     let event : length (eventField x) ≤ 10 = omega (arith, length-append evLabel (textOf x), name-short x) in
     let answer : length (answerField w) ≤ 8 = omega (arith, length-decimal (numberOf (answerIn w))) in
     let flag : length (dropField w) ≤ 9 = omega (arith, length-decimal (bit (droppedIn w))) in
+    let bits : length (rfuField w) ≤ 7 = omega (arith, length-hex (rfuIn w ∷ [])) in
     let packets : length (packetField o) ≤ 5 + 4 * (slotSize * wireSlots) = omega (arith, length-hex (putOn o), wires-short o) in
     let message : length (messageField o) ≤ 5 + 2 * messageSize = omega (arith, text-short o h) in
     omega (
       arith,
       length-append (eventField x) (answerField w),
       length-append (eventField x ++ answerField w) (dropField w),
-      length-append (eventField x ++ answerField w ++ dropField w) (packetField o),
-      length-append (eventField x ++ answerField w ++ dropField w ++ packetField o) (messageField o),
+      length-append (eventField x ++ answerField w ++ dropField w) (rfuField w),
+      length-append (eventField x ++ answerField w ++ dropField w ++ rfuField w) (packetField o),
+      length-append (eventField x ++ answerField w ++ dropField w ++ rfuField w ++ packetField o) (messageField o),
     )
 
 -- what answers any line
-pub answer-short : (l a out : Octets) → length (answerTo l a out .line) ≤ 18599
+pub answer-short : (l a out : Octets) → length (answerTo l a out .line) ≤ 18607
 unfolding answerTo
 answer-short l a out =
-    on (λ (x : Answer). length (x .line) ≤ 18599) (isBad (asks l))
+    on (λ (x : Answer). length (x .line) ≤ 18607) (isBad (asks l))
     (λ _. omega (arith, length-decimal (numberOf (answerIn 3))))
     (λ _. line-short (asks l) _ (play-modest (asks l) (argsOf l) a out))

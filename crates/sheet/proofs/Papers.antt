@@ -1,4 +1,4 @@
--- Document 01's three lines and a first paper: `FirstPapers` of `specs/FirstPapers.antt`. What the model shows is computed; what is printed is that.
+-- Document 01's three lines, lines that read packets, and a first paper: `FirstPapers` of `specs/FirstPapers.antt`. What the model shows is computed; what is printed is that.
 -- Assumes nothing.
 use mathlib.Core.Path.{_≡_, refl, _∙_}
 use Rattle.octets.specs.Octets.{cut}
@@ -24,13 +24,17 @@ use Rattle.ascii.specs.Words.{sameAs, startsWith, upTo}
 use Rattle.forms.specs.Names.{among}
 use Rattle.forms.specs.Form.{formed, argsOf, asks}
 use Rattle.sheet.specs.Show.{joined}
-use Rattle.sheet.specs.Paper.{modelled, firstProfile}
-use Rattle.sheet.specs.FirstPapers.{threeLines, threeAnswers, firstPaper, firstAnswers, FirstPapers}
+use Rattle.sheet.specs.Paper.{readLine, modelled, firstProfile}
+use Rattle.sheet.specs.FirstPapers.{threeLines, threeAnswers, readLines, readAnswers, firstPaper, firstAnswers, FirstPapers}
 use Rattle.sheet.proofs.Playing.{papers}
 
 three-lines : modelled threeLines (cold (profileIn firstProfile)) ≡ threeAnswers
 unfolding threeLines threeAnswers modelled asks argsOf formed among joined digitOf valueOf hexOf allDigits isHex octetsIn decimalOf sameAs startsWith upTo bit cut octet0 octet1 packetOf oidOf carriedOf spareOf headerOf readOf segmentsWithin segments placeOf connOf termsOf commandOf shortest allowed resetBy judgeOf controllerAfter responseOf noticeMessage meaning first step
 three-lines = refl
+
+read-lines : modelled readLines (cold (profileIn firstProfile)) ≡ readAnswers
+unfolding readLines readAnswers modelled asks argsOf formed among joined digitOf valueOf hexOf allDigits isHex octetsIn decimalOf sameAs startsWith upTo bit cut oidOf carriedOf spareOf headerOf readOf readLine
+read-lines = refl
 
 first-paper : modelled firstPaper (cold (profileIn firstProfile)) ≡ firstAnswers
 unfolding firstPaper firstAnswers modelled asks argsOf formed among joined digitOf valueOf hexOf allDigits isHex octetsIn decimalOf sameAs startsWith upTo bit cut octet0 octet1 packetOf oidOf carriedOf spareOf headerOf readOf carrying segmentsWithin segments placeOf connOf termsOf carriable commandOf shortest allowed resetBy after seek nextId createBy judgeOf controllerAfter entriesFrom entryCount responseOf noticeMessage noticeOf zeros initWritten createWritten entriesOk creditsWritten written answerOf heardAlone hearOf creditsIn namesClosed hostAfter dropHeard meaning dataCount insideOf countedUp first allZero step
@@ -40,5 +44,6 @@ pub first-papers : FirstPapers
 first-papers =
     record {
       three = λ a out o long room. papers .fromFresh threeLines a out o long room ∙ three-lines;
+      reads = λ a out o long room. papers .fromFresh readLines a out o long room ∙ read-lines;
       paper = λ a out o long room. papers .fromFresh firstPaper a out o long room ∙ first-paper;
     }

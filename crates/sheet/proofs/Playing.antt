@@ -2,24 +2,27 @@
 -- Assumes nothing.
 use Prim.Native.Nat.{ℕ, _≤_}
 use mathlib.Core.Path.{_≡_, refl, sym, ap, _∙_, subst}
-use mathlib.Core.Bool.{Bool, true, not}
+use mathlib.Core.Bool.{Bool, true, false, not}
 use mathlib.Core.List.{List, [], _∷_, _++_}
 use native.Mathlib.Omega.{arith}
 use lib.ListN.{length, getD, drop, length-replicate}
-use lib.Dec.{eqb}
-use Rattle.octets.specs.Octets.{Octets, pick, splice}
+use lib.Dec.{eqb, ltb}
+use borrow.Author.Tests.{ltb-true, ltb-false}
+use Rattle.octets.specs.Octets.{Octets, pick, cut, splice}
 use Rattle.octets.specs.Octal.{Octal}
 use Rattle.octets.proofs.Octets.{length-splice}
 use Rattle.octets.proofs.Octal.{octal-drop}
+use Rattle.packets.specs.Packet.{readOf}
 use Rattle.state.proofs.Chains.{on}
 use Rattle.state.specs.Conn.{openAt}
 use Rattle.state.specs.Profile.{profileIn, profileOctetsOk}
-use Rattle.area.specs.Map.{areaSize, messageSize}
+use Rattle.area.specs.Map.{areaSize, messageSize, slotSize}
+use Rattle.record.specs.Layout.{bit}
 use Rattle.record.specs.Reading.{decodeOf}
 use Rattle.views.specs.View.{viewOf}
 use Rattle.model.specs.State.{State, cold}
 use Rattle.model.specs.Refusals.{first}
-use Rattle.model.specs.Effects.{Call, taken, refused, fresh, power, command, send, push, down, consume, credit, air, reply, up, report}
+use Rattle.model.specs.Effects.{Call, Result, taken, refused, fresh, power, command, send, push, down, consume, credit, air, reply, up, report}
 use Rattle.model.specs.Bench.{step, rules}
 use Rattle.model.specs.Observer.{Account, opening, observe, eventOf}
 use Rattle.model.specs.Grants.{WithinGrants}
@@ -30,8 +33,10 @@ use Rattle.model.proofs.Trace.{step-keeps}
 use Rattle.model.proofs.Never.{kept-within}
 use Rattle.calls.specs.Kinds.{Record, Reading}
 use Rattle.calls.specs.Kinds.reading.{Packet, Drop}
-use Rattle.calls.specs.Outcome.{Outcome, called}
-use Rattle.calls.specs.Packet.{handedBy}
+use Rattle.calls.specs.Word.{lengthIn}
+use Rattle.calls.specs.Outcome.{Outcome, outcome}
+use Rattle.calls.specs.Packet.{handedBy, lastPackets}
+use Rattle.calls.specs.Read.{readCall, Says, ReadSays}
 use Rattle.calls.specs.Seen.{Puts, noPuts, putsAfter}
 use Rattle.calls.specs.Refines.{Good, Along, Refines}
 use Rattle.calls.specs.calls.Fresh.{roomRules, freshed, freshCall}
@@ -47,6 +52,7 @@ use Rattle.calls.specs.calls.Up.{upRead, receivedJoin, receivedUp, comingUp, re
 use Rattle.calls.specs.calls.Air.{airCall}
 use Rattle.calls.specs.calls.Report.{reportCall}
 use Rattle.calls.proofs.Displaying.{refined-shown}
+use Rattle.calls.proofs.Read.{read-says}
 use Rattle.calls.proofs.Starting.{fresh-refines, power-refines, fresh-good, fresh-view, fresh-along, fresh-own}
 use Rattle.calls.proofs.Commanding.{command-refines}
 use Rattle.calls.proofs.Sending.{send-refines}
@@ -58,15 +64,15 @@ use Rattle.calls.proofs.Replying.{reply-refines}
 use Rattle.calls.proofs.Coming.{up-refines}
 use Rattle.calls.proofs.Airing.{air-refines}
 use Rattle.calls.proofs.Reporting.{report-refines}
-use Rattle.ascii.specs.Digits.{hexOf}
+use Rattle.ascii.specs.Digits.{hexOf, decimalOf}
 use Rattle.sheet.specs.Kinds.{Name}
-use Rattle.sheet.specs.Kinds.name.{Fresh, Power, Command, Send, Push, Down, Consume, Credit, Air, Reply, Up, Report, Bad}
+use Rattle.sheet.specs.Kinds.name.{Fresh, Power, Command, Send, Push, Down, Consume, Credit, Air, Reply, Up, Report, Read, Bad}
 use Rattle.forms.specs.Names.{isBad}
 use Rattle.forms.specs.Form.{argsOf, asks}
 use Rattle.sheet.specs.Play.{played}
-use Rattle.sheet.specs.Show.{pktLabel, zeroBuffer, joined, eventField, answerField, dropField, messageField, lineOf}
+use Rattle.sheet.specs.Show.{ansLabel, dropLabel, rfuLabel, pktLabel, msgLabel, numberOf, zeroBuffer, joined, wireShown, messageText, eventField, answerField, dropField, rfuField, messageField, lineOf}
 use Rattle.sheet.specs.Sheet.{Answer, refusedLine, shown, answerTo}
-use Rattle.sheet.specs.Paper.{printed, callsOf, eventLine, lineBy, nextBy, modelled, firstProfile, AllWithin, Papers}
+use Rattle.sheet.specs.Paper.{printed, Asks, calls, reads, nothing, asksOf, lineWith, eventLine, foundLine, readLine, lineBy, nextBy, modelled, firstProfile, AllWithin, Papers}
 use Rattle.forms.proofs.Forming.{args-octal}
 use Rattle.sheet.proofs.Fitting.{called-by, decided-by}
 
@@ -78,8 +84,33 @@ seen-line x c p a o r w =
     let room : (i : ℕ) → messageSize ≤ length (zeroBuffer i) = λ i. omega (arith, length-replicate {A = ℕ} messageSize 0) in
     let put = refined-shown zeroBuffer c p a o r w room in
     (λ i.
-    eventField x ++ answerField (o .word) ++ dropField (o .word) ++ (pktLabel ++ hexOf (joined (put .0 i) ++ joined (put .1 i))) ++ messageField o)
+    eventField x ++ answerField (o .word) ++ dropField (o .word) ++ rfuField (o .word) ++ (pktLabel ++ hexOf (joined (put .0 i) ++ joined (put .1 i))) ++ messageField o)
     ∙ ap (eventLine x) (r .event)
+
+-- ---- and so is that of octets that are read
+
+says-line : (x : Name) (w : ℕ) (r : Result) (d : Bool) (n : ℕ) (a out : Octets) → Says w r d n → lineOf x (outcome w a out) ≡ lineWith x r d n [] []
+unfolding handedBy lastPackets joined
+says-line x w r d n a out s i =
+    eventField x
+    ++ (ansLabel ++ decimalOf (numberOf (s .answers i)))
+    ++ (dropLabel ++ decimalOf (bit (s .drops i)))
+    ++ (rfuLabel ++ hexOf (s .tells i ∷ []))
+    ++ (pktLabel ++ hexOf (wireShown 0 (s .puts-down i) a ++ wireShown 1 (s .puts-up i) a))
+    ++ (msgLabel ++ messageText (pick (s .hands i) (cut 0 (lengthIn w) out ∷ []) []))
+
+read-line : (x : Name) (m a out : Octets) → Octal m → lineOf x (outcome (readCall m) a out) ≡ readLine x m
+unfolding readLine
+read-line x m a out o = go (ltb slotSize (length m)) refl (readOf m) refl
+  where
+    says : ReadSays m
+    says = read-says m o
+
+    go : (b : Bool) → ltb slotSize (length m) ≡ b → (r : Reading) → readOf m ≡ r
+        → lineOf x (outcome (readCall m) a out) ≡ pick b (lineWith x (refused 3) false 0 [] []) (foundLine x r)
+    go true l r e = says-line x (readCall m) _ _ _ a out (says .long (ltb-true slotSize (length m) l))
+    go false l (Packet h n) e = says-line x (readCall m) _ _ _ a out (says .packet h n (ltb-false slotSize (length m) l) e)
+    go false l Drop e = says-line x (readCall m) _ _ _ a out (says .dropped (ltb-false slotSize (length m) l) e)
 
 -- ---- the message buffer keeps its length
 
@@ -124,20 +155,21 @@ play-kept Air m a out = called-by (Kept out) _ _ a out refl (λ _. refl) (λ n h
 play-kept Reply m a out = called-by (Kept out) _ _ a out refl (λ _. refl) (λ n h. refl)
 play-kept Up m a out = called-by (Kept out) _ _ a out refl (λ _. up-kept (decodeOf a) (upRead (decodeOf a) a) a out) (λ n h. refl)
 play-kept Report m a out = called-by (Kept out) _ _ a out refl (λ _. length-splice out 0 _) (λ n h. refl)
+play-kept Read m a out = refl
 play-kept Bad m a out = refl
 
 -- ---- one line
 
-record Turn (x : Name) (cs : List Call) (s : State) (z : Answer) : Type 0 where
-  pub line : z .line ≡ lineBy x cs s
+record Turn (x : Name) (k : Asks) (s : State) (z : Answer) : Type 0 where
+  pub line : z .line ≡ lineBy x k s
   pub good : Good (z .area)
-  pub next : viewOf (z .area) ≡ nextBy cs s
+  pub next : viewOf (z .area) ≡ nextBy k s
   pub room : messageSize ≤ length (z .out)
   pub puts : Puts
   pub along : Along puts (z .area)
 
 by-call : (x : Name) (c : Call) (p : Puts) (a out : Octets) (o : Outcome) → Refines c p a o → WithinGrants (step c (viewOf a) .effect .next) → Kept out o → messageSize ≤ length out
-    → Turn x (c ∷ []) (viewOf a) (shown x o)
+    → Turn x (calls c) (viewOf a) (shown x o)
 by-call x c p a out o r w k room =
     record {
       line = seen-line x c p a o r w;
@@ -148,8 +180,8 @@ by-call x c p a out o r w k room =
       along = r .along;
     }
 
-turn : (x : Name) (m : Octets) (p : Puts) (a out : Octets) → Octal m → Good a → messageSize ≤ length out → Along p a → WithinGrants (nextBy (callsOf x m) (viewOf a))
-    → Turn x (callsOf x m) (viewOf a) (pick (isBad x) (refusedLine a out) (shown x (played x m a out)))
+turn : (x : Name) (m : Octets) (p : Puts) (a out : Octets) → Octal m → Good a → messageSize ≤ length out → Along p a → WithinGrants (nextBy (asksOf x m) (viewOf a))
+    → Turn x (asksOf x m) (viewOf a) (pick (isBad x) (refusedLine a out) (shown x (played x m a out)))
 turn Fresh m p a out o g r al w = by-call Fresh (fresh m) p a out _ (fresh-refines m p a out g r al) w (play-kept Fresh m a out) r
 turn Power m p a out o g r al w = by-call Power power p a out _ (power-refines a out g p r al) w (play-kept Power m a out) r
 turn Command m p a out o g r al w =
@@ -165,6 +197,7 @@ turn Air m p a out o g r al w = by-call Air (air m) p a out _ (air-refines m p a
 turn Reply m p a out o g r al w = by-call Reply reply p a out _ (reply-refines p a out g r al) w (play-kept Reply m a out) r
 turn Up m p a out o g r al w = by-call Up up p a out _ (up-refines p a out g r al) w (play-kept Up m a out) r
 turn Report m p a out o g r al w = by-call Report (report (getD m 0 0)) p a out _ (report-refines (getD m 0 0) p a out g r al) w (play-kept Report m a out) r
+turn Read m p a out o g r al w = record { line = read-line Read m a out o; good = g; next = refl; room = r; puts = p; along = al }
 turn Bad m p a out o g r al w = record { line = refl; good = g; next = refl; room = r; puts = p; along = al }
 
 -- ---- all of them
@@ -178,26 +211,28 @@ same-lines (l ∷ ls) p a out g r al w =
     let z = answerTo l a out in
     let t = turn x m p a out (args-octal l) g r al (w .0) in
     (λ i. t .line i ∷ printed ls (z .area) (z .out))
-    ∙ ap (λ (ws : List Octets). lineBy x (callsOf x m) (viewOf a) ∷ ws)
+    ∙ ap (λ (ws : List Octets). lineBy x (asksOf x m) (viewOf a) ∷ ws)
     (same-lines ls (t .puts) (z .area) (z .out) (t .good) (t .room) (t .along) (subst (AllWithin ls) (sym (t .next)) (w .1)) ∙ ap (modelled ls) (t .next))
 
 -- ---- on a bench of the model's invariant no line brings credits past a grant
 
 -- the account of a line's call, if it asks one
-abbrev accountBy : List Call → State → Account → Account
-accountBy [] s o = o
-accountBy (c ∷ cs) s o = observe (eventOf c (step c s)) o
+abbrev accountBy : Asks → State → Account → Account
+accountBy (calls c) s o = observe (eventOf c (step c s)) o
+accountBy (reads m) s o = o
+accountBy nothing s o = o
 
-line-keeps : (cs : List Call) (s : State) (o : Account) → bench.Kept s o → bench.Kept (nextBy cs s) (accountBy cs s o)
-line-keeps [] s o k = k
-line-keeps (c ∷ cs) s o k = step-keeps c s o k
+line-keeps : (x : Asks) (s : State) (o : Account) → bench.Kept s o → bench.Kept (nextBy x s) (accountBy x s o)
+line-keeps (calls c) s o k = step-keeps c s o k
+line-keeps (reads m) s o k = k
+line-keeps nothing s o k = k
 
 all-within : (ls : List Octets) (s : State) (o : Account) → bench.Kept s o → AllWithin ls s
 all-within [] s o k = tt
 all-within (l ∷ ls) s o k =
-    let cs = callsOf (asks l) (argsOf l) in
-    let next = line-keeps cs s o k in
-    (kept-within (nextBy cs s) (accountBy cs s o) next, all-within ls (nextBy cs s) (accountBy cs s o) next)
+    let x = asksOf (asks l) (argsOf l) in
+    let next = line-keeps x s o k in
+    (kept-within (nextBy x s) (accountBy x s o) next, all-within ls (nextBy x s) (accountBy x s o) next)
 
 first-ok : profileOctetsOk firstProfile ≡ true
 first-ok = refl

@@ -1,4 +1,4 @@
--- A printed line tells its event, answer, drop flag, packets and message: `Heard` of `specs/Told.antt`.
+-- A printed line tells its event, answer, drop flag, reserved bits, packets and message: `Heard` of `specs/Told.antt`.
 -- Assumes nothing.
 use Prim.Native.Nat.{ℕ, zero, suc, _+_, _/_, _≤_, _<_}
 use mathlib.Core.Path.{_≡_, refl, sym, ap, subst, _∙_}
@@ -6,7 +6,7 @@ use mathlib.Core.Bool.{Bool, true, false, _&&_}
 use mathlib.Core.List.{List, [], _∷_, _++_, append-assoc}
 use native.Mathlib.Omega.{arith}
 use borrow.Author.Tests.{ltb-true, ne-eqb}
-use lib.ListN.{length, drop, getD, replicate}
+use lib.ListN.{drop, getD, replicate}
 use Rattle.state.proofs.Chains.{on}
 use lib.Dec.{ltb, eqb}
 use Rattle.octets.specs.Octets.{Octets, pick, cut}
@@ -16,7 +16,7 @@ use Rattle.area.specs.Map.{slotSize, messageSize}
 use Rattle.area.specs.Ring.{slotAt, slotIn, trim, slotPacket}
 use Rattle.record.specs.Layout.{bit}
 use Rattle.record.specs.Reading.{decodeOf}
-use Rattle.calls.specs.Word.{answerIn, droppedIn, handedIn, lengthIn}
+use Rattle.calls.specs.Word.{answerIn, droppedIn, handedIn, lengthIn, rfuIn}
 use Rattle.calls.specs.Outcome.{Outcome, outcome}
 use Rattle.calls.specs.Packet.{packetBack, packetRules, shownPacket, packetCall, handedBy, lastPackets}
 use Rattle.ascii.specs.Letters as letter
@@ -25,11 +25,11 @@ use Rattle.ascii.specs.Digits.{digitOf, hexOf, octetsIn, numberFrom}
 use Rattle.ascii.proofs.Words.{Solid, solid-nil, solid-cons, solid-append, words-next, words-last, both}
 use Rattle.ascii.proofs.Digits.{digit-least, hex-solid, octets-hex, decimal-solid, number-decimal}
 use Rattle.sheet.specs.Kinds.{Name}
-use Rattle.sheet.specs.Kinds.name.{Fresh, Power, Command, Send, Push, Down, Consume, Credit, Air, Reply, Up, Report, Bad}
+use Rattle.sheet.specs.Kinds.name.{Fresh, Power, Command, Send, Push, Down, Consume, Credit, Air, Reply, Up, Report, Read, Bad}
 use Rattle.forms.specs.Names.{textOf}
 use Rattle.forms.specs.Form.{evLabel}
-use Rattle.sheet.specs.Show.{numberOf, zeroBuffer, joined, wireShown, putOn, messageText, eventField, answerField, dropField, packetField, messageField, lineOf}
-use Rattle.sheet.specs.Told.{Told, messageIn, toldBy, toTell, Real, Heard}
+use Rattle.sheet.specs.Show.{numberOf, zeroBuffer, joined, wireShown, putOn, messageText, eventField, answerField, dropField, rfuField, packetField, messageField, lineOf}
+use Rattle.sheet.specs.Told.{messageIn, toldBy, toTell, Real, Heard}
 use Rattle.sheet.proofs.Showing.{joined-append, number-answer}
 use Rattle.sheet.proofs.Fitting.{called-by}
 
@@ -59,6 +59,7 @@ name-solid Air = letters-solid (textOf Air) refl
 name-solid Reply = letters-solid (textOf Reply) refl
 name-solid Up = letters-solid (textOf Up) refl
 name-solid Report = letters-solid (textOf Report) refl
+name-solid Read = letters-solid (textOf Read) refl
 name-solid Bad = letters-solid (textOf Bad) refl
 
 event-solid : (x : Name) → Solid (eventField x)
@@ -71,22 +72,25 @@ message-solid [] = solid-nil
 message-solid ([] ∷ ms) = letters-solid (letter.dash ∷ []) refl
 message-solid ((x ∷ m) ∷ ms) = hex-solid (x ∷ m)
 
--- ---- five words with a blank between each two
+-- ---- six words with a blank between each two
 
-words-five : {a b c d e : Octets} → Solid a → Solid b → Solid c → Solid d → Solid e
-    → words (a ++ (32 ∷ b) ++ (32 ∷ c) ++ (32 ∷ d) ++ (32 ∷ e)) ≡ a ∷ b ∷ c ∷ d ∷ e ∷ []
-words-five {a} {b} {c} {d} {e} sa sb sc sd se =
+words-six : {a b c d e f : Octets} → Solid a → Solid b → Solid c → Solid d → Solid e → Solid f
+    → words (a ++ (32 ∷ b) ++ (32 ∷ c) ++ (32 ∷ d) ++ (32 ∷ e) ++ (32 ∷ f)) ≡ a ∷ b ∷ c ∷ d ∷ e ∷ f ∷ []
+words-six {a} {b} {c} {d} {e} {f} sa sb sc sd se sf =
     ap words
-    (append-assoc (a ++ (32 ∷ b) ++ (32 ∷ c)) (32 ∷ d) (32 ∷ e)
-    ∙ append-assoc (a ++ (32 ∷ b)) (32 ∷ c) ((32 ∷ d) ++ (32 ∷ e))
-    ∙ append-assoc a (32 ∷ b) ((32 ∷ c) ++ ((32 ∷ d) ++ (32 ∷ e))))
-    ∙ words-next sa (b ++ ((32 ∷ c) ++ ((32 ∷ d) ++ (32 ∷ e))))
+    (append-assoc (a ++ (32 ∷ b) ++ (32 ∷ c) ++ (32 ∷ d)) (32 ∷ e) (32 ∷ f)
+    ∙ append-assoc (a ++ (32 ∷ b) ++ (32 ∷ c)) (32 ∷ d) ((32 ∷ e) ++ (32 ∷ f))
+    ∙ append-assoc (a ++ (32 ∷ b)) (32 ∷ c) ((32 ∷ d) ++ ((32 ∷ e) ++ (32 ∷ f)))
+    ∙ append-assoc a (32 ∷ b) ((32 ∷ c) ++ ((32 ∷ d) ++ ((32 ∷ e) ++ (32 ∷ f)))))
+    ∙ words-next sa (b ++ ((32 ∷ c) ++ ((32 ∷ d) ++ ((32 ∷ e) ++ (32 ∷ f)))))
     ∙ ap (λ (ws : List Octets). a ∷ ws)
-    (words-next sb (c ++ ((32 ∷ d) ++ (32 ∷ e)))
+    (words-next sb (c ++ ((32 ∷ d) ++ ((32 ∷ e) ++ (32 ∷ f))))
     ∙ ap (λ (ws : List Octets). b ∷ ws)
-    (words-next sc (d ++ (32 ∷ e))
+    (words-next sc (d ++ ((32 ∷ e) ++ (32 ∷ f)))
     ∙ ap (λ (ws : List Octets). c ∷ ws)
-    (words-next sd e ∙ ap (λ (ws : List Octets). d ∷ ws) (words-last se))))
+    (words-next sd (e ++ (32 ∷ f))
+    ∙ ap (λ (ws : List Octets). d ∷ ws)
+    (words-next se f ∙ ap (λ (ws : List Octets). e ∷ ws) (words-last sf)))))
 
 -- a label without its blank
 abbrev after : Octets → Octets
@@ -106,6 +110,10 @@ bit-again : (b : Bool) → eqb (bit b) 1 ≡ b
 unfolding bit
 bit-again true = refl
 bit-again false = refl
+
+octal-rfu : (w : ℕ) → Octal (rfuIn w ∷ [])
+unfolding rfuIn
+octal-rfu w = octal-cons {x = rfuIn w} (omega arith) octal-nil
 
 -- ---- octets
 
@@ -169,15 +177,17 @@ line-words : (x : Name) (o : Outcome)
     ≡ eventField x
     ∷ after (answerField (o .word))
     ∷ after (dropField (o .word))
+    ∷ after (rfuField (o .word))
     ∷ after (packetField o)
     ∷ after (messageField o)
     ∷ []
 unfolding letters
 line-words x o =
-    words-five
+    words-six
     (event-solid x)
     (solid-append (letters-solid (letter.a ∷ letter.n ∷ letter.s ∷ letter.equals ∷ []) refl) (decimal-solid (numberOf (answerIn (o .word)))))
     (solid-append (letters-solid (letter.d ∷ letter.r ∷ letter.o ∷ letter.p ∷ letter.equals ∷ []) refl) (decimal-solid (bit (droppedIn (o .word)))))
+    (solid-append (letters-solid (letter.r ∷ letter.f ∷ letter.u ∷ letter.equals ∷ []) refl) (hex-solid (rfuIn (o .word) ∷ [])))
     (solid-append (letters-solid (letter.p ∷ letter.k ∷ letter.t ∷ letter.equals ∷ []) refl) (hex-solid (putOn o)))
     (solid-append (letters-solid (letter.m ∷ letter.s ∷ letter.g ∷ letter.equals ∷ []) refl) (message-solid (handedBy o)))
 
@@ -193,8 +203,10 @@ told-again x o real =
           (ap (λ (l : List Octets). eqb (numberFrom 0 (drop 5 (getD l 2 []))) 1) ws
           ∙ ap (λ (n : ℕ). eqb n 1) (number-decimal (bit (droppedIn w)) (bit-small (droppedIn w)))
           ∙ bit-again (droppedIn w)) i;
-      packets = (ap (λ (l : List Octets). octetsIn (drop 4 (getD l 3 []))) ws ∙ octets-hex (octal-put o (real .area))) i;
-      message = (ap (λ (l : List Octets). messageIn (drop 4 (getD l 4 []))) ws ∙ message-again o (real .out)) i;
+      rfu =
+          (ap (λ (l : List Octets). getD (octetsIn (drop 4 (getD l 3 []))) 0 0) ws ∙ ap (λ (l : Octets). getD l 0 0) (octets-hex (octal-rfu w))) i;
+      packets = (ap (λ (l : List Octets). octetsIn (drop 4 (getD l 4 []))) ws ∙ octets-hex (octal-put o (real .area))) i;
+      message = (ap (λ (l : List Octets). messageIn (drop 4 (getD l 5 []))) ws ∙ message-again o (real .out)) i;
     }
 
 pub heard : Heard

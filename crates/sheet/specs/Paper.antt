@@ -1,28 +1,35 @@
 -- A paper: lines one after the other, what is printed for them, and the same on the model of the bench, which knows no areas and no slots.
 -- Assumes nothing.
-use Prim.Native.Nat.{_≤_}
+use Prim.Native.Nat.{ℕ, _≤_}
 use mathlib.Core.Path.{_≡_}
+use mathlib.Core.Bool.{Bool, true, false}
 use mathlib.Core.List.{List, [], _∷_, _++_}
 use lib.ListN.{length, getD, drop}
-use Rattle.octets.specs.Octets.{Octets}
+use lib.Dec.{ltb}
+use Rattle.octets.specs.Octets.{Octets, pick}
 use Rattle.octets.specs.Octal.{Octal}
-use Rattle.area.specs.Map.{areaSize, messageSize}
+use Rattle.packets.specs.Packet.{readOf}
+use Rattle.packets.specs.Reserved.{rfuOf}
+use Rattle.area.specs.Map.{areaSize, messageSize, slotSize}
 use Rattle.state.specs.Profile.{profileIn}
 use Rattle.record.specs.Layout.{bit}
 use Rattle.views.specs.View.{viewOf}
 use Rattle.model.specs.State.{State, cold}
-use Rattle.model.specs.Effects.{Call, fresh, power, command, send, push, down, consume, credit, air, reply, up, report}
+use Rattle.model.specs.Effects.{Call, Result, taken, refused, fresh, power, command, send, push, down, consume, credit, air, reply, up, report}
 use Rattle.model.specs.Bench.{step}
 use Rattle.model.specs.Grants.{WithinGrants}
 use Rattle.model.specs.Observer.{Event, eventOf}
+use Rattle.calls.specs.Kinds.{Reading}
+use Rattle.calls.specs.Kinds.reading.{Packet, Drop}
+use Rattle.calls.specs.Kinds.way as way
 use Rattle.calls.specs.Seen.{Puts}
 use Rattle.calls.specs.Refines.{Good, Along}
 use Rattle.calls.specs.calls.Fresh.{freshCall}
 use Rattle.ascii.specs.Digits.{hexOf, decimalOf}
 use Rattle.sheet.specs.Kinds.{Name}
-use Rattle.sheet.specs.Kinds.name.{Fresh, Power, Command, Send, Push, Down, Consume, Credit, Air, Reply, Up, Report, Bad}
+use Rattle.sheet.specs.Kinds.name.{Fresh, Power, Command, Send, Push, Down, Consume, Credit, Air, Reply, Up, Report, Read, Bad}
 use Rattle.forms.specs.Form.{argsOf, asks}
-use Rattle.sheet.specs.Show.{ansLabel, dropLabel, pktLabel, msgLabel, numberOf, joined, messageText, eventField}
+use Rattle.sheet.specs.Show.{ansLabel, dropLabel, rfuLabel, pktLabel, msgLabel, numberOf, joined, messageText, eventField}
 use Rattle.sheet.specs.Sheet.{badLine, answerTo}
 
 -- ---- on an area and a message buffer
@@ -33,42 +40,63 @@ printed (l ∷ ls) a out = answerTo l a out .line ∷ printed ls (answerTo l a o
 
 -- ---- on the model
 
--- the call that a line asks, or none where it has another form
-abbrev pub callsOf : Name → Octets → List Call
-callsOf Fresh m = fresh m ∷ []
-callsOf Power m = power ∷ []
-callsOf Command m = command (getD m 0 0) (getD m 1 0) (drop 2 m) ∷ []
-callsOf Send m = send (getD m 0 0) (drop 1 m) ∷ []
-callsOf Push m = push (getD m 0 0) ∷ []
-callsOf Down m = down ∷ []
-callsOf Consume m = consume (getD m 0 0) ∷ []
-callsOf Credit m = credit ∷ []
-callsOf Air m = air m ∷ []
-callsOf Reply m = reply ∷ []
-callsOf Up m = up ∷ []
-callsOf Report m = report (getD m 0 0) ∷ []
-callsOf Bad m = []
+-- what a line asks: a call, that octets be read and nothing else, or nothing where it has another form
+pub data Asks : Type 0 where
+  calls : Call → Asks
+  reads : Octets → Asks
+  nothing : Asks
 
--- the line of what is seen of a call
-abbrev pub eventLine : Name → Event → Octets
-eventLine x e =
+abbrev pub asksOf : Name → Octets → Asks
+asksOf Fresh m = calls (fresh m)
+asksOf Power m = calls power
+asksOf Command m = calls (command (getD m 0 0) (getD m 1 0) (drop 2 m))
+asksOf Send m = calls (send (getD m 0 0) (drop 1 m))
+asksOf Push m = calls (push (getD m 0 0))
+asksOf Down m = calls down
+asksOf Consume m = calls (consume (getD m 0 0))
+asksOf Credit m = calls credit
+asksOf Air m = calls (air m)
+asksOf Reply m = calls reply
+asksOf Up m = calls up
+asksOf Report m = calls (report (getD m 0 0))
+asksOf Read m = reads m
+asksOf Bad m = nothing
+
+-- a line by its fields: the answer, the drop flag, the reserved bits, the octets put on wires, the message
+abbrev pub lineWith : Name → Result → Bool → ℕ → Octets → List Octets → Octets
+lineWith x r d n p ms =
     eventField x
-    ++ (ansLabel ++ decimalOf (numberOf (e .answer)))
-    ++ (dropLabel ++ decimalOf (bit (e .dropped)))
-    ++ (pktLabel ++ hexOf (joined (e .toDown) ++ joined (e .toUp)))
-    ++ (msgLabel ++ messageText (e .message))
+    ++ (ansLabel ++ decimalOf (numberOf r))
+    ++ (dropLabel ++ decimalOf (bit d))
+    ++ (rfuLabel ++ hexOf (n ∷ []))
+    ++ (pktLabel ++ hexOf p)
+    ++ (msgLabel ++ messageText ms)
 
-abbrev pub lineBy : Name → List Call → State → Octets
-lineBy x [] s = badLine
-lineBy x (c ∷ cs) s = eventLine x (eventOf c (step c s))
+-- that of what is seen of a call
+abbrev pub eventLine : Name → Event → Octets
+eventLine x e = lineWith x (e .answer) (e .dropped) (e .rfu) (joined (e .toDown) ++ joined (e .toUp)) (e .message)
 
-abbrev pub nextBy : List Call → State → State
-nextBy [] s = s
-nextBy (c ∷ cs) s = step c s .effect .next
+-- that of octets that are read: dropped, or the packet's reserved bits as going up; over 258 octets are refused
+abbrev pub foundLine : Name → Reading → Octets
+foundLine x (Packet h n) = lineWith x taken false (rfuOf way.Up h) [] []
+foundLine x Drop = lineWith x taken true 0 [] []
+
+unfoldable pub readLine : Name → Octets → Octets
+readLine x m = pick (ltb slotSize (length m)) (lineWith x (refused 3) false 0 [] []) (foundLine x (readOf m))
+
+abbrev pub lineBy : Name → Asks → State → Octets
+lineBy x (calls c) s = eventLine x (eventOf c (step c s))
+lineBy x (reads m) s = readLine x m
+lineBy x nothing s = badLine
+
+abbrev pub nextBy : Asks → State → State
+nextBy (calls c) s = step c s .effect .next
+nextBy (reads m) s = s
+nextBy nothing s = s
 
 unfoldable pub modelled : List Octets → State → List Octets
 modelled [] s = []
-modelled (l ∷ ls) s = lineBy (asks l) (callsOf (asks l) (argsOf l)) s ∷ modelled ls (nextBy (callsOf (asks l) (argsOf l)) s)
+modelled (l ∷ ls) s = lineBy (asks l) (asksOf (asks l) (argsOf l)) s ∷ modelled ls (nextBy (asksOf (asks l) (argsOf l)) s)
 
 -- ---- the two are the same, whatever the paper
 
@@ -79,7 +107,7 @@ firstProfile = 32 ∷ 4 ∷ 2 ∷ 4 ∷ 1 ∷ []
 -- no line brings credits past a grant: where one does, row 1 refuses the record from then on
 abbrev pub AllWithin : List Octets → State → Type 0
 AllWithin [] s = Unit {0}
-AllWithin (l ∷ ls) s = WithinGrants (nextBy (callsOf (asks l) (argsOf l)) s) × AllWithin ls (nextBy (callsOf (asks l) (argsOf l)) s)
+AllWithin (l ∷ ls) s = WithinGrants (nextBy (asksOf (asks l) (argsOf l)) s) × AllWithin ls (nextBy (asksOf (asks l) (argsOf l)) s)
 
 pub record Papers : Type 0 where
   pub same : (ls : List Octets) (p : Puts) (a out : Octets) → Good a → messageSize ≤ length out → Along p a → AllWithin ls (viewOf a)

@@ -3,8 +3,9 @@
 use lib.ListN.{getD, drop}
 use Rattle.octets.specs.Octets.{Octets}
 use Rattle.sheet.specs.Kinds.{Name}
-use Rattle.sheet.specs.Kinds.name.{Fresh, Power, Command, Send, Push, Down, Consume, Credit, Air, Reply, Up, Report, Bad}
+use Rattle.sheet.specs.Kinds.name.{Fresh, Power, Command, Send, Push, Down, Consume, Credit, Air, Reply, Up, Report, Read, Bad}
 use Rattle.calls.specs.Outcome.{Outcome, outcome}
+use Rattle.calls.specs.Read.{readCall}
 use Rattle.calls.specs.calls.Fresh.{freshCall}
 use Rattle.calls.specs.calls.Power.{powerCall}
 use Rattle.calls.specs.calls.Command.{commandCall}
@@ -31,4 +32,5 @@ played Air m a out = airCall a out m
 played Reply m a out = replyCall a out
 played Up m a out = upCall a out
 played Report m a out = reportCall a out (getD m 0 0)
+played Read m a out = outcome (readCall m) a out
 played Bad m a out = outcome 3 a out

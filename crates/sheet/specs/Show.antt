@@ -1,4 +1,4 @@
--- The line that an outcome prints: `ev=NAME ans=N drop=D pkt=HEX msg=HEX`. All of it is read from the word that a call answered, and from the
+-- The line that an outcome prints: `ev=NAME ans=N drop=D rfu=HH pkt=HEX msg=HEX`. All of it is read from the word that a call answered, and from the
 -- area and the message buffer after it.
 -- Assumes nothing.
 use Prim.Native.Nat.{ℕ}
@@ -8,7 +8,7 @@ use Rattle.octets.specs.Octets.{Octets}
 use Rattle.area.specs.Map.{messageSize}
 use Rattle.record.specs.Layout.{bit}
 use Rattle.model.specs.Effects.{Result, taken, refused}
-use Rattle.calls.specs.Word.{answerIn, droppedIn, downIn, upIn}
+use Rattle.calls.specs.Word.{answerIn, droppedIn, downIn, upIn, rfuIn}
 use Rattle.calls.specs.Outcome.{Outcome}
 use Rattle.calls.specs.Packet.{handedBy, lastPackets}
 use Rattle.ascii.specs.Letters as letter
@@ -22,6 +22,9 @@ ansLabel = letter.blank ∷ letter.a ∷ letter.n ∷ letter.s ∷ letter.equals
 
 abbrev pub dropLabel : Octets
 dropLabel = letter.blank ∷ letter.d ∷ letter.r ∷ letter.o ∷ letter.p ∷ letter.equals ∷ []
+
+abbrev pub rfuLabel : Octets
+rfuLabel = letter.blank ∷ letter.r ∷ letter.f ∷ letter.u ∷ letter.equals ∷ []
 
 abbrev pub pktLabel : Octets
 pktLabel = letter.blank ∷ letter.p ∷ letter.k ∷ letter.t ∷ letter.equals ∷ []
@@ -70,6 +73,10 @@ answerField w = ansLabel ++ decimalOf (numberOf (answerIn w))
 abbrev pub dropField : ℕ → Octets
 dropField w = dropLabel ++ decimalOf (bit (droppedIn w))
 
+-- one octet, so two digits
+abbrev pub rfuField : ℕ → Octets
+rfuField w = rfuLabel ++ hexOf (rfuIn w ∷ [])
+
 abbrev pub packetField : Outcome → Octets
 packetField o = pktLabel ++ hexOf (putOn o)
 
@@ -77,4 +84,4 @@ abbrev pub messageField : Outcome → Octets
 messageField o = msgLabel ++ messageText (handedBy o)
 
 abbrev pub lineOf : Name → Outcome → Octets
-lineOf x o = eventField x ++ answerField (o .word) ++ dropField (o .word) ++ packetField o ++ messageField o
+lineOf x o = eventField x ++ answerField (o .word) ++ dropField (o .word) ++ rfuField (o .word) ++ packetField o ++ messageField o

@@ -8,7 +8,7 @@ use lib.ListN.{drop, getD}
 use lib.Dec.{eqb}
 use Rattle.octets.specs.Octets.{Octets, pick}
 use Rattle.octets.specs.Octal.{Octal}
-use Rattle.calls.specs.Word.{answerIn, droppedIn}
+use Rattle.calls.specs.Word.{answerIn, droppedIn, rfuIn}
 use Rattle.calls.specs.Outcome.{Outcome}
 use Rattle.calls.specs.Packet.{handedBy}
 use Rattle.ascii.specs.Letters as letter
@@ -23,6 +23,7 @@ pub record Told : Type 0 where
   pub event : Octets
   pub answer : ℕ
   pub dropped : Bool
+  pub rfu : ℕ
   pub packets : Octets
   pub message : List Octets
 
@@ -33,15 +34,16 @@ abbrev pub messageIn : Octets → List Octets
 messageIn [] = []
 messageIn (c ∷ l) = pick (eqb c letter.dash) ([] ∷ []) (octetsIn (c ∷ l) ∷ [])
 
--- the five words of a line, each without its label
+-- the six words of a line, each without its label
 abbrev pub toldBy : Octets → Told
 toldBy l =
     record {
       event = drop 3 (wordAt 0 l);
       answer = numberFrom 0 (drop 4 (wordAt 1 l));
       dropped = eqb (numberFrom 0 (drop 5 (wordAt 2 l))) 1;
-      packets = octetsIn (drop 4 (wordAt 3 l));
-      message = messageIn (drop 4 (wordAt 4 l));
+      rfu = getD (octetsIn (drop 4 (wordAt 3 l))) 0 0;
+      packets = octetsIn (drop 4 (wordAt 4 l));
+      message = messageIn (drop 4 (wordAt 5 l));
     }
 
 -- what there is to tell of an outcome
@@ -51,6 +53,7 @@ toTell x o =
       event = textOf x;
       answer = numberOf (answerIn (o .word));
       dropped = droppedIn (o .word);
+      rfu = rfuIn (o .word);
       packets = putOn o;
       message = handedBy o;
     }

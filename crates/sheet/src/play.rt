@@ -7,6 +7,7 @@ use bench::exports::nci_down;
 use bench::exports::nci_fresh;
 use bench::exports::nci_power;
 use bench::exports::nci_push;
+use bench::exports::nci_read;
 use bench::exports::nci_reply;
 use bench::exports::nci_report;
 use bench::exports::nci_send;
@@ -42,6 +43,7 @@ pub fn play(area: &mut [u8], out: &mut [u8], name: Name, args: &[u8]) -> u64
         Name::Reply => nci_reply(area, out),
         Name::Up => nci_up(area, out),
         Name::Report => nci_report(area, out, first),
+        Name::Read => nci_read(args),
         Name::Bad => 3,
     }
 }

@@ -14,7 +14,7 @@ ghost use Rattle.ascii.specs.Digits.{hexOf, decimalOf};
 ghost use Rattle.ascii.specs.Writing.{Wrote};
 ghost use Rattle.calls.specs.Outcome.{outcome};
 ghost use Rattle.calls.specs.Packet.{packetCall, handedBy};
-ghost use Rattle.sheet.specs.Show.{zeroBuffer, joined, wireShown, eventField, answerField, dropField, packetField, messageField, lineOf};
+ghost use Rattle.sheet.specs.Show.{zeroBuffer, joined, wireShown, eventField, answerField, dropField, rfuField, packetField, messageField, lineOf};
 
 // The event's name.
 fn put_event(text: &mut [u8], at: usize, name: Name) -> usize
@@ -44,6 +44,16 @@ fn put_front(text: &mut [u8], at: usize, name: Name, w: u64) -> usize
     let mut n = put_event(text, at, name);
     n = put_number(text, n, b" ans=", answer);
     put_number(text, n, b" drop=", dropped)
+}
+
+// The reserved bits, in two digits.
+fn put_rfu(text: &mut [u8], at: usize, w: u64) -> usize
+    requires { ⌜ at ≤ length (now text) ⌝ }
+    ensures { λ r. ⌜ Wrote (now (text .entry)) at (rfuField w) r (now (text .exit)) ⌝ }
+{
+    let rfu = word::rfu(w);
+    let n = put(text, at, b" rfu=");
+    put_octets(text, n, &[rfu])
 }
 
 // A packet of a wire, counted from its end: what the reader of packets hands out, and nothing where there is none.
@@ -106,6 +116,7 @@ pub fn put_outcome(text: &mut [u8], name: Name, w: u64, area: &[u8], out: &[u8])
     ensures { λ r. ⌜ Wrote (now (text .entry)) 0 (lineOf name (outcome w (now (area .entry)) (now (out .entry)))) r (now (text .exit)) ⌝ }
 {
     let mut n = put_front(text, 0, name, w);
+    n = put_rfu(text, n, w);
     n = put_packets(text, n, w, area);
     put_message(text, n, w, out)
 }

@@ -1,6 +1,6 @@
 // What the word says that a call answered.
 ghost use mathlib.Core.Path.{_≡_};
-ghost use Rattle.calls.specs.Word.{answerIn, droppedIn, handedIn, lengthIn, downIn, upIn};
+ghost use Rattle.calls.specs.Word.{answerIn, droppedIn, handedIn, lengthIn, downIn, upIn, rfuIn};
 ghost use Rattle.sheet.specs.Show.{numberOf};
 ghost use Rattle.record.specs.Layout.{bit};
 
@@ -38,4 +38,10 @@ pub fn up(w: u64) -> u8
     ensures { λ r. ⌜ r ≡ upIn w ⌝ }
 {
     (w / 1099511627776 % 256) as u8
+}
+
+pub fn rfu(w: u64) -> u8
+    ensures { λ r. ⌜ r ≡ rfuIn w ⌝ }
+{
+    (w / 281474976710656 % 256) as u8
 }

@@ -1,6 +1,5 @@
 // up: the host takes the first packet of the up wire, hands out a finished data message and hears a control message when it
 // is whole.
-use crate::word;
 use area::map;
 use area::movers;
 use area::ring;
@@ -9,6 +8,7 @@ use ends::message;
 use octets::choose;
 use packets::Header;
 use packets::Reading;
+use packets::Way;
 use record::write;
 use state::conn;
 use state::kinds::Ends;
@@ -126,10 +126,10 @@ fn finish(area: &[u8], out: &mut [u8], r: Record, h: Header, n: usize) -> u64
     let len = run.len;
     let j = runs::join(map::MESSAGE, run, h.pbf, n);
     if !j.done {
-        return word::quiet(j.dropped, false, 0);
+        return words::quiet(j.dropped, false, 0);
     }
     hand_over(area, out, h.id, len + n);
-    word::quiet(j.dropped, true, len + n)
+    words::quiet(j.dropped, true, len + n)
 }
 
 // Data for a connection that is open at the host.
@@ -187,7 +187,7 @@ fn heed(area: &mut [u8], r: Record, ends: Ends, h: Header, len: usize) -> u64
     );
     let next = d.next;
     leave(area, r, next);
-    word::quiet(d.dropped, false, 0)
+    words::quiet(d.dropped, false, 0)
 }
 
 // A control packet: a segment that does not end its message only joins the run.
@@ -204,7 +204,7 @@ fn take_control(area: &mut [u8], r: Record, h: Header, n: usize) -> u64
     join_hearing(area, r, h, n);
     if !j.done {
         leave(area, r, ends);
-        return word::quiet(j.dropped, false, 0);
+        return words::quiet(j.dropped, false, 0);
     }
     heed(area, r, ends, h, base + n)
 }
@@ -236,5 +236,6 @@ pub fn act(area: &mut [u8], out: &mut [u8], r: Record) -> u64
     let Reading::Packet(h, n) = got else {
         return discard(area, r);
     };
-    take_packet(area, out, r, h, n)
+    let w = take_packet(area, out, r, h, n);
+    words::telling(packets::rfu(Way::Up, h), w)
 }

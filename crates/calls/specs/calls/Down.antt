@@ -8,9 +8,11 @@ use lib.ListN.{length}
 use lib.Dec.{eqb}
 use Rattle.octets.specs.Octets.{Octets, pick, cut, splice}
 use Rattle.packets.specs.Packet.{packetOf, readOf, payloadOf}
+use Rattle.packets.specs.Reserved.{rfuBy}
 use Rattle.packets.specs.Headers.{controlHeader}
 use Rattle.calls.specs.Kinds.{Header, Reading, Ring, ControlRun, ControllerSide, Counts, Record, Verdict, ControlJoined, Note}
 use Rattle.calls.specs.Kinds.reading.{Packet, Drop}
+use Rattle.calls.specs.Kinds.way.{Down}
 use Rattle.state.specs.Conn as conn
 use Rattle.state.specs.Conn.{placeOf, countsOf, openAt}
 use Rattle.state.specs.Runs.{runFor, controlJoined}
@@ -26,7 +28,7 @@ use Rattle.record.specs.Plan.{withDown, withUp, withEnds, withConns, withAsking
 use Rattle.views.specs.View.{viewOf}
 use Rattle.model.specs.calls.Down.{answers, downRules}
 use Rattle.calls.specs.Word.{wordOf}
-use Rattle.calls.specs.Outcome.{Outcome, outcome, called}
+use Rattle.calls.specs.Outcome.{Outcome, outcome, tells, called}
 
 -- ---- the first packet
 
@@ -135,7 +137,7 @@ arrived t slot (Packet h n) a out =
 arrived t slot Drop a out = downDropped t a out
 
 abbrev pub downed : Record → Octets → Octets → Outcome
-downed r a out = arrived (tookDown r) (downSlot r) (downRead r a) a out
+downed r a out = tells (rfuBy Down (downRead r a)) (arrived (tookDown r) (downSlot r) (downRead r a) a out)
 
 unfoldable pub downCall : Octets → Octets → Outcome
 downCall a out = called (downRules (viewOf a)) (downed (decodeOf a) a out) a out

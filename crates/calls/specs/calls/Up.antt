@@ -8,8 +8,10 @@ use lib.ListN.{length}
 use lib.Dec.{eqb}
 use Rattle.octets.specs.Octets.{Octets, pick, cut, splice}
 use Rattle.packets.specs.Packet.{readOf, payloadOf}
+use Rattle.packets.specs.Reserved.{rfuBy}
 use Rattle.calls.specs.Kinds.{Header, Reading, HostSide, Ends, Record, Joined, ControlJoined, Heeded}
 use Rattle.calls.specs.Kinds.reading.{Packet, Drop}
+use Rattle.calls.specs.Kinds.way.{Up}
 use Rattle.state.specs.Conn as conn
 use Rattle.state.specs.Conn.{placeOf}
 use Rattle.state.specs.Runs.{joinedOf, runFor, controlJoined}
@@ -25,7 +27,7 @@ use Rattle.record.specs.Plan.{withConns, withHearing, withHostRun}
 use Rattle.views.specs.View.{viewOf}
 use Rattle.model.specs.calls.Up.{upRules}
 use Rattle.calls.specs.Word.{wordOf}
-use Rattle.calls.specs.Outcome.{Outcome, outcome, called}
+use Rattle.calls.specs.Outcome.{Outcome, outcome, tells, called}
 use Rattle.calls.specs.calls.Push.{hostSide}
 
 -- ---- the packet
@@ -127,7 +129,7 @@ readUp r (Packet h n) a out = comingUp r h n a out
 readUp r Drop a out = droppedUp r a out
 
 abbrev pub upped : Record → Octets → Octets → Outcome
-upped r a out = readUp r (upRead r a) a out
+upped r a out = tells (rfuBy Up (upRead r a)) (readUp r (upRead r a) a out)
 
 unfoldable pub upCall : Octets → Octets → Outcome
 upCall a out = called (upRules (viewOf a)) (upped (decodeOf a) a out) a out

@@ -31,7 +31,7 @@ abbrev pub reportOf : ℕ → State → Octets
 reportOf c s = fiveOf c s (countedUp c (s .up))
 
 abbrev pub reporting : ℕ → State → Effect
-reporting c s = record { drop = false; toDown = []; toUp = []; message = reportOf c s ∷ []; next = s }
+reporting c s = record { drop = false; rfu = 0; toDown = []; toUp = []; message = reportOf c s ∷ []; next = s }
 
 -- ---- refusals
 

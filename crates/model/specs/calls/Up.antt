@@ -27,6 +27,7 @@ receiving c n x s =
     pick (isHeld s c)
     (record {
       drop = flagged dataLimit (s .conns c .host .run) x;
+      rfu = 0;
       toDown = [];
       toUp = [];
       message = finished dataLimit (s .conns c .host .run) x;

@@ -6,10 +6,16 @@ use Rattle.area.specs.Map.{slotSize}
 use Rattle.state.specs.declared.kinds.Record.{Record}
 use Rattle.packets.specs.Packet.{readOf}
 use Rattle.packets.specs.declared.Reading.the-variants.{Packet}
+use Rattle.packets.specs.declared.Way.the-variants.{Down}
+use Rattle.packets.specs.Reserved.{rfuOf, rfuBy}
+use Rattle.record.specs.Claims.{stored}
+use Rattle.calls.specs.Word.{wordTelling}
+use Rattle.calls.specs.Outcome.{outcome, tells}
+use Rattle.calls.proofs.Words.{told-none, tells-by}
 use Rattle.octets.specs.Octets.{cut}
 use denote.Ref.{now}
 use native.Mathlib.Omega.{arith}
-use mathlib.Core.Path.{sym, subst, _∙_}
+use mathlib.Core.Path.{_≡_, sym, subst, _∙_}
 use borrow.Author.Needs.{needs}
 use Rattle.down_call.proofs.down.act.Statement.{statement}
 use Rattle.down_call.proofs.down.act.Tie as tie
@@ -42,7 +48,11 @@ returns c =
     let r = s .args .r in
     let a = now (s .args .area) in
     let read = sym (c .before .before .before .before .before .before .read-slot .ensures ∙ (λ i. readOf (cut (c .before .before .before .before .before .before .before .before .before .first-at .ensures i) slotSize a))) ∙ c .before .before .before .before .enum-told .given .1 in
-    λ out. c .before .before .dropped .ensures out ∙ (λ i. downDropped (c .before .before .before .before .before .before .before .before .took .ensures i) a out) ∙ sym (λ i. arrived (tookDown r) (downSlot r) (read i) a out)
+    λ out.
+    c .before .before .dropped .ensures out
+    ∙ (λ i. downDropped (c .before .before .before .before .before .before .before .before .took .ensures i) a out)
+    ∙ sym (λ i. outcome (told-none 0 i) (stored a (tookDown r)) out)
+    ∙ sym (λ i. tells (rfuBy Down (read i)) (arrived (tookDown r) (downSlot r) (read i) a out))
 
 packet-requires : tie.Need-packet-requires
 packet-requires c κs =
@@ -57,21 +67,30 @@ packet-requires c κs =
       subst (λ (t : Record). Arrivable (t .ends .conns) (t .up) h) (sym (c .before .before .before .before .before .before .took .ensures)) (s .pre .1 .packet h n read),
     )
 
+rfu-requires : tie.Need-rfu-requires
+rfu-requires c κs = search needs
+
+telling-requires : tie.Need-telling-requires
+telling-requires c κs = search needs
+
 same-length-2 : tie.Need-same-length-2
 same-length-2 c = search needs
 
 returns-2 : tie.Need-returns-2
 returns-2 c =
-    let s = c .before .before .before .before .before .before .before .before .before .before .before .before .before in
+    let s = c .before .before .before .before .before .before .before .before .before .before .before .before .before .before .before in
     let r = s .args .r in
     let a = now (s .args .area) in
-    let h = c .before .before .before .before .before .got .given .0 .0 in
-    let n = c .before .before .before .before .before .got .given .0 .1 .0 in
-    let read = sym (c .before .before .before .before .before .before .before .read-slot .ensures ∙ (λ i. readOf (cut (c .before .before .before .before .before .before .before .before .before .before .first-at .ensures i) slotSize a))) ∙ c .before .before .before .before .before .got .given .1 in
+    let h = c .before .before .before .before .before .before .before .got .given .0 .0 in
+    let n = c .before .before .before .before .before .before .before .got .given .0 .1 .0 in
+    let read = sym (c .before .before .before .before .before .before .before .before .before .read-slot .ensures ∙ (λ i. readOf (cut (c .before .before .before .before .before .before .before .before .before .before .before .before .first-at .ensures i) slotSize a))) ∙ c .before .before .before .before .before .before .before .got .given .1 in
+    let bits : c .before .rfu .result ≡ rfuOf Down h = c .before .rfu .ensures in
+    let told = c .telling .ensures ∙ (λ i. wordTelling (bits i) (c .before .before .before .before .packet .result)) in
     λ out.
-    c .before .before .packet .ensures out
-    ∙ (λ i. arrived (c .before .before .before .before .before .before .before .before .before .took .ensures i) (c .before .before .before .before .before .before .before .before .before .before .first-at .ensures i) (Packet h n) a out)
-    ∙ sym (λ i. arrived (tookDown r) (downSlot r) (read i) a out)
+    tells-by (rfuOf Down h) told
+    (c .before .before .before .before .packet .ensures out
+    ∙ (λ i. arrived (c .before .before .before .before .before .before .before .before .before .before .before .took .ensures i) (c .before .before .before .before .before .before .before .before .before .before .before .before .first-at .ensures i) (Packet h n) a out))
+    ∙ sym (λ i. tells (rfuBy Down (read i)) (arrived (tookDown r) (downSlot r) (read i) a out))
 
 pub act-spec : {M : Type 1} → statement M
 act-spec =
@@ -86,5 +105,7 @@ act-spec =
     same-length
     returns
     packet-requires
+    rfu-requires
+    telling-requires
     same-length-2
     returns-2)

@@ -53,8 +53,8 @@ returns c =
 encode-requires : tie.Need-encode-requires
 encode-requires c κs = search needs
 
-word-requires : tie.Need-word-requires
-word-requires c κs = search needs
+quiet-requires : tie.Need-quiet-requires
+quiet-requires c κs = search needs
 
 same-length-2 : tie.Need-same-length-2
 same-length-2 c = search needs
@@ -65,7 +65,7 @@ returns-2 c =
     let s = c .before .before .before .before .before .before .before .before .before .before .before .before .before .before .before .before .before in
     let j = c .before .before .before .before .before .before .before .before .before .before .before .join-control .ensures in
     let done = sym (ap (λ (k : ControlJoined). k .done) j) ∙ c .before .before .before .before .before .if1 .left in
-    let w = c .word .ensures ∙ (λ i. wordOf (j i .dropped) false 0 0 0) in
+    let w = c .quiet .ensures ∙ (λ i. wordOf (j i .dropped) false 0 0 0) in
     let after = c .before .before .before .encode .ensures ∙ (λ i. stored (c .before .before .before .before .before .before .before .before .join .ensures i) (withAsking (j i .next) (s .args .t))) in
     λ out. rw done (λ i. outcome (w i) (after i) out)
 
@@ -80,6 +80,6 @@ command-packet-spec =
     same-length
     returns
     encode-requires
-    word-requires
+    quiet-requires
     same-length-2
     returns-2)

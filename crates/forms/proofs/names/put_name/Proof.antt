@@ -124,6 +124,15 @@ slice-aggregate-put-13 c = search needs
 put-requires-13 : tie.Need-put-requires-13
 put-requires-13 c κs = search needs
 
+enum-told-14 : tie.Need-enum-told-14
+enum-told-14 c = search needs
+
+slice-aggregate-put-14 : tie.Need-slice-aggregate-put-14
+slice-aggregate-put-14 c = search needs
+
+put-requires-14 : tie.Need-put-requires-14
+put-requires-14 c κs = search needs
+
 same-length : tie.Need-same-length
 same-length c = search needs
 
@@ -202,6 +211,12 @@ same-length-13 c = search needs
 returns-13 : tie.Need-returns-13
 returns-13 c = wrote-text (ap textOf (sym (c .before .before .before .before .before .enum-told13 .given .1))) (c .before .before .put13 .ensures)
 
+same-length-14 : tie.Need-same-length-14
+same-length-14 c = search needs
+
+returns-14 : tie.Need-returns-14
+returns-14 c = wrote-text (ap textOf (sym (c .before .before .before .before .before .enum-told14 .given .1))) (c .before .before .put14 .ensures)
+
 pub put-name-spec : {M : Type 1} → statement M
 put-name-spec =
     tie.close
@@ -245,6 +260,9 @@ put-name-spec =
     enum-told-13
     slice-aggregate-put-13
     put-requires-13
+    enum-told-14
+    slice-aggregate-put-14
+    put-requires-14
     same-length
     returns
     same-length-2
@@ -270,4 +288,6 @@ put-name-spec =
     same-length-12
     returns-12
     same-length-13
-    returns-13)
+    returns-13
+    same-length-14
+    returns-14)

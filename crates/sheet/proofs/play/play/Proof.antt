@@ -3,6 +3,7 @@
 use mathlib.Core.Path.{sym, ap, _∙_}
 use denote.Ref.{now}
 use Rattle.octets.proofs.Octets.{cut-rest}
+use Rattle.calls.specs.Outcome.{outcome}
 use Rattle.calls.specs.calls.Command.{commandCall}
 use Rattle.calls.specs.calls.Send.{sendCall}
 use Rattle.calls.specs.calls.Push.{pushCall}
@@ -100,6 +101,12 @@ nci-report-requires c κs = search needs
 
 enum-told-13 : tie.Need-enum-told-13
 enum-told-13 c = search needs
+
+nci-read-requires : tie.Need-nci-read-requires
+nci-read-requires c κs = search needs
+
+enum-told-14 : tie.Need-enum-told-14
+enum-told-14 c = search needs
 
 same-length : tie.Need-same-length
 same-length c = search needs
@@ -275,11 +282,19 @@ returns-12 c =
 
 returns-13 : tie.Need-returns-13
 returns-13 c =
+    let s = c .before .before .before .before .before .before .before .args in
+    let a = now (s .area) in
+    let out = now (s .out) in
+    let m = now (s .args) in
+    (λ i. outcome (c .nci-read .ensures i) a out) ∙ ap (λ (x : Name). played x m a out) (sym (c .before .enum-told13 .given .1))
+
+returns-14 : tie.Need-returns-14
+returns-14 c =
     let s = c .before .before .before .before .before .before .args in
     let a = now (s .area) in
     let out = now (s .out) in
     let m = now (s .args) in
-    ap (λ (x : Name). played x m a out) (sym (c .enum-told13 .given .1))
+    ap (λ (x : Name). played x m a out) (sym (c .enum-told14 .given .1))
 
 pub play-spec : {M : Type 1} → statement M
 play-spec =
@@ -314,6 +329,8 @@ play-spec =
     enum-told-12
     nci-report-requires
     enum-told-13
+    nci-read-requires
+    enum-told-14
     same-length
     same-length-2
     returns
@@ -350,4 +367,5 @@ play-spec =
     same-length-23
     same-length-24
     returns-12
-    returns-13)
+    returns-13
+    returns-14)

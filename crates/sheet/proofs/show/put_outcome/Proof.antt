@@ -9,6 +9,9 @@ use Rattle.sheet.proofs.show.put_outcome.Tie as tie
 put-front-requires : tie.Need-put-front-requires
 put-front-requires c κs = search needs
 
+put-rfu-requires : tie.Need-put-rfu-requires
+put-rfu-requires c κs = search needs
+
 put-packets-requires : tie.Need-put-packets-requires
 put-packets-requires c κs = search needs
 
@@ -20,9 +23,14 @@ same-length c = search needs
 
 returns : tie.Need-returns
 unfolding handedBy
-returns c = wrote-then _ _ (wrote-then _ _ (c .before .before .before .before .before .before .before .before .before .before .put-front .ensures) (c .before .before .before .before .before .before .put-packets .ensures)) (c .before .before .put-message .ensures)
+returns c =
+    wrote-then _ _
+    (wrote-then _ _
+    (wrote-then _ _ (c .before .before .before .before .before .before .before .before .before .before .before .before .before .before .put-front .ensures) (c .before .before .before .before .before .before .before .before .before .before .put-rfu .ensures))
+    (c .before .before .before .before .before .before .put-packets .ensures))
+    (c .before .before .put-message .ensures)
 
 pub put-outcome-spec : {M : Type 1} → statement M
 put-outcome-spec =
     tie.close
-    (tie.spec put-front-requires put-packets-requires put-message-requires same-length returns)
+    (tie.spec put-front-requires put-rfu-requires put-packets-requires put-message-requires same-length returns)

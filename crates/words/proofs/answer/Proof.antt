@@ -1,10 +1,10 @@
--- `consume_call::word::answer` meets its contract: each part has its own bits.
+-- `words::answer` meets its contract: each part has its own bits.
 -- Assumes nothing.
 use native.Mathlib.Omega.{arith}
 use Rattle.calls.specs.Word.{wordOf}
 use borrow.Author.Needs.{needs}
-use Rattle.consume_call.proofs.word.answer.Statement.{statement}
-use Rattle.consume_call.proofs.word.answer.Tie as tie
+use Rattle.words.proofs.answer.Statement.{statement}
+use Rattle.words.proofs.answer.Tie as tie
 
 flag-requires : tie.Need-flag-requires
 flag-requires c κs = search needs

@@ -1,10 +1,10 @@
--- `consume_call::word::flag` meets its contract, by the test.
+-- `words::flag` meets its contract, by the test.
 -- Assumes nothing.
 use mathlib.Core.Path.{refl}
 use native.Mathlib.Omega.{arith}
 use Rattle.record.specs.Layout.{bit}
-use Rattle.consume_call.proofs.word.flag.Statement.{statement}
-use Rattle.consume_call.proofs.word.flag.Tie as tie
+use Rattle.words.proofs.flag.Statement.{statement}
+use Rattle.words.proofs.flag.Tie as tie
 
 returns : tie.Need-returns
 unfolding bit
