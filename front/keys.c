@@ -55,10 +55,10 @@ static void keep_first(struct bench *b, unsigned wire) {
 /* ---- the calls */
 
 /* The last three are the front end's own. */
-enum call { FRESH, POWER, COMMAND, SEND, PUSH, DOWN, CONSUME, CREDIT, AIR, REPLY, UP, REPORT, CARD, HELP, QUIT };
+enum call { FRESH, POWER, COMMAND, SEND, PUSH, DOWN, CONSUME, CREDIT, AIR, REPLY, UP, REPORT, READ, CARD, HELP, QUIT };
 
-static const char *const call_names[] = {"fresh",  "power", "command", "send", "push", "down", "consume",
-                                         "credit", "air",   "reply",   "up",   "report"};
+static const char *const call_names[] = {"fresh",  "power", "command", "send", "push",   "down", "consume",
+                                         "credit", "air",   "reply",   "up",   "report", "read"};
 
 /* Makes a call of its octets, which are as many as its key asks for. */
 static uint64_t make(struct bench *b, enum call call, const struct octets *arg) {
@@ -77,6 +77,7 @@ static uint64_t make(struct bench *b, enum call call, const struct octets *arg) 
     case REPLY: return nci_reply(LENT(b));
     case UP: keep_first(b, NCI_WIRE_UP); return nci_up(LENT(b));
     case REPORT: return nci_report(LENT(b), a[0]);
+    case READ: return nci_read(a, n);
     default: return NCI_OUTSIDE_LIMIT;
     }
 }
@@ -135,6 +136,14 @@ static void say_handed_out(uint64_t word) {
     printf(" handed out");
 }
 
+/* The reserved bits that the packet which was read has at 1, behind some words. */
+static void say_rfu(const char *before, uint64_t word) {
+    if (nci_word_rfu(word) == 0)
+        return;
+    printf("%s", before);
+    say_reserved(nci_word_rfu(word));
+}
+
 /* The packets put on a wire, in their order. */
 static void say_put(struct bench *b, unsigned wire, unsigned count) {
     while (count > 0) {
@@ -151,15 +160,21 @@ static void say_command(struct bench *b, uint64_t word) {
         printf(" in %u packets", nci_word_put_down(word));
 }
 
-/* An answer tells by itself which command was taken. */
+/* An answer tells by itself which command was taken. Data going down has no credits: the
+ * bits in their place are reserved. */
 static void say_down(struct bench *b, uint64_t word) {
     struct packet p = read_packet(b->first, b->first_length);
+    p.credits = 0;
     if (nci_word_put_up(word) > 0) {
         say_put(b, NCI_WIRE_UP, nci_word_put_up(word));
+        say_rfu("; in the command ", word);
         return;
     }
     printf(nci_word_dropped(word) ? "dropped " : p.mt == MT_DATA ? "stored " : "taken ");
     say_packet(&p);
+    say_rfu("; ", word);
+    if (p.mt == MT_DATA && (nci_word_rfu(word) & ~NCI_RFU_DATA_UP) != 0)
+        printf(", no credits go down");
 }
 
 /* A stored packet cannot be looked at; on a loopback it goes up as it is, with credits. */
@@ -192,7 +207,19 @@ static void say_up(struct bench *b, uint64_t word) {
     else
         printf(is_credit_notice(&p) ? "dropped an entry of " : "dropped ");
     say_packet(&p);
+    say_rfu("; ", word);
     say_handed_out(word);
+}
+
+static void say_read(const struct octets *arg, uint64_t word) {
+    struct packet p = read_packet(arg->at, arg->length);
+    if (nci_word_dropped(word)) {
+        printf("dropped: ");
+        say_no_packet(arg->at, arg->length);
+    } else {
+        say_packet(&p);
+        say_rfu("; ", word);
+    }
 }
 
 static void say_report(unsigned conn, const uint8_t *numbers) {
@@ -217,6 +244,7 @@ static void say_taken(struct bench *b, enum call call, const struct octets *arg,
     case AIR: say_air(b, arg->length, word); break;
     case UP: say_up(b, word); break;
     case REPORT: say_report(a[0], b->message); break;
+    case READ: say_read(arg, word); break;
     default: break;
     }
 }
@@ -293,6 +321,8 @@ static const struct key {
      .call = REPLY},
     {"report", "report 2: the five numbers of connection 2",
      .call = REPORT, .least = 1, .most = 1},
+    {"read", "read 60C603010202, octets: read as a packet going up, with its reserved bits that are at 1",
+     .call = READ, .most = MANY},
     {"power", "power: both ends cold, both wires empty, the profile kept",
      .call = POWER},
     {"fresh", "fresh, or fresh 2004020401, a profile of 5 octets, or of 11, a pair for each connection: a new bench",
@@ -490,7 +520,7 @@ static void print_message(const struct bench *b, uint64_t word) {
 static void answer_call(struct bench *b, enum call call, const struct octets *arg) {
     uint64_t word = make(b, call, arg);
     unsigned answer = nci_word_answer(word);
-    printf("ev=%s ans=%u drop=%d pkt=", call_names[call], answer, nci_word_dropped(word));
+    printf("ev=%s ans=%u drop=%d rfu=%02X pkt=", call_names[call], answer, nci_word_dropped(word), nci_word_rfu(word));
     print_put_on(b, NCI_WIRE_DOWN, nci_word_put_down(word));
     print_put_on(b, NCI_WIRE_UP, nci_word_put_up(word));
     printf(" msg=");

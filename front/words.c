@@ -59,9 +59,14 @@ static void say_created(const uint8_t *p, size_t n) {
     say_terms(p[1], p[2]);
 }
 
+/* A notice of the bench has an entry for each connection at most; of one that is typed no more
+ * are said. */
 static void say_credits(const uint8_t *p, size_t n) {
-    for (size_t i = 1; i + 1 < n; i += 2)
+    enum { ENTRIES = 5 };
+    for (size_t i = 1; i + 1 < n && i < 2 * ENTRIES; i += 2)
         printf("%s %u to connection %u", i == 1 ? "" : ",", p[i + 1], p[i]);
+    if (n > 2 * ENTRIES + 2)
+        printf(", and more");
 }
 
 static void say_error(const uint8_t *p, size_t n) {
@@ -168,4 +173,35 @@ void say_packet(const struct packet *p) {
         if (p->credits > 0)
             printf(", %u credit%s", p->credits, p->credits == 1 ? "" : "s");
     }
+}
+
+void say_no_packet(const uint8_t *octets, size_t length) {
+    if (length < 3)
+        printf("fewer than 3 octets");
+    else if (octets[0] >> 5 > MT_NTF)
+        printf("RFU message type %u", octets[0] >> 5);
+    else
+        printf("payload shorter than octet 2 states");
+}
+
+/* ---- reserved bits */
+
+static unsigned count_bits(unsigned octet) {
+    unsigned count = 0;
+    for (; octet > 0; octet >>= 1)
+        count += octet & 1;
+    return count;
+}
+
+void say_reserved(unsigned rfu) {
+    unsigned left = count_bits(rfu);
+    bool one = left == 1;
+    printf("reserved bit%s", one ? "" : "s");
+    for (unsigned bit = 8; bit-- > 0;) {
+        if ((rfu >> bit & 1) == 0)
+            continue;
+        left--;
+        printf(" %u%s", bit, left > 1 ? "," : left == 1 ? " and" : "");
+    }
+    printf(" of octet 1 %s at 1", one ? "is" : "are");
 }

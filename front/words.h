@@ -28,6 +28,12 @@ bool is_credit_notice(const struct packet *p);
  * says so at its end, as ", 1 credit". */
 void say_packet(const struct packet *p);
 
+/* Why octets are no packet, as "fewer than 3 octets". */
+void say_no_packet(const uint8_t *octets, size_t length);
+
+/* "reserved bits 7 and 6 of octet 1 are at 1"; at least one of them is. */
+void say_reserved(unsigned rfu);
+
 /* "1 octet", "2 octets" */
 void say_octets(size_t count);
 

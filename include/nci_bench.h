@@ -5,8 +5,9 @@
  * of a file in memory, anything. The last 512 of them hold the bench's record.
  * nci_fresh makes a bench of any octets. A copy of the octets is a second bench.
  *
- * The buffer. Every call takes a message buffer of at least 1,024 octets, also a
- * call that hands out nothing. One buffer serves all calls.
+ * The buffer. Every call on a bench takes a message buffer of at least 1,024 octets,
+ * also a call that hands out nothing. One buffer serves all calls. nci_read alone is
+ * lent neither area nor buffer: it needs no bench.
  *
  * Slices. Octets are lent as a pointer and a length.
  *   The length is true: so many octets can be read there, and written where the
@@ -26,13 +27,19 @@
  *
  * What a call returns. One number of 64 bits, the word. The functions nci_word_..
  * below take it apart: the answer, the drop flag, whether a message was handed
- * out and how long it is, how many packets were put on each wire. The word of a
- * refused call is the refusal's number and nothing else. The packets themselves
- * can be read with nci_packet.
+ * out and how long it is, how many packets were put on each wire, which reserved bits
+ * the packet had that was read. The word of a refused call is the refusal's number and
+ * nothing else. The packets themselves can be read with nci_packet.
+ *
+ * Reserved bits. A sender is to leave these bits of a packet's octet 1, the second one,
+ * at 0, and no end goes by them: bits 7 and 6 of a control packet, bits 7 to 2 of data
+ * going up, and all bits of data going down, where bits 1 and 0 have no credits.
+ * nci_down, nci_up and nci_read tell those that a sender left at 1. Calls on a bench that
+ * nci_fresh made put no such packet on a wire; in other octets one may be there.
  *
  * Refusals. At each call stand the refusals that it can give, in the order in which
- * they are judged: of several that apply, the first is given. Every call but
- * nci_fresh begins with the same three, which are not repeated below:
+ * they are judged: of several that apply, the first is given. Every call but nci_fresh
+ * and nci_read begins with the same three, which are not repeated below:
  *   2, if the area has fewer than 36,864 octets; its record is then not judged;
  *   1, if the record is damaged;
  *   2, if the buffer has fewer than 1,024 octets.
@@ -70,6 +77,12 @@ extern "C" {
 #define NCI_GID_MAX 15u           /* greatest group identifier */
 #define NCI_OID_MAX 63u           /* greatest opcode identifier */
 #define NCI_NO_FLOW_CONTROL 255u  /* credits of a connection without flow control */
+
+/* ---- reserved bits of a packet's octet 1 */
+
+#define NCI_RFU_CONTROL 0xC0u   /* of a command, a response or a notification */
+#define NCI_RFU_DATA_UP 0xFCu   /* of data going up */
+#define NCI_RFU_DATA_DOWN 0xFFu /* of data going down: CR is reserved too */
 
 /* ---- answers: 0, or why a call was not taken. nci_card says each in words. */
 
@@ -125,6 +138,10 @@ static inline unsigned nci_word_put_down(uint64_t word) { return (unsigned)(word
 
 /* How many packets the call put on the up wire. */
 static inline unsigned nci_word_put_up(uint64_t word) { return (unsigned)(word >> 40 & 0xFFu); }
+
+/* Of nci_down, nci_up and nci_read: the reserved bits that were at 1 in octet 1 of the
+ * packet that was read, in their places. 0 if the drop flag is 1, and of all other calls. */
+static inline unsigned nci_word_rfu(uint64_t word) { return (unsigned)(word >> 48 & 0xFFu); }
 
 /* The card: what an answer says, in words. */
 static inline const char *nci_card(unsigned answer) {
@@ -201,7 +218,8 @@ uint64_t nci_push(uint8_t *area, size_t area_len, uint8_t *out, size_t out_len, 
 
 /* The host takes the first packet of the up wire, and the credits that a notice or a data
  * packet returns. Hands out a data message that it finishes. The drop flag is up if the
- * packet, or an entry of a credit notice, is dropped.
+ * packet, or an entry of a credit notice, is dropped; if it is not, the word has the
+ * packet's reserved bits that are at 1.
  * Refusals in order: 8, if the up wire is empty. */
 uint64_t nci_up(uint8_t *area, size_t area_len, uint8_t *out, size_t out_len);
 
@@ -209,7 +227,7 @@ uint64_t nci_up(uint8_t *area, size_t area_len, uint8_t *out, size_t out_len);
 
 /* The controller takes the first packet of the down wire. The last packet of a command is
  * answered: one or two packets go on the up wire. The drop flag is up if the packet is
- * dropped.
+ * dropped; if it is not, the word has the packet's reserved bits that are at 1.
  * Refusals in order: 4, if it is the last packet of a command and the up wire has fewer
  * than two free slots; 8, if the down wire is empty; 12, if it is data and the store of
  * its connection is full. */
@@ -269,6 +287,16 @@ uint64_t nci_report(uint8_t *area, size_t area_len, uint8_t *out, size_t out_len
  * Refusals in order: 3, if the wire is over 1; 8, if the wire has no such packet. */
 uint64_t nci_packet(const uint8_t *area, size_t area_len, uint8_t *out, size_t out_len, uint8_t wire,
                     uint8_t back);
+
+/* ---- what needs no bench */
+
+/* Any octets are read as a packet going up, and no end takes it: a command is read as the
+ * rest. The drop flag is up if they are no packet: fewer than 3 octets, an RFU message type,
+ * 4 to 7, or a payload shorter than octet 2 states; octets past the payload are ignored. If
+ * it is not, the word has the packet's reserved bits that are at 1. Puts no packet, hands
+ * out nothing.
+ * Refusals in order: 3, if there are more than 258 octets. */
+uint64_t nci_read(const uint8_t *octets, size_t octets_len);
 
 #ifdef __cplusplus
 }

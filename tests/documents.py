@@ -11,7 +11,7 @@ ROOT = os.path.join(os.path.dirname(os.path.abspath(__file__)), "..")
 DOCUMENTS = ["README.md", "examples/README.md", "second/README.md", "compare/README.md", "docs"]
 # what the claim speaks of, and what is proved beside it
 CLAIM = "crates/calls/specs/Demand.antt"
-BESIDE = ["calls/specs/Packet", "calls/specs/Refines", "calls/specs/Reached", "calls/specs/Checked", "calls/specs/Played", "calls/specs/Discards", "calls/specs/Profiles", "calls/specs/Headers", "model/specs/Discarded", "model/specs/Profiles", "sheet/specs/Told", "sheet/specs/FirstPapers"]
+BESIDE = ["calls/specs/Packet", "calls/specs/Refines", "calls/specs/Reached", "calls/specs/Checked", "calls/specs/Played", "calls/specs/Discards", "calls/specs/Profiles", "calls/specs/Headers", "calls/specs/Reserved", "model/specs/Discarded", "model/specs/Profiles", "sheet/specs/Told", "sheet/specs/FirstPapers"]
 SKIPPED = {".git", "target", "build"}
 WRONG = "docs/WRONG-PROGRAMS.md"
 LOGS = "docs/PROOFS.md"

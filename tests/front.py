@@ -5,9 +5,10 @@ the next key is typed.
     front.py            builds it and runs all checks; the last line is 'front: N passed, M failed'
     front.py --built    leaves the building out
 
-A session with its answers is in tests/data/keys.txt; the second implementation's lists, typed as keys, have to give the
-same fields; the card has to be that of docs/CARD.md; any octets have to be answered line by line, also under the
-sanitizers and valgrind, where they are at hand."""
+A session with its answers is in tests/data/keys.txt, one with packets that have reserved bits at 1 in
+tests/data/forged-keys.txt; the second implementation's lists, typed as keys, have to give the same fields; the card has to
+be that of docs/CARD.md; any octets have to be answered line by line, also under the sanitizers and valgrind, where they are
+at hand."""
 import os
 import pty
 import random
@@ -22,7 +23,10 @@ from pathlib import Path
 
 ROOT = Path(__file__).resolve().parent.parent
 KEYS = ROOT / "build" / "keys"
-SOURCES = [ROOT / "front" / "keys.c", ROOT / "front" / "words.c"]
+WORDS = ROOT / "front" / "words.c"
+SOURCES = [ROOT / "front" / "keys.c", WORDS]
+# the front end with a key that sets reserved bits of a packet on a wire
+FORGED_KEYS = ROOT / "tests" / "c" / "forged_keys.c"
 STRICT = ["-std=c99", "-Wall", "-Wextra", "-Wpedantic", "-Werror", f"-I{ROOT / 'include'}"]
 LIBRARY = ROOT / "build" / "lib" / "libnci_bench.a"
 # for an answer, or for a program to end
@@ -39,13 +43,15 @@ MOST_HEARD, MOST_OF_FRESH = 200, 300
 
 HEX = "(?:[0-9A-F]{2})*"
 SAYS = r'says="[ !#-~]+"'
-CALLS = "fresh|power|command|send|push|down|consume|credit|air|reply|up|report"
+CALLS = "fresh|power|command|send|push|down|consume|credit|air|reply|up|report|read"
 ANSWERS = "|".join(map(str, [0, *NUMBERS]))
 LINE = re.compile(
-    f"ev=(?:{CALLS}) ans=(?:{ANSWERS}) drop=[01] pkt={HEX} msg=(?:-|{HEX}) {SAYS}"
+    f"ev=(?:{CALLS}) ans=(?:{ANSWERS}) drop=[01] rfu=[0-9A-F]{{2}} pkt={HEX} msg=(?:-|{HEX}) {SAYS}"
     f"|ev=bad ans=3 {SAYS}|ev=(?:card|help|quit) ans=0 {SAYS}"
 )
-FIELDS = re.compile(f"ev=([a-z]+) ans=([0-9]+) drop=([01]) pkt=({HEX}) msg=(-|{HEX}) says=\"(.*)\"")
+FIELDS = re.compile(
+    f"ev=([a-z]+) ans=([0-9]+) drop=([01]) rfu=([0-9A-F]{{2}}) pkt=({HEX}) msg=(-|{HEX}) says=\"(.*)\""
+)
 
 
 class Checks:
@@ -83,16 +89,16 @@ class Silent(Exception):
 class Worked:
     """The program while it is worked, at a terminal or through pipes. A key without an answer is a failure and ends it."""
 
-    def __init__(self, checks, terminal):
+    def __init__(self, checks, terminal, program=KEYS):
         self.checks = checks
         if terminal:
             self.typing, behind = pty.openpty()
             plain(behind)
-            self.process = subprocess.Popen([KEYS], stdin=behind, stdout=behind)
+            self.process = subprocess.Popen([program], stdin=behind, stdout=behind)
             os.close(behind)
             self.hearing = self.typing
         else:
-            self.process = subprocess.Popen([KEYS], stdin=subprocess.PIPE, stdout=subprocess.PIPE, bufsize=0)
+            self.process = subprocess.Popen([program], stdin=subprocess.PIPE, stdout=subprocess.PIPE, bufsize=0)
             self.typing, self.hearing = self.process.stdin.fileno(), self.process.stdout.fileno()
 
     def __enter__(self):
@@ -126,21 +132,34 @@ def fed(program, octets):
     return done.stdout.decode("latin-1"), done.stderr.decode("latin-1"), done.returncode
 
 
-# ---- the session of tests/data/keys.txt
+# ---- the sessions of tests/data
 
 
-def session():
+def session(name="keys"):
     """Keys and their answers: a key's line begins with >, its answer follows."""
-    lines = (ROOT / "tests" / "data" / "keys.txt").read_text().splitlines()
+    lines = (ROOT / "tests" / "data" / f"{name}.txt").read_text().splitlines()
     lines = [line for line in lines if line and not line.startswith("#")]
     return [(key.removeprefix("> "), answer) for key, answer in zip(lines[::2], lines[1::2])]
 
 
-def check_session(checks, terminal):
-    with Worked(checks, terminal) as worked:
-        for n, (key, answer) in enumerate(session(), 1):
-            checks.equal(f"{'terminal' if terminal else 'pipe'}, key {n}, {key}", worked.press(key), answer)
-        checks.equal("exit status after quit", worked.process.wait(SECONDS), 0)
+def check_session(checks, terminal, name="keys", program=KEYS):
+    with Worked(checks, terminal, program) as worked:
+        for n, (key, answer) in enumerate(session(name), 1):
+            where = f"{name} on a {'terminal' if terminal else 'pipe'}"
+            checks.equal(f"{where}, key {n}, {key}", worked.press(key), answer)
+        checks.equal(f"{name}, exit status after quit", worked.process.wait(SECONDS), 0)
+
+
+def check_forged(checks, folder):
+    """Calls from fresh put no reserved bits at 1, so down and up meet them here alone. What is said has every bit, and
+    stays short."""
+    program = folder / "forged_keys"
+    checks.equal("forged keys", compiled(["gcc", *STRICT, FORGED_KEYS, WORDS, LIBRARY, "-o", program]), ("", 0))
+    check_session(checks, False, "forged-keys", program)
+    for key, line in session("forged-keys"):
+        fields = FIELDS.fullmatch(line)
+        good = fields is None or (len(heard(line)) <= MOST_HEARD and says_reserved(fields[7], int(fields[4], 16)))
+        checks.check(f"forged keys, words for {key}", good, line)
 
 
 # ---- the lists of the second implementation, typed as keys
@@ -209,7 +228,7 @@ def data_said(conn, more, credits, length):
 def named(octets):
     """What is said first of each packet in a field pkt, and of data all."""
     while octets:
-        mt, low, oid, length = octets[0] >> 5, octets[0] & 15, octets[1], octets[2]
+        mt, low, oid, length = octets[0] >> 5, octets[0] & 15, octets[1] & 63, octets[2]
         kind = ["data", "CMD", "RSP", "NTF"][mt]
         if mt == 0:
             yield data_said(low, octets[0] & 16, octets[1] & 3, length)
@@ -232,15 +251,49 @@ def says_packet(part, name):
     return part == name if name.startswith("data ") else part.startswith(name)
 
 
-def says_right(line, card):
+def reserved_said(rfu):
+    """The words for reserved bits at 1."""
+    bits = [str(bit) for bit in range(7, -1, -1) if rfu >> bit & 1]
+    if len(bits) == 1:
+        return f"reserved bit {bits[0]} of octet 1 is at 1"
+    return f"reserved bits {', '.join(bits[:-1])} and {bits[-1]} of octet 1 are at 1"
+
+
+def says_reserved(says, rfu):
+    """Whether these bits are said, and none where there are none."""
+    return reserved_said(rfu) in says if rfu else "reserved" not in says
+
+
+def why_dropped(octets):
+    if len(octets) < 3:
+        return "fewer than 3 octets"
+    return f"RFU message type {octets[0] >> 5}" if octets[0] > 127 else "payload shorter than octet 2 states"
+
+
+def says_read(says, octets, dropped, rfu):
+    """Whether a read says why the octets are dropped, or names the packet and its reserved bits."""
+    if dropped:
+        return says == f"dropped: {why_dropped(octets)}"
+    packet, *bits = says.split("; ")
+    return says_packet(packet, next(named(octets))) and bits == ([reserved_said(rfu)] if rfu else [])
+
+
+def heard(line):
+    """A line without its octets."""
+    return re.sub("(pkt|msg)=[0-9A-F]*", "", line)
+
+
+def says_right(key, line, card):
     """Whether a line says its refusal, or names each packet that it shows, in their order, and tells what was handed out or
     dropped. A command's segments are named once."""
     fields = FIELDS.fullmatch(line)
     if fields is None:
         return line.startswith("ev=bad ")
-    event, answer, dropped, packets, message, says = fields.groups()
+    event, answer, dropped, rfu, packets, message, says = fields.groups()
     if answer != "0":
         return says == f"{answer}: {card[int(answer)]}"
+    if event == "read":
+        return says_read(says, bytes.fromhex(key.removeprefix("read ")), dropped == "1", int(rfu, 16))
     names = list(named(bytes.fromhex(packets)))
     if event == "command":
         return says == names[0] + (f" in {len(names)} packets" if len(names) > 1 else "")
@@ -260,8 +313,7 @@ def check_lists(checks, card):
     for key, line, answer in zip(keys, lines, answers):
         same = LINE.fullmatch(line) and line.split(" says=")[0] == answer
         most = MOST_OF_FRESH if line.startswith("ev=fresh ") else MOST_HEARD
-        short = len(re.sub("(pkt|msg)=[0-9A-F]*", "", line)) <= most
-        good = same and short and says_right(line, card)
+        good = same and len(heard(line)) <= most and says_right(key, line, card)
         checks.check(f"lists, {key}", good, f"\n  {line}, expected\n  {answer}")
     met = {line.split()[0] for line in lines}
     checks.equal("lists, every call", met >= {f"ev={call}" for call in CALLS.split("|")}, True)
@@ -291,7 +343,7 @@ def check_help(checks):
     with Worked(checks, terminal=False) as worked:
         answer = worked.press("help")
         names = answer.removeprefix('ev=help ans=0 says="').removesuffix('"').split()
-        checks.equal("number of keys", len(names), 30)
+        checks.equal("number of keys", len(names), 31)
         document = (ROOT / "docs" / "FRONT-ENDS.md").read_text()
         for name in names:
             line = worked.press(f"help {name}")
@@ -305,7 +357,8 @@ NO_KEYS = [
     "select 1", "select 1 4 1", "deactivate 0 0", "command", "command 0", "command 0 G", "command 0 0 1234567",
     "send", "send 2 48656C6C6", "send 2 4865-6C", "push", "push 2 2", "push two", "down 1", "up 1", "consume",
     "credit 2", "found 1 4 0", "poll 1 4", "listen 1 4", "failed 1", "sleeps 1", "lost 1", "releases 1", "says hello",
-    "air", "reply 0", "report", "power 1", "quit 1", "ev=down arg=", "push\0 2", "push\u00a02",
+    "air", "reply 0", "report", "read 20C00", "read 20 C0 0G", "power 1", "quit 1", "ev=down arg=", "push\0 2",
+    "push\u00a02",
     # profiles of 1, 4, 6, 10 and 12 octets
     "fresh 20", "fresh 20040204", "fresh 200402040104", "fresh 20040204020402040204", "fresh 200402040204020402040104",
 ]
@@ -313,7 +366,7 @@ SAME_KEYS = [
     ("PUSH 2", "push 2"), ("  push\t02\r", "push 2"), ("Fresh 20 04 02 04 01", "fresh"), ("discover 0 80", "discover"),
     ("fresh 20 0402 0402 0402 0402 0401", "fresh"), ("fresh 200402040204020402ffFF", "fresh 20 0402 FFFF"),
     ("reset 1", "reset"), ("command 0 3f 4a4B", "Command 003F 4A 4B"), ("deactivate 00", "deactivate"),
-    ("close 2", "command 0 5 2"), ("create", "command 0 4 01 00"),
+    ("close 2", "command 0 5 2"), ("create", "command 0 4 01 00"), ("read 20 c0 0", "Read 20C000"),
 ]
 
 
@@ -340,6 +393,8 @@ def check_lengths(checks):
         checks.check("a message of 1,024 octets", worked.press("send 0 " + "00" * 1024).startswith("ev=send ans=6 "))
         checks.check("a payload of 256 octets", worked.press("command 0 0 " + "00" * 256).startswith("ev=command ans=3 "))
         checks.check("33 parameters", worked.press("found 1 4 0 2 " + "00" * 33).startswith("ev=air ans=3 "))
+        checks.check("a read of 258 octets", worked.press("read " + "00" * 258).startswith("ev=read ans=0 drop=0 "))
+        checks.check("a read of 259 octets", worked.press("read " + "00" * 259).startswith("ev=read ans=3 "))
     checks.equal("no line feed at the end", fed([KEYS], b"card 8")[0], 'ev=card ans=0 says="8: there is nothing to move"\n')
     checks.equal("no line", fed([KEYS], b""), ("", "", 0))
 
@@ -415,6 +470,7 @@ def main():
     check_lengths(checks)
     check_any(checks, "any octets", [KEYS], 50000)
     with tempfile.TemporaryDirectory() as folder:
+        check_forged(checks, Path(folder))
         check_compilers(checks, Path(folder))
         check_sanitized(checks, Path(folder))
     print(f"front: {checks.passed} passed, {checks.failed} failed")

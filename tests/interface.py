@@ -41,6 +41,8 @@ REPORT_BENCHES = 10_000
 # of calls on damaged benches at least so many bring credits past a grant, and past 255, by each of what adds credits
 PAST_GRANT = 500
 PAST_255 = 100
+# and at least so many packets with reserved bits at 1 are taken, of each kind and each way
+RESERVED = 250
 # octets of stack that suffice for every call
 STACK = 12_288
 
@@ -186,6 +188,11 @@ def damaged():
     assert min(past) >= PAST_GRANT and min(wrapped) >= PAST_255, f"past a grant {past}, past 255 {wrapped}"
     assert PAST_GRANT <= int(met["leftpast"]) <= sum(past) - PAST_GRANT, f"{met['leftpast']} of {past} left past a grant"
     same(met["wrapped-consume"], "0")
+    # packets with reserved bits at 1, shown and dropped; the place of credits is reserved going down alone
+    kinds = [f"{way}-{kind}" for way in ("down", "up") for kind in ("control", "data", "dropped")] + ["down-credits"]
+    reserved = {kind: int(met[f"rfu-{kind}"]) for kind in kinds}
+    assert min(reserved.values()) >= RESERVED, f"reserved bits at 1: {reserved}"
+    same(met["rfu-up-credits"], "0")
 
 
 def every_octet():

@@ -5,8 +5,9 @@
                         the statements of crates/opinions/proofs/Lists.antt with what is made here
     lists.py --write    writes the answers and the statements
 
-Each paper becomes the statement that the model gives the same answers; `rt check opinions` proves it by computing. Together
-they meet every call and every refusal, every number of credits inside a data packet, and both lengths of a profile."""
+Each paper becomes the statement that the model gives the same answers; `rt check opinions` proves it by computing. A paper
+that has read in it does not: the model has no such call. Together they meet every call and every refusal, every number of
+credits inside a data packet, both lengths of a profile, and what read tells."""
 import re
 import sys
 import textwrap
@@ -18,8 +19,8 @@ LISTS = ROOT / "tests" / "data" / "lists.txt"
 STATEMENTS = ROOT / "crates" / "opinions" / "proofs" / "Lists.antt"
 WIDTH = 120
 
-# of each call: its single octets, whether octets of any number follow them, and the refusals that papers have to meet, in
-# their order. 1 and 2 are about areas, which the model does not have.
+# of each call of the model: its single octets, whether octets of any number follow them, and the refusals that papers have to
+# meet, in their order. 1 and 2 are about areas, which the model does not have.
 CALLS = {
     "fresh": (0, True, [3]),
     "power": (0, False, []),
@@ -34,6 +35,9 @@ CALLS = {
     "up": (0, False, [8]),
     "report": (1, False, [3, 6]),
 }
+READ = {"read": (0, True, [3])}
+# what read is to meet: packets with reserved bits at 1, and a drop
+READS = ("control", "data", "drop")
 # octets of a profile
 PROFILES = (5, 11)
 # what crates/opinions/specs/Shown.antt lends to the statements
@@ -46,7 +50,7 @@ SHOWN = ["hex", "line", "refusal", "done", "puts", "hands", "start", "lines"]
 HEX = "(?:[0-9A-F]{2})*"
 HEADING = re.compile("# ([a-z-]+): (.+)")
 ASKED = re.compile(f"ev=([a-z]+) arg=({HEX})")
-ANSWERED = re.compile(f"ev=([a-z]+) ans=([0-9]+) drop=([01]) pkt=({HEX}) msg=(-|{HEX})")
+ANSWERED = re.compile(f"ev=([a-z]+) ans=([0-9]+) drop=([01]) rfu=([0-9A-F]{{2}}) pkt=({HEX}) msg=(-|{HEX})")
 
 
 class Call:
@@ -54,16 +58,19 @@ class Call:
 
     def __init__(self, asked, answered):
         call, answer = ASKED.fullmatch(asked), ANSWERED.fullmatch(answered)
-        if not call or not answer or call[1] != answer[1] or call[1] not in CALLS:
+        if not call or not answer or call[1] != answer[1] or call[1] not in CALLS | READ:
             raise SystemExit(f"not a call and its answer:\n{asked}\n{answered}")
         self.name, argument = call[1], bytes.fromhex(call[2])
-        singles, more, _ = CALLS[self.name]
+        singles, more, _ = (CALLS | READ)[self.name]
         self.singles, self.octets = argument[:singles], argument[singles:] if more else None
         if len(self.singles) < singles or (len(argument) > singles and not more):
             raise SystemExit(f"octets missing or to spare:\n{asked}")
-        self.answer, self.drop, self.packets = int(answer[2]), answer[3] == "1", bytes.fromhex(answer[4])
+        self.answer, self.drop, self.rfu = int(answer[2]), answer[3] == "1", int(answer[4], 16)
+        self.packets = bytes.fromhex(answer[5])
         # `-` is an empty message, nothing is none
-        self.message = bytes.fromhex(answer[5].strip("-")) if answer[5] else None
+        self.message = bytes.fromhex(answer[6].strip("-")) if answer[6] else None
+        if self.rfu and self.name in CALLS:
+            raise SystemExit(f"reserved bits on a bench that is played from fresh on:\n{asked}\n{answered}")
 
 
 class Paper:
@@ -79,6 +86,7 @@ class Paper:
         self.stored = [line for line in lines if not ASKED.fullmatch(line)]
         self.answered = output(play, "\n".join(self.asked).encode())[0].decode().splitlines()
         self.calls = [Call(*pair) for pair in zip(self.asked, self.answered, strict=True)]
+        self.stated = all(call.name in CALLS for call in self.calls)
 
     def text(self):
         lines = [line for pair in zip(self.asked, self.answered) for line in pair]
@@ -90,18 +98,27 @@ def load():
     return [Paper(text, play) for text in LISTS.read_text().strip().split("\n\n")]
 
 
+def read_kind(call):
+    """Which of `READS` a read met."""
+    if call.drop or not call.rfu:
+        return "drop" if call.drop else None
+    return "data" if call.octets[0] < 0x20 else "control"
+
+
 def missing(papers):
-    """Calls never taken, refusals that a call never met, numbers of credits that no data packet carried up, and numbers of
-    octets that no profile had, taken or refused."""
+    """Calls never taken, refusals that a call never met, numbers of credits that no data packet carried up, numbers of
+    octets that no profile had, taken or refused, and what read never met."""
     calls = [call for paper in papers for call in paper.calls]
     met = Counter((call.name, call.answer) for call in calls)
-    due = [(name, answer) for name, (_, _, refusals) in CALLS.items() for answer in [0, *refusals]]
+    due = [(name, answer) for name, (_, _, refusals) in (CALLS | READ).items() for answer in [0, *refusals]]
     carried = {call.packets[1] for call in calls if call.name in ("consume", "reply") and call.packets}
     profiles = {(len(call.octets), call.answer) for call in calls if call.name == "fresh"}
     unmet = sorted({(n, answer) for n in PROFILES for answer in (0, 3)} - profiles)
     lacking = [f"no paper has {name} with answer {answer}" for name, answer in due if not met[name, answer]]
     lacking += [f"no paper has data that carries {n} credits" for n in range(4) if n not in carried]
-    return lacking + [f"no paper has fresh of {n} octets with answer {answer}" for n, answer in unmet]
+    lacking += [f"no paper has fresh of {n} octets with answer {answer}" for n, answer in unmet]
+    reads = {read_kind(call) for call in calls if call.name in READ}
+    return lacking + [f"no paper has read meet {kind}" for kind in READS if kind not in reads]
 
 
 # ---- statements
@@ -164,7 +181,7 @@ def use(module, names, words):
 
 
 def statements(papers):
-    made = [statement(paper) for paper in papers]
+    made = [statement(paper) for paper in papers if paper.stated]
     words = set(re.split(r"[\s()]+", "\n".join(made)))
     heading = [
         "-- Papers that meet every call and every refusal, with the second implementation's answers.",

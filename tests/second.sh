@@ -35,7 +35,8 @@ if [ "$status" -ne 0 ] && [ "$failed" -eq "$before" ]; then
 fi
 
 # every call and every refusal is met, credits come to the whole grant and never past it, profiles have both lengths, each
-# loopback opens beside one with another grant, and messages in hand are discarded. Everything is built in one profile, so once.
+# loopback opens beside one with another grant, read meets reserved bits at 1 and drops, and messages in hand are discarded.
+# Everything is built in one profile, so once.
 cargo run --release --locked --quiet --bin demand3 -- "$calls" | tee "$log"
 [ "${PIPESTATUS[0]}" -eq 0 ] && grep -q "^mismatch=none .* discards=[1-9].* never=none gaps=none$" "$log"
 result demand3 $?

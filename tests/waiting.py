@@ -25,9 +25,9 @@ HELD_BACK = 20
 A_WHILE = 0.2
 THREE_LINES = b"ev=command arg=000001\nev=down arg=\nev=push arg=02\n"
 THREE_ANSWERS = (
-    b"ev=command ans=0 drop=0 pkt=20000101 msg=\n"
-    b"ev=down ans=0 drop=0 pkt=400001006000050201200000 msg=\n"
-    b"ev=push ans=6 drop=0 pkt= msg=\n"
+    b"ev=command ans=0 drop=0 rfu=00 pkt=20000101 msg=\n"
+    b"ev=down ans=0 drop=0 rfu=00 pkt=400001006000050201200000 msg=\n"
+    b"ev=push ans=6 drop=0 rfu=00 pkt= msg=\n"
 )
 BAD = b"ev=bad ans=3\n"
 MEGABYTE = 1 << 20
@@ -189,7 +189,7 @@ def megabyte(program, play, lines):
 def longest_line(program, play, lines):
     """2,100 characters are a call that is refused, 2,101 are too many."""
     told = [output(program, b"ev=%b arg=%b\n" % (name, b"02" * n))[0] for name, n in ((b"send", 1044), (b"air", 1045))]
-    return differs(told[0], b"ev=send ans=3 drop=0 pkt= msg=\n") + differs(told[1], BAD)
+    return differs(told[0], b"ev=send ans=3 drop=0 rfu=00 pkt= msg=\n") + differs(told[1], BAD)
 
 
 def ends_without_output(program, play, lines, **more):

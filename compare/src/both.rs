@@ -4,6 +4,7 @@
 use exam_bench::bench::Bench;
 use exam_bench::call::{Call, Outcome};
 use exam_bench::connection::CONN_IDS;
+use exam_bench::packet::Way;
 use exam_bench::player::Random;
 use exam_bench::trial::grants::{self, Source, Sum};
 use exam_bench::trial::Tally;
@@ -38,6 +39,8 @@ pub struct Both {
     /// packets that a loopback returned with other credits than stood in them.
     pub past_grant: PastGrant,
     pub replaced: u64,
+    /// What only benches have whose wires somebody else wrote.
+    pub reserved: Reserved,
     room: Room,
 }
 
@@ -70,6 +73,39 @@ impl PastGrant {
     }
 }
 
+/// Packets that down and up took with reserved bits at 1, by the way and by what is shown: of
+/// control, of data, of data in the place of credits, which going up are none, and of a
+/// dropped packet nothing.
+#[derive(Clone, Debug, Default)]
+pub struct Reserved {
+    pub packets: [[u64; 4]; 2],
+}
+
+impl Reserved {
+    fn count(&mut self, way: Way, packet: &[u8], outcome: &Outcome) {
+        let [control, data, credits, dropped] = &mut self.packets[way as usize];
+        let is_data = packet[0] < 0x20;
+        if outcome.drop {
+            *dropped += u64::from(packet[1] >= 0x40);
+        } else if outcome.rfu != 0 {
+            *(if is_data { data } else { control }) += 1;
+            *credits += u64::from(is_data && outcome.rfu % 4 != 0);
+        }
+    }
+
+    /// Fields `key=value` for one line.
+    pub fn fields(&self) -> String {
+        let ways = ["down", "up"].into_iter().zip(&self.packets);
+        let of = |(way, packets): (&str, &[u64; 4])| {
+            let [control, data, credits, dropped] = packets;
+            let shown =
+                format!("rfu-{way}-control={control} rfu-{way}-data={data} rfu-{way}-credits={credits}");
+            format!("{shown} rfu-{way}-dropped={dropped}")
+        };
+        ways.map(of).collect::<Vec<_>>().join(" ")
+    }
+}
+
 impl Default for Both {
     fn default() -> Both {
         Both {
@@ -81,6 +117,7 @@ impl Default for Both {
             looks: 0,
             past_grant: PastGrant::default(),
             replaced: 0,
+            reserved: Reserved::default(),
             room: Room::EXACT,
         }
     }
@@ -109,9 +146,9 @@ impl Both {
         }
     }
 
-    /// At times the call is made with too few octets first.
+    /// At times the call is made with too few octets first; not so read, which is lent none.
     pub fn shorten(&mut self, call: &Call, random: &mut Random) -> Result<(), String> {
-        if random.below(SHORT) != 0 {
+        if random.below(SHORT) != 0 || call.is_read() {
             return Ok(());
         }
         let (any, few) = (random.below(AREA), random.below(BUFFER));
@@ -131,8 +168,12 @@ impl Both {
 
     /// Makes a call on both.
     pub fn step(&mut self, call: &Call) -> Result<(), String> {
+        if let Call::Read(octets) = call {
+            return self.read(call, octets);
+        }
         let seen = self.lent.call(call, self.room).map_err(|fault| format!("{}: {fault}", call.name()))?;
         let stored = self.stored_packet(call);
+        let first = self.first_packet(call);
         let sums = self.second.as_ref().map_or(Vec::new(), |bench| grants::sums(bench, call));
         let Some(outcome) = self.expected(call) else {
             self.damaged += 1;
@@ -149,12 +190,25 @@ impl Both {
             self.tally.count_opening(call, &outcome, bench);
         }
         self.count_replaced(stored, &outcome);
+        if let (Some((way, packet)), true) = (first, outcome.taken()) {
+            self.reserved.count(way, &packet, &outcome);
+        }
         let due = word::of(&outcome);
         check(seen.word == due, || format!("{}: word {:#x} for {due:#x}", call.name(), seen.word))?;
         check(seen.message == outcome.message, || {
             format!("{}: message {:02X?} for {:02X?}", call.name(), seen.message, outcome.message)
         })?;
         self.look(&outcome)
+    }
+
+    /// Reading alone: whatever the record is, and the area stays.
+    fn read(&mut self, call: &Call, octets: &[u8]) -> Result<(), String> {
+        let seen = self.lent.look(call, self.room)?;
+        let outcome = Bench::read(octets);
+        self.tally.count(call, &outcome);
+        let due = word::of(&outcome);
+        check(seen.word == due, || format!("read of {octets:02X?}: word {:#x} for {due:#x}", seen.word))?;
+        self.lent.unchanged()
     }
 
     /// What the second implementation answers; fresh makes a bench of any octets whose
@@ -176,6 +230,17 @@ impl Both {
             return None;
         };
         self.second.as_ref()?.controller.connection(*conn)?.store.front().cloned()
+    }
+
+    /// The packet that down or up is about to take off its wire.
+    fn first_packet(&self, call: &Call) -> Option<(Way, Vec<u8>)> {
+        let bench = self.second.as_ref()?;
+        let (way, wire) = match call {
+            Call::Down => (Way::Down, &bench.down_wire),
+            Call::Up => (Way::Up, &bench.up_wire),
+            _ => return None,
+        };
+        Some((way, wire.front()?.clone()))
     }
 
     fn count_replaced(&mut self, stored: Option<Vec<u8>>, outcome: &Outcome) {

@@ -4,11 +4,14 @@
 
 use exam_bench::call::Call;
 use exam_bench::connection::CONN_IDS;
-use exam_bench::player::Random;
+use exam_bench::player::{octets_to_read, Random};
 use exam_bench::profile::LONG_PROFILE;
 
 use crate::lists::Lists;
-use crate::record::{AREA, RECORD, RECORD_AT, RECORD_ROOM, SLOT, STORES_AT, STORE_SLOTS, UP_AT, WIRE_SLOTS};
+use crate::record::{
+    AREA, DOWN_AT, DOWN_RING, RECORD, RECORD_AT, RECORD_ROOM, SLOT, STORES_AT, STORE_SLOTS, UP_AT, UP_RING,
+    WIRE_SLOTS,
+};
 
 /// Calls of a list before its bench is damaged, damaged copies of that bench, most
 /// changes to one copy, and most calls of the list that goes on.
@@ -20,8 +23,9 @@ const GOING_ON: usize = 20;
 /// Slots of both wires and all stores, which lie at the front of the area.
 const SLOTS: usize = 2 * WIRE_SLOTS + 5 * STORE_SLOTS;
 
-/// Packets near those that are written here, data with credits among them.
-const PACKETS: [&[u8]; 30] = [
+/// Packets near those that are written here, data with credits and packets with reserved
+/// bits at 1 among them.
+const PACKETS: [&[u8]; 38] = [
     &[0x20, 0x00, 1, 0],
     &[0x20, 0x01, 2, 0, 0],
     &[0x20, 0x04, 2, 1, 0],
@@ -52,6 +56,14 @@ const PACKETS: [&[u8]; 30] = [
     &[0x03, 0xFD, 1, 0xAA],
     &[0x04, 0x01, 1, 0xAA],
     &[0x80, 0x00, 0],
+    &[0x20, 0xC0, 1, 0],
+    &[0x20, 0x44, 2, 1, 0],
+    &[0x31, 0x83, 1, 1],
+    &[0x40, 0x45, 1, 0],
+    &[0x60, 0xC6, 3, 1, 2, 2],
+    &[0x61, 0x85, 11, 1, 1, 4, 0, 4, 1, 0, 0, 0, 0, 0],
+    &[0x12, 0x84, 1, 0xAA],
+    &[0x80, 0xFF, 0],
 ];
 
 pub struct Damage {
@@ -119,7 +131,7 @@ impl Damage {
     fn change(&mut self, octets: &mut [u8]) {
         let random = &mut self.random;
         let record = RECORD_AT..RECORD_AT + RECORD;
-        match random.below(16) {
+        match random.below(17) {
             0 => octets[RECORD_AT + random.below(RECORD)] = random.octet(),
             1 => several(random, &mut octets[record], Random::octet),
             2..=4 => octets[RECORD_AT + random.below(RECORD)] = small(random),
@@ -128,6 +140,7 @@ impl Damage {
             7..=8 => forge(random, octets),
             12..=14 => reshape(random, &mut octets[record]),
             15 => fill_grant(random, octets),
+            16 => set_reserved(random, octets),
             9 => {
                 let place = random.below(SLOTS);
                 fill(random, slot(place, octets));
@@ -289,6 +302,17 @@ fn credits(random: &mut Random, place: usize) -> Vec<u8> {
     [vec![0x60, 0x06, octets + 1, octets / 2], entries].concat()
 }
 
+/// Bits of octet 1 are set in the packet that is first on each wire, or would be: mostly those
+/// that are reserved in every packet.
+fn set_reserved(random: &mut Random, octets: &mut [u8]) {
+    for (slots, ring) in [(DOWN_AT, DOWN_RING), (UP_AT, UP_RING)] {
+        let first = usize::from(octets[ring]) % WIRE_SLOTS;
+        octets[ring + 1] = octets[ring + 1].max(1);
+        let any = random.octet();
+        octets[slots + first * SLOT + 1] |= random.pick(&[0x40, 0x80, 0xC0, any]);
+    }
+}
+
 /// All octets changed.
 pub fn fill(random: &mut Random, octets: &mut [u8]) {
     for part in octets.chunks_mut(8) {
@@ -320,7 +344,7 @@ fn forge(random: &mut Random, octets: &mut [u8]) {
     }
 }
 
-/// All twelve calls, those of connections for one of them or for each.
+/// All calls, those of connections for one of them or for each.
 fn calls(random: &mut Random, each_conn: bool) -> Vec<Call> {
     let any = random.octet();
     let conns: Vec<u8> =
@@ -328,6 +352,7 @@ fn calls(random: &mut Random, each_conn: bool) -> Vec<Call> {
     let mut calls =
         vec![Call::Fresh(profile(random)), Call::Power, Call::Down, Call::Up, Call::Credit, Call::Reply];
     calls.extend([command(random), Call::Air(event(random)), Call::Air(event(random))]);
+    calls.push(Call::Read(octets_to_read(random)));
     for conn in conns {
         let octets = random.pick(&[0, 1, 9, 255, 256, 1024, 1025]);
         calls.push(Call::Send { conn, message: random.octets(octets) });

@@ -33,6 +33,7 @@ extern "C" {
     fn nci_up(area: *mut u8, n: usize, out: *mut u8, m: usize) -> u64;
     fn nci_report(area: *mut u8, n: usize, out: *mut u8, m: usize, conn: u8) -> u64;
     fn nci_packet(area: *const u8, n: usize, out: *mut u8, m: usize, wire: u8, back: u8) -> u64;
+    fn nci_read(octets: *const u8, k: usize) -> u64;
 }
 
 /// The octets that a call takes besides numbers; none for most calls.
@@ -42,12 +43,13 @@ pub fn argument(call: &Call) -> &[u8] {
         Call::Command { payload, .. } => payload,
         Call::Send { message, .. } => message,
         Call::Air(event) => event,
+        Call::Read(octets) => octets,
         _ => &[],
     }
 }
 
-/// Makes a call with these octets for its argument. A slice of no octets is lent as
-/// NULL, which the header allows.
+/// Makes a call with these octets for its argument; read is lent nothing else. A slice of
+/// no octets is lent as NULL, which the header allows.
 pub fn play(area: &mut [u8], out: &mut [u8], call: &Call, argument: &[u8]) -> u64 {
     let (n, m, k) = (area.len(), out.len(), argument.len());
     let (area, out) = (lent_mut(area), lent_mut(out));
@@ -67,6 +69,7 @@ pub fn play(area: &mut [u8], out: &mut [u8], call: &Call, argument: &[u8]) -> u6
             Call::Reply => nci_reply(area, n, out, m),
             Call::Up => nci_up(area, n, out, m),
             Call::Report(conn) => nci_report(area, n, out, m, *conn),
+            Call::Read(_) => nci_read(octets, k),
         }
     }
 }

@@ -33,7 +33,8 @@ impl Lists {
         }
     }
 
-    /// Plays one list of at most so many calls. None from fresh brings credits past a grant.
+    /// Plays one list of at most so many calls. None from fresh brings credits past a grant,
+    /// or puts a packet with reserved bits at 1.
     pub fn play(&mut self, most: usize) -> Result<(), String> {
         let most = most.clamp(1, LIST_CALLS);
         let place = self.both.tally.lists;
@@ -49,6 +50,9 @@ impl Lists {
         }
         if self.both.past_grant.calls.iter().any(|calls| *calls > 0) {
             return Err("a list from fresh brought credits past a grant".to_string());
+        }
+        if self.both.reserved.packets.iter().flatten().any(|packets| *packets > 0) {
+            return Err("a list from fresh had reserved bits at 1".to_string());
         }
         Ok(())
     }

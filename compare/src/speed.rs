@@ -138,6 +138,8 @@ pub fn cases() -> Vec<Case> {
         from("report", consumed, Call::Report(2)),
     ];
     cases.extend(full_wires());
+    cases.push(from("read, 3 octets", vec![], Call::Read(vec![0x02, 0xFF, 0])));
+    cases.push(from("read, 258 octets", vec![], Call::Read(full_data(1))));
     cases.push(from("a refusal", vec![], Call::Push(2)));
     cases
 }
@@ -206,9 +208,10 @@ fn time<T, A>(all: &mut [T], mut act: impl FnMut(&mut T) -> A) -> Duration {
 }
 
 /// A paper of random lists, as the second implementation's player deals them. Profiles
-/// have five octets, so that times compare with those of papers that knew no others.
+/// have five octets and nothing is read alone, so that times compare with those of papers
+/// that knew neither.
 pub fn mixed_paper(calls: usize, seed: u64, lengths: Lengths) -> Vec<Call> {
-    let mut player = Player::new(seed, lengths).with_short_profiles();
+    let mut player = Player::new(seed, lengths).with_short_profiles().without_reads();
     let mut bench = Bench::new(&PROFILE).expect("the profile is inside its limits");
     let mut paper = Vec::new();
     while paper.len() < calls {

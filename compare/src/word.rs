@@ -15,6 +15,7 @@ pub fn of(outcome: &Outcome) -> u64 {
         | length << 16
         | (outcome.down.len() as u64) << 32
         | (outcome.up.len() as u64) << 40
+        | u64::from(outcome.rfu) << 48
 }
 
 /// 0 taken, else the refusal.

@@ -67,6 +67,7 @@ fn each_export_once() {
     assert_eq!(packet(&mut lent, UP, 0), [0, 0, 1, 9]);
     let handed: Vec<_> = (0..4).map(|_| taken(&mut lent, Call::Up).message).collect();
     assert_eq!(handed, [None, Some(vec![1, 2, 3, 4, 5]), None, Some(vec![9])]);
+    assert_eq!(taken(&mut lent, Call::Read(vec![0x60, 0xC6, 0])).word, 0xC0 << 48);
 }
 
 #[test]

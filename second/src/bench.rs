@@ -1,5 +1,5 @@
 //! The bench: both ends, the two wires and the twelve calls, each with its
-//! refusals in the order that the decision on refusals lists them.
+//! refusals in the order that the decision on refusals lists them; and read.
 
 use std::collections::VecDeque;
 
@@ -9,7 +9,7 @@ use crate::connection::{is_dynamic, place_of};
 use crate::controller::Controller;
 use crate::counts;
 use crate::host::Host;
-use crate::packet::{self, InHand, Reading, MOST_CONTROL_MESSAGE, MOST_DATA_MESSAGE};
+use crate::packet::{self, InHand, Reading, Way, MOST_CONTROL_MESSAGE, MOST_DATA_MESSAGE, MOST_PACKET};
 use crate::profile::{Profile, Terms, NO_FLOW_CONTROL};
 
 /// Packets that a wire holds.
@@ -47,6 +47,16 @@ fn put_up(packet: Vec<u8>) -> Outcome {
     Outcome { up: vec![packet], ..Outcome::default() }
 }
 
+/// The reserved bits that down or up shows of the packet which it took. The drop flag
+/// also stands for a run that is lost and for an entry of a credit notice.
+fn shown(drop: bool, packet: &[u8], way: Way) -> u8 {
+    if drop {
+        0
+    } else {
+        packet::reserved_at_1(packet, way)
+    }
+}
+
 impl Bench {
     /// A fresh bench, or none for a profile of another length or outside its limits.
     pub fn new(profile: &[u8]) -> Option<Bench> {
@@ -80,7 +90,7 @@ impl Bench {
         &self.controller
     }
 
-    /// Makes any of the twelve calls.
+    /// Makes any of the calls.
     pub fn play(&mut self, call: &Call) -> Outcome {
         match call {
             Call::Fresh(profile) => self.fresh(profile),
@@ -95,6 +105,7 @@ impl Bench {
             Call::Reply => self.reply(),
             Call::Up => self.up(),
             Call::Report(conn) => self.report(*conn),
+            Call::Read(octets) => Bench::read(octets),
         }
     }
 
@@ -203,7 +214,8 @@ impl Bench {
         refuse_if(self.controller.store_full_for(first), Refusal::StoreFull)?;
         let first = self.down_wire.pop_front().ok_or(Refusal::NothingToMove)?;
         let taken = self.controller.take(&first);
-        Ok(Outcome { drop: taken.drop, up: taken.answers, ..Outcome::default() })
+        let rfu = shown(taken.drop, &first, Way::Down);
+        Ok(Outcome { drop: taken.drop, rfu, up: taken.answers, ..Outcome::default() })
     }
 
     // consume, credit
@@ -276,7 +288,8 @@ impl Bench {
     fn try_up(&mut self) -> Result<Outcome, Refusal> {
         let first = self.up_wire.pop_front().ok_or(Refusal::NothingToMove)?;
         let taken = self.host.take(&first);
-        Ok(Outcome { drop: taken.drop, message: taken.message, ..Outcome::default() })
+        let rfu = shown(taken.drop, &first, Way::Up);
+        Ok(Outcome { drop: taken.drop, rfu, message: taken.message, ..Outcome::default() })
     }
 
     // report
@@ -301,6 +314,18 @@ impl Bench {
         let held = self.host.connection(conn).map_or(0, |open| open.held());
         let credits = octet(counts::credits(&self.up_wire, conn));
         Ok([held, going_down, stored, open.owed(), credits])
+    }
+
+    // read
+
+    /// The reading alone, as of a packet going up. It knows no ends, so no packet is
+    /// dropped for the end that it would meet.
+    pub fn read(octets: &[u8]) -> Outcome {
+        if octets.len() > MOST_PACKET {
+            return Outcome::refused(Refusal::ArgumentOutsideLimit);
+        }
+        let drop = packet::read(octets) == Reading::Drop;
+        Outcome { drop, rfu: packet::reserved_at_1(octets, Way::Up), ..Outcome::default() }
     }
 
     // For tests: what no list of calls puts there.

@@ -1,8 +1,9 @@
-//! The twelve calls, their outcomes and the numbers for a call not taken.
+//! The twelve calls of the bench and read, which needs no bench, their outcomes and the
+//! numbers for a call not taken.
 
 /// A call with its arguments, as the sheet writes them. `fresh` has the octets of a
 /// profile, five or eleven, and refuses another number; `air` has its kind first
-/// (decision on the argument of air).
+/// (decision on the argument of air). `read` has any octets.
 #[derive(Clone, Debug, PartialEq, Eq)]
 pub enum Call {
     Fresh(Vec<u8>),
@@ -17,13 +18,14 @@ pub enum Call {
     Reply,
     Up,
     Report(u8),
+    Read(Vec<u8>),
 }
 
 impl Call {
-    /// The names of all calls, in document 01's order.
-    pub const NAMES: [&'static str; 12] = [
+    /// The names of all calls, in document 01's order; read, of document 02, is the last.
+    pub const NAMES: [&'static str; 13] = [
         "fresh", "power", "command", "send", "push", "down", "consume", "credit", "air", "reply", "up",
-        "report",
+        "report", "read",
     ];
 
     pub fn name(&self) -> &'static str {
@@ -45,7 +47,13 @@ impl Call {
             Call::Reply => 9,
             Call::Up => 10,
             Call::Report(_) => 11,
+            Call::Read(_) => 12,
         }
+    }
+
+    /// Demand 3 speaks of lists of the twelve calls: read is none of them.
+    pub fn is_read(&self) -> bool {
+        matches!(self, Call::Read(_))
     }
 }
 
@@ -78,6 +86,9 @@ pub struct Outcome {
     pub answer: u8,
     /// A packet was dropped, or an entry of a credit notice.
     pub drop: bool,
+    /// The reserved bits of octet 1 that were at 1 in the packet read, by down, up and
+    /// read, in their places; 0 where the drop flag is set.
+    pub rfu: u8,
     /// Packets put on the down wire.
     pub down: Vec<Vec<u8>>,
     /// Packets put on the up wire.

@@ -10,11 +10,12 @@
 //! (control messages) know octets; `profile` and `connection` have the terms and
 //! IDs of connections, `air` the argument of the call air; `controller` and
 //! `host` are the two ends; `counts` has what report counts on the wires; `call`
-//! and `bench` join the ends by the twelve calls; `sheet` is the text front end.
-//! `observer` holds demand 3's account and that of messages in hand, which see calls
-//! and outcomes alone, `player` deals random lists of calls, `trial` plays them,
-//! checks each call and counts what was met, with `trial::grants` for credits past a
-//! grant, and `bad_line` makes the lines of a sheet that are no calls.
+//! and `bench` join the ends by the twelve calls, and have read, which needs neither;
+//! `sheet` is the text front end. `observer` holds demand 3's account and that of
+//! messages in hand, which see the twelve calls and their outcomes alone, `player` deals
+//! random lists of calls, `trial` plays them, checks each call and counts what was met,
+//! with `trial::grants` for credits past a grant, and `bad_line` makes the lines of a
+//! sheet that are no calls.
 //!
 //! What a bench holds is public, so that a test can load one in any state.
 

@@ -10,6 +10,9 @@
 //!
 //! It also numbers the calls, and knows from sends and pushes what the host has in
 //! hand: what a close or reset response discards was sent before its command.
+//!
+//! Every packet that it sees put has reserved bits 0, so no call shows one at 1. Read is
+//! none of its calls: it is not to see one.
 
 mod hand;
 
@@ -191,6 +194,9 @@ impl Observer {
         if event.outcome.drop != expected.drop {
             return Err(format!("drop flag {} where {} was due", event.outcome.drop, expected.drop));
         }
+        if event.outcome.rfu != 0 {
+            return Err(format!("reserved bits {:02X}, which no packet had", event.outcome.rfu));
+        }
         Ok(())
     }
 
@@ -229,6 +235,7 @@ impl Observer {
             }
             Call::Up => return self.take_up(),
             Call::Credit | Call::Reply | Call::Report(_) => {}
+            Call::Read(_) => return Err("read is none of the calls of demand 3".to_string()),
         }
         Ok(Expected::default())
     }

@@ -1,10 +1,12 @@
 //! Packets: header, segments and reassembly (document 01, "Packets", and document
-//! 02, "Credits inside data packets"; 003, 3.4 and 3.5).
+//! 02, "Credits inside data packets" and "Reserved bits shown"; 003, 3.4 and 3.5).
 
 /// Octets before the payload.
 pub const HEADER_OCTETS: usize = 3;
 /// Controller data is cut here; the length octet holds no more.
 pub const MOST_PAYLOAD: usize = 255;
+/// The longest packet.
+pub const MOST_PACKET: usize = HEADER_OCTETS + MOST_PAYLOAD;
 /// A data run past this is dropped whole.
 pub const MOST_DATA_MESSAGE: usize = 1024;
 /// A control run past this is dropped whole.
@@ -15,6 +17,8 @@ pub const MOST_CARRIED: u8 = 3;
 const PACKET_BOUNDARY_FLAG: u8 = 0x10;
 /// CR, bits 1-0 of a data packet's octet 1.
 const CREDITS: u8 = 0x03;
+/// OID, bits 5-0 of a control packet's octet 1.
+const OPCODE: u8 = 0x3F;
 
 /// MT, bits 7-5 of octet 0. The other four values are RFU and have no case:
 /// reading one is a drop.
@@ -74,7 +78,7 @@ pub enum Reading<'a> {
 }
 
 /// Octets short of the stated length, or an RFU MT, are a drop; octets past the
-/// stated length and reserved bits are ignored.
+/// stated length and reserved bits are ignored. `reserved_at_1` tells these bits.
 pub fn read(octets: &[u8]) -> Reading<'_> {
     let [first, second, length, rest @ ..] = octets else {
         return Reading::Drop;
@@ -87,7 +91,7 @@ pub fn read(octets: &[u8]) -> Reading<'_> {
     };
     let (oid, credits) = match message_type {
         MessageType::Data => (0, second & CREDITS),
-        _ => (second & 0x3F, 0),
+        _ => (second & OPCODE, 0),
     };
     Reading::Packet(Packet {
         message_type,
@@ -97,6 +101,32 @@ pub fn read(octets: &[u8]) -> Reading<'_> {
         credits,
         payload,
     })
+}
+
+/// Which way a packet goes.
+#[derive(Clone, Copy, Debug, PartialEq, Eq)]
+pub enum Way {
+    Down,
+    Up,
+}
+
+/// The bits of octet 1 that a sender is to leave at 0: of control those beside the OID,
+/// of data those beside CR, and CR too where it goes down.
+fn reserved_bits(message_type: MessageType, way: Way) -> u8 {
+    match (message_type, way) {
+        (MessageType::Data, Way::Down) => 0xFF,
+        (MessageType::Data, Way::Up) => !CREDITS,
+        _ => !OPCODE,
+    }
+}
+
+/// The reserved bits of octet 1 that the sender left at 1, in their places; none of
+/// octets that are a drop.
+pub fn reserved_at_1(octets: &[u8], way: Way) -> u8 {
+    match read(octets) {
+        Reading::Packet(packet) => octets[1] & reserved_bits(packet.message_type, way),
+        Reading::Drop => 0,
+    }
 }
 
 /// The octets of a packet, reserved bits 0. `id`, `oid` and `credits` are inside
@@ -334,6 +364,20 @@ mod tests {
     fn reserved_bits_of_octet_1_are_ignored() {
         assert_eq!(packet(&[0x20, 0xC4, 0x00]).oid, 0x04);
         assert_eq!(packet(&[0x02, 0xFF, 0x00]).oid, 0x00);
+    }
+
+    #[test]
+    fn written_packets_have_reserved_bits_0() {
+        for (message_type, oid) in
+            [(MessageType::Data, 0), (MessageType::Command, 0x3F), (MessageType::Notification, 0x3F)]
+        {
+            let packet = Packet { message_type, more: false, id: 15, oid, credits: 0, payload: &[] };
+            assert_eq!(reserved_at_1(&write(&packet), Way::Down), 0);
+            assert_eq!(reserved_at_1(&write(&packet), Way::Up), 0);
+        }
+        let carrier = Packet { credits: 3, ..packet(&[0x02, 0x00, 0x00]) };
+        assert_eq!(reserved_at_1(&write(&carrier), Way::Up), 0);
+        assert_eq!(reserved_at_1(&write(&carrier), Way::Down), 3);
     }
 
     #[test]

@@ -3,12 +3,17 @@
 
 mod arguments;
 mod plans;
+mod reads;
 
 use std::collections::VecDeque;
 
 use crate::bench::Bench;
 use crate::call::Call;
 use crate::connection::CONN_IDS;
+pub use reads::octets_to_read;
+
+/// Of a hundred calls, how many are read.
+const READS: usize = 3;
 
 /// A small deterministic generator (splitmix64).
 #[derive(Clone, Debug)]
@@ -82,6 +87,8 @@ pub struct Player {
     lengths: Lengths,
     /// Whether profiles of eleven octets are dealt beside those of five.
     long_profiles: bool,
+    /// Whether read is dealt beside the twelve calls.
+    reads: bool,
     goal: Option<Goal>,
     plan: VecDeque<Step>,
     /// How often, of a hundred, the plan is followed and not a random call made.
@@ -91,12 +98,18 @@ pub struct Player {
 impl Player {
     pub fn new(seed: u64, lengths: Lengths) -> Player {
         let random = Random::new(seed);
-        Player { random, lengths, long_profiles: true, goal: None, plan: VecDeque::new(), follow: 90 }
+        let plan = VecDeque::new();
+        Player { random, lengths, long_profiles: true, reads: true, goal: None, plan, follow: 90 }
     }
 
     /// Deals profiles of five octets alone, as the first papers had.
     pub fn with_short_profiles(self) -> Player {
         Player { long_profiles: false, ..self }
+    }
+
+    /// Deals the twelve calls alone.
+    pub fn without_reads(self) -> Player {
+        Player { reads: false, ..self }
     }
 
     /// Begins a list: a profile for fresh and a temper for what follows.
@@ -123,6 +136,9 @@ impl Player {
     }
 
     pub fn next_call(&mut self, bench: &Bench) -> Call {
+        if self.reads && self.random.chance(READS) {
+            return Call::Read(octets_to_read(&mut self.random));
+        }
         if !self.random.chance(self.follow) {
             return self.random_call(bench);
         }

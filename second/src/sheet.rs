@@ -111,6 +111,7 @@ fn read_call(name: &str, octets: &[u8]) -> Option<Call> {
         ("reply", []) => Call::Reply,
         ("up", []) => Call::Up,
         ("report", [conn]) => Call::Report(*conn),
+        ("read", octets) => Call::Read(octets.to_vec()),
         _ => return None,
     };
     Some(call)
@@ -138,7 +139,7 @@ pub fn write_call(call: &Call) -> String {
         Call::Command { gid, oid, payload } => [&[*gid, *oid][..], payload].concat(),
         Call::Send { conn, message } => [&[*conn][..], message].concat(),
         Call::Push(conn) | Call::Consume(conn) | Call::Report(conn) => vec![*conn],
-        Call::Air(octets) => octets.clone(),
+        Call::Air(octets) | Call::Read(octets) => octets.clone(),
         Call::Power | Call::Down | Call::Credit | Call::Reply | Call::Up => Vec::new(),
     };
     format!("ev={} arg={}", call.name(), hex(&octets))
@@ -149,10 +150,11 @@ pub fn write_call(call: &Call) -> String {
 pub fn write_outcome(call: &Call, outcome: &Outcome) -> String {
     let packets = [outcome.down.concat(), outcome.up.concat()].concat();
     format!(
-        "ev={} ans={} drop={} pkt={} msg={}",
+        "ev={} ans={} drop={} rfu={:02X} pkt={} msg={}",
         call.name(),
         outcome.answer,
         u8::from(outcome.drop),
+        outcome.rfu,
         hex(&packets),
         write_message(outcome.message.as_deref()),
     )

@@ -14,10 +14,12 @@ use crate::profile::{LONG_PROFILE, SHORT_PROFILE};
 use crate::sheet;
 use grants::{Source, Sum};
 
+const CALLS: usize = Call::NAMES.len();
+
 /// The refusals that each call knows here, 1 and 2 left out (decision on
 /// refusals), each list in the order in which they are judged; the calls in the
 /// order of `Call::NAMES`.
-pub const REFUSALS_OF: [&[u8]; 12] = [
+pub const REFUSALS_OF: [&[u8]; CALLS] = [
     &[3],
     &[],
     &[3, 4, 5],
@@ -30,21 +32,27 @@ pub const REFUSALS_OF: [&[u8]; 12] = [
     &[4, 8],
     &[8],
     &[3, 6],
+    &[3],
 ];
 
 /// Octets of a profile.
 const PROFILES: [usize; 2] = [SHORT_PROFILE, LONG_PROFILE];
 const LOOPBACKS: usize = (LAST_DYNAMIC - FIRST_DYNAMIC) as usize + 1;
+/// What read is to meet: packets with reserved bits at 1, by what they are, and drops.
+const READS: [&str; 3] = ["control", "data", "drop"];
 
 /// What a number of lists has met.
 #[derive(Clone, Debug, Default)]
 pub struct Tally {
+    /// Read, which is none of the calls of demand 3, is not among them.
     pub calls: u64,
     pub lists: u64,
     /// Taken, for each call.
-    pub taken: [u64; 12],
+    pub taken: [u64; CALLS],
     /// Refused, for each call and number.
-    pub refused: [[u64; ANSWERS]; 12],
+    pub refused: [[u64; ANSWERS]; CALLS],
+    /// What read met, by the places of `READS`.
+    pub reads: [u64; READS.len()],
     /// Profiles that fresh took, by their octets.
     pub profiles: [u64; PROFILES.len()],
     /// Loopbacks that opened while another one was open with another grant, from 2 on.
@@ -66,11 +74,14 @@ pub struct Tally {
 
 impl Tally {
     pub fn count(&mut self, call: &Call, outcome: &Outcome) {
-        self.calls += 1;
+        self.calls += u64::from(!call.is_read());
         if outcome.taken() {
             self.taken[call.index()] += 1;
         } else {
             self.refused[call.index()][usize::from(outcome.answer)] += 1;
+        }
+        if let Call::Read(octets) = call {
+            return self.count_read(octets, outcome);
         }
         let handed_out = outcome.message.is_some() && !matches!(call, Call::Report(_));
         self.messages += u64::from(handed_out);
@@ -78,6 +89,15 @@ impl Tally {
         outcome.up.iter().for_each(|octets| self.count_credits(octets));
         if let (Call::Fresh(profile), true) = (call, outcome.taken()) {
             self.count_profile(profile.len());
+        }
+    }
+
+    fn count_read(&mut self, octets: &[u8], outcome: &Outcome) {
+        let [control, data, drop] = &mut self.reads;
+        if outcome.drop {
+            *drop += 1;
+        } else if outcome.rfu != 0 {
+            *(if octets[0] < 0x20 { data } else { control }) += 1;
         }
     }
 
@@ -138,8 +158,9 @@ impl Tally {
     /// Calls never taken, and pairs of call and refusal never met, as `call` and
     /// `call:number`; then numbers of credits that no data packet carried, as
     /// `carried:number`, what never added up to a whole grant, as `whole:source`, numbers
-    /// of octets that no profile had, as `profile:number`, and loopbacks that never opened
-    /// beside one with another grant, as `unlike:conn`.
+    /// of octets that no profile had, as `profile:number`, loopbacks that never opened
+    /// beside one with another grant, as `unlike:conn`, and what read never met, as
+    /// `reads:name`.
     pub fn gaps(&self) -> Vec<String> {
         let mut gaps = Vec::new();
         for (index, name) in Call::NAMES.iter().enumerate() {
@@ -160,6 +181,8 @@ impl Tally {
         gaps.extend(unmet.map(|(octets, _)| format!("profile:{octets}")));
         let unmet = (FIRST_DYNAMIC..).zip(self.unlike).filter(|(_, openings)| *openings == 0);
         gaps.extend(unmet.map(|(conn, _)| format!("unlike:{conn}")));
+        let unmet = READS.iter().zip(self.reads).filter(|(_, reads)| *reads == 0);
+        gaps.extend(unmet.map(|(name, _)| format!("reads:{name}")));
         gaps
     }
 
@@ -183,6 +206,9 @@ impl Tally {
         }
         for (conn, openings) in (FIRST_DYNAMIC..).zip(self.unlike) {
             fields += &format!(" unlike-{conn}={openings}");
+        }
+        for (name, reads) in READS.iter().zip(self.reads) {
+            fields += &format!(" reads-{name}={reads}");
         }
         fields += &format!(" discards={} rests={}", self.discards, self.rests);
         fields + &format!(" never={} gaps={}", list_or_none(&never), list_or_none(&self.gaps()))
@@ -226,7 +252,7 @@ impl Trial {
     }
 
     /// Makes a call and checks all that demand 3 says of it, and that credits stay within
-    /// the grant.
+    /// the grant. Of read, which the observer does not see, it checks that nothing happens.
     pub fn step(&mut self, call: Call, tally: &mut Tally) -> Result<&Event, String> {
         let before = self.bench.clone();
         let outcome = self.bench.play(&call);
@@ -237,6 +263,10 @@ impl Trial {
         self.events.push(Event { call, outcome });
         let event = &self.events[self.events.len() - 1];
         check_refusal(event, &before, &self.bench)?;
+        if event.call.is_read() {
+            check_read(event, &before, &self.bench)?;
+            return Ok(event);
+        }
         grants::check_grants(&sums)?;
         let discards = self.observer.discards();
         self.observer.see(event)?;
@@ -272,6 +302,16 @@ fn check_refusal(event: &Event, before: &Bench, after: &Bench) -> Result<(), Str
         return Err(format!("{} refused with {answer}, yet the bench changed", event.call.name()));
     }
     Ok(())
+}
+
+/// Read leaves the bench as it was, puts nothing and hands out nothing.
+fn check_read(event: &Event, before: &Bench, after: &Bench) -> Result<(), String> {
+    let Outcome { answer, drop, rfu, .. } = event.outcome;
+    if before == after && event.outcome == (Outcome { answer, drop, rfu, ..Outcome::default() }) {
+        Ok(())
+    } else {
+        Err(format!("{:?} did more than read", event.call))
+    }
 }
 
 /// Every report is the observer's.

@@ -25,9 +25,9 @@ fn is_bad(line: &str) -> bool {
 #[test]
 fn the_example_of_three_lines() {
     let input = b"ev=command arg=000001\nev=down arg=\nev=push arg=02\n";
-    let expected = "ev=command ans=0 drop=0 pkt=20000101 msg=\n\
-                    ev=down ans=0 drop=0 pkt=400001006000050201200000 msg=\n\
-                    ev=push ans=6 drop=0 pkt= msg=\n";
+    let expected = "ev=command ans=0 drop=0 rfu=00 pkt=20000101 msg=\n\
+                    ev=down ans=0 drop=0 rfu=00 pkt=400001006000050201200000 msg=\n\
+                    ev=push ans=6 drop=0 rfu=00 pkt= msg=\n";
     assert_eq!(printed(input), expected);
     assert_eq!(printed(&input[..input.len() - 1]), expected);
 }
@@ -35,24 +35,24 @@ fn the_example_of_three_lines() {
 #[test]
 fn an_empty_message_is_a_dash_and_report_shows_its_octets() {
     let lines = [
-        ("ev=command arg=000000", "ev=command ans=0 drop=0 pkt=20000100 msg="),
-        ("ev=down arg=", "ev=down ans=0 drop=0 pkt=400001006000050200200000 msg="),
-        ("ev=up arg=", "ev=up ans=0 drop=0 pkt= msg="),
-        ("ev=up arg=", "ev=up ans=0 drop=0 pkt= msg="),
-        ("ev=command arg=00010000", "ev=command ans=0 drop=0 pkt=2001020000 msg="),
-        ("ev=down arg=", "ev=down ans=0 drop=0 pkt=40011000000000000400002000000000010100 msg="),
-        ("ev=up arg=", "ev=up ans=0 drop=0 pkt= msg="),
-        ("ev=command arg=00040100", "ev=command ans=0 drop=0 pkt=2004020100 msg="),
-        ("ev=down arg=", "ev=down ans=0 drop=0 pkt=40040400040202 msg="),
-        ("ev=report arg=02", "ev=report ans=0 drop=0 pkt= msg=0000000002"),
-        ("ev=up arg=", "ev=up ans=0 drop=0 pkt= msg="),
-        ("ev=send arg=02", "ev=send ans=0 drop=0 pkt= msg="),
-        ("ev=push arg=02", "ev=push ans=0 drop=0 pkt=020000 msg="),
-        ("ev=down arg=", "ev=down ans=0 drop=0 pkt= msg="),
-        ("ev=consume arg=02", "ev=consume ans=0 drop=0 pkt=020100 msg=-"),
-        ("ev=up arg=", "ev=up ans=0 drop=0 pkt= msg=-"),
-        ("ev=credit arg=", "ev=credit ans=8 drop=0 pkt= msg="),
-        ("ev=air arg=08", "ev=air ans=11 drop=0 pkt= msg="),
+        ("ev=command arg=000000", "ev=command ans=0 drop=0 rfu=00 pkt=20000100 msg="),
+        ("ev=down arg=", "ev=down ans=0 drop=0 rfu=00 pkt=400001006000050200200000 msg="),
+        ("ev=up arg=", "ev=up ans=0 drop=0 rfu=00 pkt= msg="),
+        ("ev=up arg=", "ev=up ans=0 drop=0 rfu=00 pkt= msg="),
+        ("ev=command arg=00010000", "ev=command ans=0 drop=0 rfu=00 pkt=2001020000 msg="),
+        ("ev=down arg=", "ev=down ans=0 drop=0 rfu=00 pkt=40011000000000000400002000000000010100 msg="),
+        ("ev=up arg=", "ev=up ans=0 drop=0 rfu=00 pkt= msg="),
+        ("ev=command arg=00040100", "ev=command ans=0 drop=0 rfu=00 pkt=2004020100 msg="),
+        ("ev=down arg=", "ev=down ans=0 drop=0 rfu=00 pkt=40040400040202 msg="),
+        ("ev=report arg=02", "ev=report ans=0 drop=0 rfu=00 pkt= msg=0000000002"),
+        ("ev=up arg=", "ev=up ans=0 drop=0 rfu=00 pkt= msg="),
+        ("ev=send arg=02", "ev=send ans=0 drop=0 rfu=00 pkt= msg="),
+        ("ev=push arg=02", "ev=push ans=0 drop=0 rfu=00 pkt=020000 msg="),
+        ("ev=down arg=", "ev=down ans=0 drop=0 rfu=00 pkt= msg="),
+        ("ev=consume arg=02", "ev=consume ans=0 drop=0 rfu=00 pkt=020100 msg=-"),
+        ("ev=up arg=", "ev=up ans=0 drop=0 rfu=00 pkt= msg=-"),
+        ("ev=credit arg=", "ev=credit ans=8 drop=0 rfu=00 pkt= msg="),
+        ("ev=air arg=08", "ev=air ans=11 drop=0 rfu=00 pkt= msg="),
     ];
     let input: String = lines.iter().map(|line| format!("{}\n", line.0)).collect();
     let expected: String = lines.iter().map(|line| format!("{}\n", line.1)).collect();
@@ -87,6 +87,11 @@ fn lines_of_another_form() {
         "ev=bad arg=",
         "ev=down\targ=",
         "ev=run arg=",
+        "ev=read",
+        "ev=Read arg=20C000",
+        "ev=read arg=20C00",
+        "ev=read arg=20c000",
+        "ev=read arg=20 C0 00",
     ] {
         assert!(is_bad(line), "{line:?}");
     }
@@ -148,6 +153,10 @@ fn octets_missing_or_to_spare_in_fixed_fields() {
         "ev=reply arg=",
         "ev=up arg=",
         "ev=report arg=02",
+        "ev=read arg=",
+        "ev=read arg=20",
+        "ev=read arg=20C000",
+        "ev=read arg=20C000FF",
     ] {
         assert!(!is_bad(line), "{line:?}");
     }
@@ -164,7 +173,7 @@ fn fresh_has_five_octets_or_eleven() {
 
 #[test]
 fn what_is_too_long_in_a_tail_goes_to_the_call() {
-    let refused = |name: &str| format!("ev={name} ans=3 drop=0 pkt= msg=");
+    let refused = |name: &str| format!("ev={name} ans=3 drop=0 rfu=00 pkt= msg=");
     assert_eq!(answer(&format!("ev=send arg=02{}", "00".repeat(1025))), refused("send"));
     assert_eq!(answer(&format!("ev=command arg=0000{}", "00".repeat(256))), refused("command"));
     assert_eq!(answer(&format!("ev=air arg=0101040002{}", "00".repeat(33))), refused("air"));
@@ -176,6 +185,19 @@ fn what_is_too_long_in_a_tail_goes_to_the_call() {
     assert_eq!(answer("ev=fresh arg=2004020402040904020401"), refused("fresh"));
     assert_eq!(answer("ev=command arg=1000"), refused("command"));
     assert_eq!(answer("ev=push arg=01"), refused("push"));
+    assert_eq!(answer(&format!("ev=read arg={}", "00".repeat(259))), refused("read"));
+}
+
+/// Octets of any number: 1,044 are as many as a line has room for.
+#[test]
+fn read_shows_the_drop_flag_and_the_reserved_bits_alone() {
+    let line = |octets: usize| format!("ev=read arg=40C0FF{}", "00".repeat(octets - 3));
+    assert_eq!(answer(&line(258)), "ev=read ans=0 drop=0 rfu=C0 pkt= msg=");
+    assert_eq!(answer(&line(257)), "ev=read ans=0 drop=1 rfu=00 pkt= msg=");
+    assert_eq!(answer(&line(1044)), "ev=read ans=3 drop=0 rfu=00 pkt= msg=");
+    assert!(is_bad(&line(1045)));
+    assert_eq!(answer("ev=read arg="), "ev=read ans=0 drop=1 rfu=00 pkt= msg=");
+    assert_eq!(answer("ev=read arg=00AB00"), "ev=read ans=0 drop=0 rfu=A8 pkt= msg=");
 }
 
 #[test]
@@ -184,13 +206,13 @@ fn a_line_of_2100_characters_is_read_and_one_of_2101_is_bad() {
         let head = "ev=send arg=";
         format!("{head}{}", "0".repeat(characters - head.len()))
     };
-    assert_eq!(answer(&line(2100)), "ev=send ans=3 drop=0 pkt= msg=");
+    assert_eq!(answer(&line(2100)), "ev=send ans=3 drop=0 rfu=00 pkt= msg=");
     assert!(is_bad(&line(2101)));
     assert!(is_bad(&line(2102)));
     for length in [2100, 2101, 2102, 4200, 4202, 100_000] {
-        let expected = if length == 2100 { "ev=send ans=3 drop=0 pkt= msg=" } else { "ev=bad ans=3" };
+        let expected = if length == 2100 { "ev=send ans=3 drop=0 rfu=00 pkt= msg=" } else { "ev=bad ans=3" };
         let input = format!("{}\nev=down arg=\n", line(length));
-        assert_eq!(printed(input.as_bytes()), format!("{expected}\nev=down ans=8 drop=0 pkt= msg=\n"));
+        assert_eq!(printed(input.as_bytes()), format!("{expected}\nev=down ans=8 drop=0 rfu=00 pkt= msg=\n"));
         assert_eq!(printed(line(length).as_bytes()), format!("{expected}\n"));
     }
 }
@@ -199,7 +221,10 @@ fn a_line_of_2100_characters_is_read_and_one_of_2101_is_bad() {
 fn empty_lines_are_bad_and_the_end_of_input_is_no_line() {
     assert_eq!(printed(b""), "");
     assert_eq!(printed(b"\n"), "ev=bad ans=3\n");
-    assert_eq!(printed(b"\n\nev=up arg="), "ev=bad ans=3\nev=bad ans=3\nev=up ans=8 drop=0 pkt= msg=\n");
+    assert_eq!(
+        printed(b"\n\nev=up arg="),
+        "ev=bad ans=3\nev=bad ans=3\nev=up ans=8 drop=0 rfu=00 pkt= msg=\n"
+    );
 }
 
 #[test]
@@ -230,6 +255,8 @@ fn every_call_reads_back_from_its_line() {
         Call::Reply,
         Call::Up,
         Call::Report(255),
+        Call::Read(vec![]),
+        Call::Read(vec![0xAB; 1044]),
     ];
     for call in calls {
         assert_eq!(sheet::read_line(sheet::write_call(&call).as_bytes()), Some(call));
@@ -246,9 +273,9 @@ fn the_program_answers_each_line_as_soon_as_it_is_read() {
     let mut input = program.stdin.take().unwrap();
     let mut output = program.stdout.take().unwrap();
     for (line, expected) in [
-        ("ev=command arg=000001\n", "ev=command ans=0 drop=0 pkt=20000101 msg=\n"),
+        ("ev=command arg=000001\n", "ev=command ans=0 drop=0 rfu=00 pkt=20000101 msg=\n"),
         ("\n", "ev=bad ans=3\n"),
-        ("ev=down arg=\n", "ev=down ans=0 drop=0 pkt=400001006000050201200000 msg=\n"),
+        ("ev=down arg=\n", "ev=down ans=0 drop=0 rfu=00 pkt=400001006000050201200000 msg=\n"),
     ] {
         input.write_all(line.as_bytes()).unwrap();
         input.flush().unwrap();
@@ -260,6 +287,6 @@ fn the_program_answers_each_line_as_soon_as_it_is_read() {
     drop(input);
     let mut rest = String::new();
     output.read_to_string(&mut rest).unwrap();
-    assert_eq!(rest, "ev=push ans=6 drop=0 pkt= msg=\n");
+    assert_eq!(rest, "ev=push ans=6 drop=0 rfu=00 pkt= msg=\n");
     assert!(program.wait().unwrap().success());
 }

@@ -1,7 +1,9 @@
 /* Damaged benches from C, for the sanitizers and for valgrind: octets of a bench are changed
  * at random and every export is called on it, with slices of their own in the heap.
  * `damaged [CALLS] [SEED]`. A refusal changes no octet, a taken call none of the buffer past
- * its message. Prints the calls made and those taken; returns 1 if something does not hold. */
+ * its message, nci_read none at all; reserved bits are shown only where nothing was dropped.
+ * Prints the calls made, those taken and those that showed such bits; returns 1 if something
+ * does not hold. */
 #include "nci_bench.h"
 
 #include <stdio.h>
@@ -13,7 +15,9 @@
 
 static uint64_t state;
 static uint8_t *area, *before, *warm, *out;
-static unsigned long calls, taken;
+static unsigned long calls, taken, reserved;
+
+enum { READ = 12, FRESH = 13 }; /* of the exports by number */
 
 static uint64_t number(void) { /* splitmix64 */
     uint64_t mixed = state += 0x9E3779B97F4A7C15u;
@@ -45,7 +49,18 @@ static uint64_t play_fresh(void) {
     return word;
 }
 
-/* One of the thirteen exports. */
+/* Reads octets that are a packet, mostly, of up to 258 octets or more. */
+static uint64_t play_read(void) {
+    size_t len = below(4) == 0 ? below(300) : 3 + below(9);
+    uint8_t *packet = octets(len);
+    uint64_t word;
+    if (len > 2 && below(4) != 0) packet[2] = (uint8_t)(len - 3);
+    word = nci_read(packet, len);
+    free(packet);
+    return word;
+}
+
+/* One of the fourteen exports. */
 static uint64_t play(unsigned which) {
     static const uint8_t known[][2] = {{0, 0}, {0, 1}, {0, 4}, {0, 5}, {1, 3}, {1, 4}, {1, 6}};
     const uint8_t *command = known[below(7)];
@@ -66,6 +81,7 @@ static uint64_t play(unsigned which) {
     case 9: word = nci_up(area, n, out, m); break;
     case 10: word = nci_report(area, n, out, m, conn); break;
     case 11: word = nci_packet(area, n, out, m, wire, back); break;
+    case READ: word = play_read(); break;
     default: word = play_fresh(); break;
     }
     free(argument);
@@ -80,6 +96,9 @@ static int step(unsigned which) {
     memset(out, MARK, NCI_BUFFER_SIZE);
     word = play(which);
     calls++;
+    reserved += nci_word_rfu(word) != 0;
+    if (nci_word_rfu(word) != 0 && nci_word_dropped(word)) return 1;
+    if (which == READ && memcmp(before, area, NCI_AREA_SIZE + PAST) != 0) return 1;
     if (nci_word_answer(word) == NCI_TAKEN) {
         taken++;
         first = nci_word_length(word);
@@ -136,13 +155,13 @@ int main(int argc, char **argv) {
     while (calls < most && !fault) {
         memcpy(area, warm, NCI_AREA_SIZE + PAST);
         for (size_t i = below(4); i > 0; i--) damage();
-        for (unsigned i = 0; i < 60 && !fault; i++) fault = step((unsigned)below(12));
-        fault = fault || step(12);
+        for (unsigned i = 0; i < 60 && !fault; i++) fault = step((unsigned)below(FRESH));
+        fault = fault || step(FRESH);
     }
-    printf("calls=%lu taken=%lu fault=%d\n", calls, taken, fault);
+    printf("calls=%lu taken=%lu reserved=%lu fault=%d\n", calls, taken, reserved, fault);
     free(area);
     free(before);
     free(warm);
     free(out);
-    return fault || taken == 0;
+    return fault || taken == 0 || reserved == 0;
 }

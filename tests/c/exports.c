@@ -1,6 +1,7 @@
 /* Each export once, as a front end in C makes it: a first paper with a loopback, an
- * activation and an endpoint's message, its packets and messages to the octet. Prints
- * nothing and returns 0, or prints the line that does not hold and returns 1. */
+ * activation and an endpoint's message, its packets and messages to the octet; and octets
+ * that are read alone. Prints nothing and returns 0, or prints the line that does not hold
+ * and returns 1. */
 #include "nci_bench.h"
 
 #include <stdio.h>
@@ -27,10 +28,11 @@ static int is_packet(unsigned wire, unsigned back, const uint8_t *octets, size_t
            memcmp(out, octets, len) == 0;
 }
 
-/* A taken call that put so many packets down and up, dropped nothing and handed out nothing. */
+/* A taken call that put so many packets down and up, dropped nothing, handed out nothing and
+ * met no reserved bit at 1. */
 static int put(uint64_t word, unsigned down, unsigned up) {
     return nci_word_answer(word) == NCI_TAKEN && !nci_word_dropped(word) && !nci_word_handed_out(word) &&
-           nci_word_put_down(word) == down && nci_word_put_up(word) == up;
+           nci_word_put_down(word) == down && nci_word_put_up(word) == up && nci_word_rfu(word) == 0;
 }
 
 /* A taken call that handed out this message. */
@@ -150,6 +152,24 @@ static int speak(void) {
     return 0;
 }
 
+/* A read that dropped the octets, and one that did not, with these reserved bits at 1. */
+static int dropped(uint64_t word) { return nci_word_dropped(word) && word == (uint64_t)1 << 8; }
+static int shows(uint64_t word, unsigned rfu) { return nci_word_rfu(word) == rfu && word == (uint64_t)rfu << 48; }
+
+/* Data, a command and a notice with all bits of octet 1 at 1, and one with none of the
+ * reserved; the most octets, one fewer than octet 2 states, one more. */
+static int read_alone(void) {
+    static const uint8_t data[] = {2, 0xFF, 0}, command[] = {0x20, 0xFF, 0}, notice[] = {0x60, 0xFF, 0, 0xAA};
+    static const uint8_t plain[] = {0x60, 0x3F, 0}, type[] = {0x80, 0xFF, 0}, full[NCI_PACKET_MAX + 1] = {2, 0xFF, 0xFF};
+    HOLDS(shows(nci_read(data, sizeof data), NCI_RFU_DATA_UP) && shows(nci_read(plain, sizeof plain), 0));
+    HOLDS(shows(nci_read(command, sizeof command), NCI_RFU_CONTROL));
+    HOLDS(shows(nci_read(notice, sizeof notice), NCI_RFU_CONTROL));
+    HOLDS(dropped(nci_read(NULL, 0)) && dropped(nci_read(data, 2)) && dropped(nci_read(type, sizeof type)));
+    HOLDS(dropped(nci_read(full, NCI_PACKET_MAX - 1)) && shows(nci_read(full, NCI_PACKET_MAX), NCI_RFU_DATA_UP));
+    HOLDS(nci_read(full, NCI_PACKET_MAX + 1) == NCI_OUTSIDE_LIMIT);
+    return 0;
+}
+
 /* Slices of no octets, too few octets, and what is refused for other reasons. */
 static int refuse(void) {
     static const uint8_t two[] = {2};
@@ -173,5 +193,6 @@ static int refuse(void) {
 
 int main(void) {
     memset(area, 0x5A, sizeof area);
-    return profiles() || side_by_side() || bring_up(five, sizeof five) || loop_back() || speak() || refuse();
+    return profiles() || side_by_side() || bring_up(five, sizeof five) || loop_back() || speak() || refuse() ||
+           read_alone();
 }

@@ -76,6 +76,8 @@ static void play(void) {
     ask(0, 5, 1, 2);
     ask(1, 6, 1, 0);
     ask(15, 63, 255, 0);
+    octets[2] = 255;
+    count(nci_read(octets, NCI_PACKET_MAX));
     memcpy(before, area, sizeof area);
     area[NCI_AREA_SIZE - 512] = 0;
     nci_down(BENCH);

@@ -23,7 +23,7 @@ fn main() -> ExitCode {
     }
     let both = &damage.after.both;
     println!(
-        "difference=none seed={seed} made={} benches={} passed={} refusal1={} short={} looks={} replaced={} {} {}",
+        "difference=none seed={seed} made={} benches={} passed={} refusal1={} short={} looks={} replaced={} {} {} {}",
         damage.calls(),
         damage.benches,
         damage.passed,
@@ -32,6 +32,7 @@ fn main() -> ExitCode {
         both.looks,
         both.replaced,
         both.past_grant.fields(),
+        both.reserved.fields(),
         both.tally.fields()
     );
     ExitCode::SUCCESS

@@ -143,9 +143,10 @@ impl Writer {
     fn long_call(&mut self) -> Call {
         let octets = self.random.octets(1042);
         let (kind, gid) = (self.random.pick(&[0, 1, 2, 3, 8, 9]), self.random.pick(&[0, 1]));
-        match self.random.below(3) {
+        match self.random.below(4) {
             0 => Call::Send { conn: self.random.pick(&[0, 2, 3]), message: [&octets[..], &[1]].concat() },
             1 => Call::Air([&[kind], &octets[..], &[1]].concat()),
+            2 => Call::Read([&octets[..], &[1, 2]].concat()),
             _ => Call::Command { gid, oid: 0, payload: octets[..1040].to_vec() },
         }
     }
