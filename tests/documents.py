@@ -12,6 +12,8 @@ DOCUMENTS = ["README.md", "examples/README.md", "second/README.md", "compare/REA
 # what the claim speaks of, and what is proved beside it
 CLAIM = "crates/calls/specs/Demand.antt"
 BESIDE = ["calls/specs/Packet", "calls/specs/Refines", "calls/specs/Reached", "calls/specs/Checked", "calls/specs/Played", "calls/specs/Discards", "calls/specs/Profiles", "calls/specs/Headers", "calls/specs/Reserved", "model/specs/Discarded", "model/specs/Profiles", "sheet/specs/Told", "sheet/specs/FirstPapers"]
+# the last groups of the README's list, which the claim does not need
+AFTER_CLAIM = 2
 SKIPPED = {".git", "target", "build"}
 WRONG = "docs/WRONG-PROGRAMS.md"
 LOGS = "docs/PROOFS.md"
@@ -78,7 +80,8 @@ def reading(texts):
     for name in BESIDE:
         wanted |= reached("crates/%s.antt" % name, texts)
     stated, whole = {}, 0
-    for total, group in listed(texts["README.md"]):
+    groups = list(listed(texts["README.md"]))
+    for total, group in groups:
         if total != sum(group.values()):
             yield "a group of the list says %d lines and has %d" % (total, sum(group.values()))
         whole += total
@@ -94,6 +97,8 @@ def reading(texts):
             yield "%s has %d lines, the list says %d" % (path, lines(path, texts), stated[path])
     if "Together %d lines" % whole not in texts["README.md"]:
         yield "the list comes to %d lines" % whole
+    for path in sorted(claim ^ {path for _, group in groups[:-AFTER_CLAIM] for path in group}):
+        yield "%s is in the last groups of the list and the claim needs it, or the other way about" % path
     if claim_size(texts) not in texts["docs/DEMANDS.md"]:
         yield "docs/DEMANDS.md: " + claim_size(texts)
 

@@ -3,11 +3,11 @@ use area::map;
 use packets::Reading;
 use packets::Way;
 ghost use mathlib.Core.Path.{_≡_};
-ghost use Rattle.calls.specs.Read.{foundWord, readCall};
+ghost use Rattle.calls.specs.Read.{foundIn, foundWord, readCall};
 
 // The word of what the reader found: the drop flag, or the reserved bits.
 fn found(got: Reading) -> u64
-    ensures { λ w. ⌜ w ≡ foundWord got ⌝ }
+    ensures { λ w. ⌜ w ≡ foundWord (foundIn got) ⌝ }
 {
     let Reading::Packet(h, _) = got else {
         return 256;

@@ -38,7 +38,7 @@ use Rattle.views.specs.Moves.{Sound}
 use Rattle.views.proofs.Whole.{moves}
 use Rattle.views.proofs.Tests.{packets-nil, up-full}
 use Rattle.wires.specs.Meaning.{Meaning, datum, control, junk, meant, meaning}
-use Rattle.wires.proofs.Slots.{first-slot, read-trim, meaning-junk, meaning-packet}
+use Rattle.wires.proofs.Slots.{first-slot, read-slot, meaning-junk, meaning-packet}
 use Rattle.model.specs.Connection as connection
 use Rattle.model.specs.State as bench
 use Rattle.model.specs.Effects.{Effect, down, taken, quiet, flaggedAs, telling}
@@ -88,7 +88,7 @@ module _ (a : Octets) (r : Record) where
   packet-dropped e = ap meaning (first-slot downAt a (r .down .head)) ∙ meaning-junk (cut (downSlot r) slotSize a) e
 
   pub packet-rfu : rfuBy way.Down (readOf packet) ≡ rfuBy way.Down (downRead r a)
-  packet-rfu = ap (λ (p : Octets). rfuBy way.Down (readOf p)) (first-slot downAt a (r .down .head)) ∙ ap (rfuBy way.Down) (read-trim (cut (downSlot r) slotSize a))
+  packet-rfu = ap (rfuBy way.Down) (read-slot downAt a (r .down .head))
 
 -- ---- its tests
 

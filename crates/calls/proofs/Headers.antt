@@ -23,7 +23,7 @@ use Rattle.wires.specs.declared.up.Inside.{Inside}
 use Rattle.wires.specs.declared.up.Inside.the-variants.{CreditsNtf, CreateRsp, ActivatedNtf, Other}
 use Rattle.wires.specs.Tally.{dataCount}
 use Rattle.wires.specs.Counted.{countedOn, countedUp}
-use Rattle.wires.proofs.Slots.{read-trim}
+use Rattle.wires.proofs.Slots.{read-slot}
 use Rattle.wires.proofs.Counting.{dataOne}
 use Rattle.wires.proofs.Counted.{data-same, counted-same}
 use Rattle.wires.proofs.Same.{same-up}
@@ -60,8 +60,7 @@ module _ (base : ℕ) (a b : Octets) (same : length a ≡ length b) (i : ℕ) (h
       ∙ sym (octet-cut (slotAt base i) slotSize b j (omega arith))
 
   read-agrees : readOf (slotPacket base a i) ≡ readOf (slotPacket base b i)
-  unfolding slotPacket
-  read-agrees = read-trim (slotIn base a i) ∙ read-same (slotIn base a i) (slotIn base b i) slot-length head ∙ sym (read-trim (slotIn base b i))
+  read-agrees = read-slot base a i ∙ read-same (slotIn base a i) (slotIn base b i) slot-length head ∙ sym (read-slot base b i)
 
   length-agrees : length (slotPacket base a i) ≡ length (slotPacket base b i)
   unfolding slotPacket trim

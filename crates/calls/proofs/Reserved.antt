@@ -12,6 +12,7 @@ use Rattle.octets.specs.Octal.{Octal}
 use Rattle.packets.specs.Packet.{readOf}
 use Rattle.packets.specs.Reserved.{rfuBy}
 use Rattle.packets.specs.Segments.{Segment}
+use Rattle.state.proofs.Chains.{pick-same}
 use Rattle.calls.specs.Kinds.{Way, Record}
 use Rattle.calls.specs.Kinds.way as way
 use Rattle.area.specs.Map.{messageSize}
@@ -59,11 +60,6 @@ wireRfu reply s = 0
 wireRfu up s = firstRfu way.Up (s .up)
 wireRfu (report c) s = 0
 
--- of none there is none to tell
-none : (b : Bool) → _≡_ {A = ℕ} 0 (pick b 0 0)
-none true = refl
-none false = refl
-
 act-rfu : (c : Call) (s : State) → act c s .rfu ≡ pick (act c s .drop) 0 (wireRfu c s)
 act-rfu (fresh m) s = refl
 act-rfu power s = refl
@@ -79,7 +75,7 @@ act-rfu (consume c) s = go (s .conns c .controller .store)
   where
     go : (w : List Octets) → consuming c w s .rfu ≡ pick (consuming c w s .drop) 0 0
     go [] = refl
-    go (p ∷ w) = none (consuming c (p ∷ w) s .drop)
+    go (p ∷ w) = sym (pick-same (consuming c (p ∷ w) s .drop) 0)
 act-rfu credit s = refl
 act-rfu (air m) s = refl
 act-rfu reply s = go (s .conns 0 .controller .speech)
@@ -199,4 +195,4 @@ always-clear area out m v e keys w k u =
     let stands = run-stands area out m v e keys w in
     let formed = wires _ (every-run SmallShaped shaped-stays shaped-start area out m v e keys w .1) in
     let word = pressed k (areaAfter keys (freshCall area out m .area)) .word in
-    tells k u _ (stands .good) 0 (λ _. clear (k .call) _ formed) ∙ sym (none (isTaken (answerIn word) && not (droppedIn word)))
+    tells k u _ (stands .good) 0 (λ _. clear (k .call) _ formed) ∙ pick-same (isTaken (answerIn word) && not (droppedIn word)) 0

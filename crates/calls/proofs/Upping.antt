@@ -25,7 +25,7 @@ use Rattle.record.specs.Small.{SmallCounts, SmallEnds, Small}
 use Rattle.record.specs.Layout.{pairsRoom}
 use Rattle.record.proofs.Taken.{wire-took}
 use Rattle.wires.specs.Meaning.{junk, meant, meaning}
-use Rattle.wires.proofs.Slots.{first-slot, read-trim, meaning-junk, meaning-packet}
+use Rattle.wires.proofs.Slots.{first-slot, read-slot, meaning-junk, meaning-packet}
 use Rattle.views.specs.View.{view}
 use Rattle.views.specs.Moves.{Sound}
 use Rattle.views.proofs.Controls.{control-whole, control-flag}
@@ -52,7 +52,7 @@ module _ (a : Octets) (r : Record) where
   packet-dropped e = ap meaning (first-slot upAt a (r .up .head)) ∙ meaning-junk (cut (upSlot r) slotSize a) e
 
   pub packet-rfu : rfuBy way.Up (readOf upPacket) ≡ rfuBy way.Up (upRead r a)
-  packet-rfu = ap (λ (p : Octets). rfuBy way.Up (readOf p)) (first-slot upAt a (r .up .head)) ∙ ap (rfuBy way.Up) (read-trim (cut (upSlot r) slotSize a))
+  packet-rfu = ap (rfuBy way.Up) (read-slot upAt a (r .up .head))
 
   module _ (s : Sound a r) (some : 0 < r .up .count) where
     pub up-acts : act up (view a r) ≡ telling (rfuBy way.Up (readOf upPacket)) (coming (meaning upPacket) (view a (upRecord r (r .ends))))

@@ -10,6 +10,7 @@ use lib.ListN.{length, take, drop}
 use borrow.Author.Tests.{eq-eqb}
 use Rattle.octets.specs.Octets.{Octets, pick}
 use Rattle.state.specs.Commands.{aimIn}
+use Rattle.state.proofs.Chains.{pick-same}
 use Rattle.packets.specs.Segments.{Segment, more, last, segmentsWithin, segments, parse, left, segmentPacket}
 use Rattle.packets.specs.Reassembly.{Run, run, grown, Fit}
 use Rattle.packets.proofs.Reassembly.{run-fits, within}
@@ -208,10 +209,6 @@ module _ (gid oid : ℕ) (means : (x : Segment) → meaning (segmentPacket (cont
   ordered-no-data (x ∷ ss) = rw (means x) (tt, ordered-no-data ss)
 
 -- ---- the command that is on its way to the controller
-
-pick-same : {A : Type 0} (b : Bool) (x : A) → pick b x x ≡ x
-pick-same true x = refl
-pick-same false x = refl
 
 -- a new command, where none is under way
 pub command-way : (aim size : ℕ) (r : ControlRun) (w : List Octets) (gid oid : ℕ) (m : Octets) → gid < 16 → oid < 64

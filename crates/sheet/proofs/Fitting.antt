@@ -29,7 +29,7 @@ use Rattle.calls.specs.Kinds.reading.{Packet, Drop}
 use Rattle.calls.specs.Word.{wordOf, wordTelling, answerIn, droppedIn, handedIn, lengthIn, downIn, upIn, rfuIn}
 use Rattle.calls.specs.Outcome.{Outcome, outcome, decided, entryRules, called}
 use Rattle.calls.specs.Packet.{wireRing, packetBack, packetRules, shownPacket, packetCall, handedBy, lastPackets}
-use Rattle.calls.specs.Read.{foundWord, readCall}
+use Rattle.calls.specs.Read.{Found, foundIn, foundOf, foundWord}
 use Rattle.calls.specs.calls.Fresh.{roomRules, freshCall}
 use Rattle.calls.specs.calls.Power.{powerCall}
 use Rattle.calls.specs.calls.Command.{commandCall}
@@ -186,12 +186,12 @@ up-modest r (Packet h n) a out =
     (λ _. on Modest (eqb (h .mt) 1) (λ _. quietly _ _ _) (λ _. quietly _ _ _))
 up-modest r Drop a out = quietly _ _ _
 
-read-modest : (x : Reading) → lengthIn (foundWord x) ≤ messageSize
+read-modest : (x : Reading) → lengthIn (foundWord (foundIn x)) ≤ messageSize
 read-modest (Packet h n) = telling-modest _ _ (quietly _ _ _)
-read-modest Drop = quietly _ _ _
+read-modest Drop = telling-modest _ _ (quietly _ _ _)
 
 pub play-modest : (x : Name) (m a out : Octets) → Modest (played x m a out)
-unfolding freshCall powerCall commandCall sendCall pushCall downCall consumeCall creditCall replyCall upCall airCall reportCall readCall
+unfolding freshCall powerCall commandCall sendCall pushCall downCall consumeCall creditCall replyCall upCall airCall reportCall foundOf
 play-modest Fresh m a out =
     decided-by Modest (roomRules (length a) (length out) ++ rules (fresh m) (viewOf a)) _ a out refl (λ _. quietly _ _ _) (λ n h. number-length n h)
 play-modest Power m a out = called-by Modest (rules power (viewOf a)) _ a out refl (λ _. quietly _ _ _) (λ n h. number-length n h)
@@ -205,7 +205,7 @@ play-modest Air m a out = called-by Modest _ _ a out refl (λ _. quietly _ _ _) 
 play-modest Reply m a out = called-by Modest _ _ a out refl (λ _. quietly _ _ _) (λ n h. number-length n h)
 play-modest Up m a out = called-by Modest _ _ a out refl (λ _. telling-modest _ _ (up-modest (decodeOf a) (upRead (decodeOf a) a) a out)) (λ n h. number-length n h)
 play-modest Report m a out = called-by Modest _ _ a out refl (λ _. worded false true 5 0 0 (omega arith)) (λ n h. number-length n h)
-play-modest Read m a out = on (λ (w : ℕ). lengthIn w ≤ messageSize) (ltb slotSize (length m)) (λ _. number-length 3 (omega arith)) (λ _. read-modest (readOf m))
+play-modest Read m a out = on (λ (f : Found). lengthIn (foundWord f) ≤ messageSize) (ltb slotSize (length m)) (λ _. number-length 3 (omega arith)) (λ _. read-modest (readOf m))
 play-modest Bad m a out = number-length 3 (omega arith)
 
 -- ---- the line

@@ -19,12 +19,13 @@ use Rattle.model.specs.State.{cold}
 use Rattle.model.specs.Refusals.{first}
 use Rattle.model.specs.calls.Credit.{allZero}
 use Rattle.model.specs.Bench.{step}
+use Rattle.calls.specs.Read.{foundOf}
 use Rattle.ascii.specs.Digits.{digitOf, valueOf, hexOf, allDigits, isHex, octetsIn, decimalOf}
 use Rattle.ascii.specs.Words.{sameAs, startsWith, upTo}
 use Rattle.forms.specs.Names.{among}
 use Rattle.forms.specs.Form.{formed, argsOf, asks}
 use Rattle.sheet.specs.Show.{joined}
-use Rattle.sheet.specs.Paper.{readLine, modelled, firstProfile}
+use Rattle.sheet.specs.Paper.{modelled, firstProfile}
 use Rattle.sheet.specs.FirstPapers.{threeLines, threeAnswers, readLines, readAnswers, firstPaper, firstAnswers, FirstPapers}
 use Rattle.sheet.proofs.Playing.{papers}
 
@@ -33,7 +34,7 @@ unfolding threeLines threeAnswers modelled asks argsOf formed among joined digit
 three-lines = refl
 
 read-lines : modelled readLines (cold (profileIn firstProfile)) ≡ readAnswers
-unfolding readLines readAnswers modelled asks argsOf formed among joined digitOf valueOf hexOf allDigits isHex octetsIn decimalOf sameAs startsWith upTo bit cut oidOf carriedOf spareOf headerOf readOf readLine
+unfolding readLines readAnswers modelled asks argsOf formed among joined digitOf valueOf hexOf allDigits isHex octetsIn decimalOf sameAs startsWith upTo bit cut oidOf carriedOf spareOf headerOf readOf foundOf
 read-lines = refl
 
 first-paper : modelled firstPaper (cold (profileIn firstProfile)) ≡ firstAnswers

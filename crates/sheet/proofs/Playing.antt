@@ -2,27 +2,25 @@
 -- Assumes nothing.
 use Prim.Native.Nat.{ℕ, _≤_}
 use mathlib.Core.Path.{_≡_, refl, sym, ap, _∙_, subst}
-use mathlib.Core.Bool.{Bool, true, false, not}
+use mathlib.Core.Bool.{Bool, true, not}
 use mathlib.Core.List.{List, [], _∷_, _++_}
 use native.Mathlib.Omega.{arith}
 use lib.ListN.{length, getD, drop, length-replicate}
-use lib.Dec.{eqb, ltb}
-use borrow.Author.Tests.{ltb-true, ltb-false}
+use lib.Dec.{eqb}
 use Rattle.octets.specs.Octets.{Octets, pick, cut, splice}
 use Rattle.octets.specs.Octal.{Octal}
 use Rattle.octets.proofs.Octets.{length-splice}
 use Rattle.octets.proofs.Octal.{octal-drop}
-use Rattle.packets.specs.Packet.{readOf}
 use Rattle.state.proofs.Chains.{on}
 use Rattle.state.specs.Conn.{openAt}
 use Rattle.state.specs.Profile.{profileIn, profileOctetsOk}
-use Rattle.area.specs.Map.{areaSize, messageSize, slotSize}
+use Rattle.area.specs.Map.{areaSize, messageSize}
 use Rattle.record.specs.Layout.{bit}
 use Rattle.record.specs.Reading.{decodeOf}
 use Rattle.views.specs.View.{viewOf}
 use Rattle.model.specs.State.{State, cold}
 use Rattle.model.specs.Refusals.{first}
-use Rattle.model.specs.Effects.{Call, Result, taken, refused, fresh, power, command, send, push, down, consume, credit, air, reply, up, report}
+use Rattle.model.specs.Effects.{Call, taken, refused, fresh, power, command, send, push, down, consume, credit, air, reply, up, report}
 use Rattle.model.specs.Bench.{step, rules}
 use Rattle.model.specs.Observer.{Account, opening, observe, eventOf}
 use Rattle.model.specs.Grants.{WithinGrants}
@@ -36,7 +34,7 @@ use Rattle.calls.specs.Kinds.reading.{Packet, Drop}
 use Rattle.calls.specs.Word.{lengthIn}
 use Rattle.calls.specs.Outcome.{Outcome, outcome}
 use Rattle.calls.specs.Packet.{handedBy, lastPackets}
-use Rattle.calls.specs.Read.{readCall, Says, ReadSays}
+use Rattle.calls.specs.Read.{Found, foundOf, readCall, Says}
 use Rattle.calls.specs.Seen.{Puts, noPuts, putsAfter}
 use Rattle.calls.specs.Refines.{Good, Along, Refines}
 use Rattle.calls.specs.calls.Fresh.{roomRules, freshed, freshCall}
@@ -72,7 +70,7 @@ use Rattle.forms.specs.Form.{argsOf, asks}
 use Rattle.sheet.specs.Play.{played}
 use Rattle.sheet.specs.Show.{ansLabel, dropLabel, rfuLabel, pktLabel, msgLabel, numberOf, zeroBuffer, joined, wireShown, messageText, eventField, answerField, dropField, rfuField, messageField, lineOf}
 use Rattle.sheet.specs.Sheet.{Answer, refusedLine, shown, answerTo}
-use Rattle.sheet.specs.Paper.{printed, Asks, calls, reads, nothing, asksOf, lineWith, eventLine, foundLine, readLine, lineBy, nextBy, modelled, firstProfile, AllWithin, Papers}
+use Rattle.sheet.specs.Paper.{printed, Asks, calls, reads, nothing, asksOf, eventLine, foundLine, lineBy, nextBy, modelled, firstProfile, AllWithin, Papers}
 use Rattle.forms.proofs.Forming.{args-octal}
 use Rattle.sheet.proofs.Fitting.{called-by, decided-by}
 
@@ -89,28 +87,15 @@ seen-line x c p a o r w =
 
 -- ---- and so is that of octets that are read
 
-says-line : (x : Name) (w : ℕ) (r : Result) (d : Bool) (n : ℕ) (a out : Octets) → Says w r d n → lineOf x (outcome w a out) ≡ lineWith x r d n [] []
+says-line : (x : Name) (w : ℕ) (f : Found) (a out : Octets) → Says w f → lineOf x (outcome w a out) ≡ foundLine x f
 unfolding handedBy lastPackets joined
-says-line x w r d n a out s i =
+says-line x w f a out s i =
     eventField x
     ++ (ansLabel ++ decimalOf (numberOf (s .answers i)))
     ++ (dropLabel ++ decimalOf (bit (s .drops i)))
     ++ (rfuLabel ++ hexOf (s .tells i ∷ []))
     ++ (pktLabel ++ hexOf (wireShown 0 (s .puts-down i) a ++ wireShown 1 (s .puts-up i) a))
     ++ (msgLabel ++ messageText (pick (s .hands i) (cut 0 (lengthIn w) out ∷ []) []))
-
-read-line : (x : Name) (m a out : Octets) → Octal m → lineOf x (outcome (readCall m) a out) ≡ readLine x m
-unfolding readLine
-read-line x m a out o = go (ltb slotSize (length m)) refl (readOf m) refl
-  where
-    says : ReadSays m
-    says = read-says m o
-
-    go : (b : Bool) → ltb slotSize (length m) ≡ b → (r : Reading) → readOf m ≡ r
-        → lineOf x (outcome (readCall m) a out) ≡ pick b (lineWith x (refused 3) false 0 [] []) (foundLine x r)
-    go true l r e = says-line x (readCall m) _ _ _ a out (says .long (ltb-true slotSize (length m) l))
-    go false l (Packet h n) e = says-line x (readCall m) _ _ _ a out (says .packet h n (ltb-false slotSize (length m) l) e)
-    go false l Drop e = says-line x (readCall m) _ _ _ a out (says .dropped (ltb-false slotSize (length m) l) e)
 
 -- ---- the message buffer keeps its length
 
@@ -197,7 +182,7 @@ turn Air m p a out o g r al w = by-call Air (air m) p a out _ (air-refines m p a
 turn Reply m p a out o g r al w = by-call Reply reply p a out _ (reply-refines p a out g r al) w (play-kept Reply m a out) r
 turn Up m p a out o g r al w = by-call Up up p a out _ (up-refines p a out g r al) w (play-kept Up m a out) r
 turn Report m p a out o g r al w = by-call Report (report (getD m 0 0)) p a out _ (report-refines (getD m 0 0) p a out g r al) w (play-kept Report m a out) r
-turn Read m p a out o g r al w = record { line = read-line Read m a out o; good = g; next = refl; room = r; puts = p; along = al }
+turn Read m p a out o g r al w = record { line = says-line Read (readCall m) (foundOf m) a out (read-says m o); good = g; next = refl; room = r; puts = p; along = al }
 turn Bad m p a out o g r al w = record { line = refl; good = g; next = refl; room = r; puts = p; along = al }
 
 -- ---- all of them

@@ -2,26 +2,21 @@
 -- Assumes nothing.
 use Prim.Native.Nat.{ℕ, _≤_}
 use mathlib.Core.Path.{_≡_}
-use mathlib.Core.Bool.{Bool, true, false}
+use mathlib.Core.Bool.{Bool}
 use mathlib.Core.List.{List, [], _∷_, _++_}
 use lib.ListN.{length, getD, drop}
-use lib.Dec.{ltb}
-use Rattle.octets.specs.Octets.{Octets, pick}
+use Rattle.octets.specs.Octets.{Octets}
 use Rattle.octets.specs.Octal.{Octal}
-use Rattle.packets.specs.Packet.{readOf}
-use Rattle.packets.specs.Reserved.{rfuOf}
-use Rattle.area.specs.Map.{areaSize, messageSize, slotSize}
+use Rattle.area.specs.Map.{areaSize, messageSize}
 use Rattle.state.specs.Profile.{profileIn}
 use Rattle.record.specs.Layout.{bit}
 use Rattle.views.specs.View.{viewOf}
 use Rattle.model.specs.State.{State, cold}
-use Rattle.model.specs.Effects.{Call, Result, taken, refused, fresh, power, command, send, push, down, consume, credit, air, reply, up, report}
+use Rattle.model.specs.Effects.{Call, Result, fresh, power, command, send, push, down, consume, credit, air, reply, up, report}
 use Rattle.model.specs.Bench.{step}
 use Rattle.model.specs.Grants.{WithinGrants}
 use Rattle.model.specs.Observer.{Event, eventOf}
-use Rattle.calls.specs.Kinds.{Reading}
-use Rattle.calls.specs.Kinds.reading.{Packet, Drop}
-use Rattle.calls.specs.Kinds.way as way
+use Rattle.calls.specs.Read.{Found, foundOf}
 use Rattle.calls.specs.Seen.{Puts}
 use Rattle.calls.specs.Refines.{Good, Along}
 use Rattle.calls.specs.calls.Fresh.{freshCall}
@@ -76,17 +71,13 @@ lineWith x r d n p ms =
 abbrev pub eventLine : Name → Event → Octets
 eventLine x e = lineWith x (e .answer) (e .dropped) (e .rfu) (joined (e .toDown) ++ joined (e .toUp)) (e .message)
 
--- that of octets that are read: dropped, or the packet's reserved bits as going up; over 258 octets are refused
-abbrev pub foundLine : Name → Reading → Octets
-foundLine x (Packet h n) = lineWith x taken false (rfuOf way.Up h) [] []
-foundLine x Drop = lineWith x taken true 0 [] []
-
-unfoldable pub readLine : Name → Octets → Octets
-readLine x m = pick (ltb slotSize (length m)) (lineWith x (refused 3) false 0 [] []) (foundLine x (readOf m))
+-- that of what reading alone finds
+abbrev pub foundLine : Name → Found → Octets
+foundLine x f = lineWith x (f .answer) (f .dropped) (f .rfu) [] []
 
 abbrev pub lineBy : Name → Asks → State → Octets
 lineBy x (calls c) s = eventLine x (eventOf c (step c s))
-lineBy x (reads m) s = readLine x m
+lineBy x (reads m) s = foundLine x (foundOf m)
 lineBy x nothing s = badLine
 
 abbrev pub nextBy : Asks → State → State

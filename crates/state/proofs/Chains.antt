@@ -53,6 +53,10 @@ pub pick-by : {A : Type 0} (P : A → Type 0) (b : Bool) (x y : A) → (b ≡ tr
 pick-by P true x y f h = f refl
 pick-by P false x y f h = h
 
+pub pick-same : {A : Type 0} (b : Bool) (x : A) → pick b x x ≡ x
+pick-same true x = refl
+pick-same false x = refl
+
 -- ---- a list as its elements
 
 -- the k elements from index i on

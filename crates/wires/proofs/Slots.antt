@@ -87,6 +87,11 @@ module _ (s : Octets) where
   unfolding meaning
   meaning-packet h n e = meaning-trim ∙ ap (meaningIn s) e
 
+-- the packet of a slot is read as the slot
+pub read-slot : (base : ℕ) (a : Octets) (i : ℕ) → readOf (slotPacket base a i) ≡ readOf (cut (slotAt base i) slotSize a)
+unfolding slotPacket
+read-slot base a i = read-trim (cut (slotAt base i) slotSize a)
+
 -- ---- data that is passed on with n credits
 
 -- the same data with other credits

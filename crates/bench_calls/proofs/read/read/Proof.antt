@@ -6,13 +6,14 @@ use lib.ListN.{length}
 use denote.Ref.{now}
 use borrow.Author.Tests.{lt-ltb, le-ltb}
 use Rattle.area.specs.Map.{slotSize}
-use Rattle.calls.specs.Read.{foundWord, readCall}
+use Rattle.packets.specs.declared.Reading.{Reading}
+use Rattle.calls.specs.Read.{foundIn, foundOf, foundWord}
 use borrow.Author.Needs.{needs}
 use Rattle.bench_calls.proofs.read.read.Statement.{statement}
 use Rattle.bench_calls.proofs.read.read.Tie as tie
 
 returns : tie.Need-returns
-unfolding readCall
+unfolding foundOf
 returns c =
     let over : slotSize < length (now (c .before .before .args .octets)) = c .if1 .taken in
     rw (lt-ltb _ _ over)
@@ -24,10 +25,10 @@ found-requires : tie.Need-found-requires
 found-requires c κs = search needs
 
 returns-2 : tie.Need-returns-2
-unfolding readCall
+unfolding foundOf
 returns-2 c =
     let within : length (now (c .before .before .before .before .args .octets)) ≤ slotSize = c .before .before .if1 .left in
-    rw (le-ltb _ _ within) (c .found .ensures ∙ ap foundWord (c .before .read .ensures))
+    rw (le-ltb _ _ within) (c .found .ensures ∙ ap (λ (x : Reading). foundWord (foundIn x)) (c .before .read .ensures))
 
 pub read-spec : {M : Type 1} → statement M
 read-spec = tie.close (tie.spec returns read-requires found-requires returns-2)
