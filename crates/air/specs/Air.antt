@@ -13,7 +13,7 @@ use Rattle.air.specs.Kinds.rf.{Idle, Discovery, W4AllDiscoveries, W4Host
 use Rattle.air.specs.Kinds.event.{Bad, Found, Poll, Listen, Failed, Sleeps, LinkLost, Releases, Endpoint}
 use Rattle.air.specs.Kinds.listing.{Keeps, Starts, Adds}
 use Rattle.air.specs.Kinds.aired.{Refused, Goes, Activates, Ends, Speaks}
-use Rattle.state.specs.Conn.{termsOf, openedAt, shutAt, empty, handWith}
+use Rattle.state.specs.Conn.{termsOf, controllerOpenedAt, controllerClosedAt, empty, handWith}
 use Rattle.state.specs.Radio.{isListening, isAsleep, isActive, polls, listens, idOk, pairOf, samePair, listed, startedWith, addedTo}
 use Rattle.messages.specs.Layout.{Message, nothing, genericErrorNtf, discoverNtf, activatedNtf, deactivateNtf}
 
@@ -170,8 +170,8 @@ controllerAired k Speaks = k
 unfoldable pub connsAired : Profile → List Counts → Aired → List Counts
 connsAired p conns Refused = conns
 connsAired p conns (Goes rf l) = conns
-connsAired p conns (Activates rf l) = openedAt conns 0 (termsOf p 0)
-connsAired p conns (Ends rf) = shutAt conns 0
+connsAired p conns (Activates rf l) = controllerOpenedAt conns 0 (termsOf p 0)
+connsAired p conns (Ends rf) = controllerClosedAt conns 0
 connsAired p conns Speaks = conns
 
 -- the endpoint's message in hand, n being the octets of the one that an event of kind 8 brings; connection 0 opens and closes with none

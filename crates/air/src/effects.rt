@@ -1,10 +1,10 @@
 // What an event of the air does: to the controller's numbers, to connection 0, and to the endpoint's message.
 use crate::events::Aired;
 use crate::events::Listing;
+use state::conn::controller_closed_at;
+use state::conn::controller_opened_at;
 use state::conn::empty_hand;
 use state::conn::hand_with;
-use state::conn::opened_at;
-use state::conn::shut_at;
 use state::conn::terms_of;
 use state::kinds::Controller;
 use state::kinds::Counts;
@@ -62,8 +62,8 @@ pub fn conns_aired(p: Profile, conns: [Counts; 5], a: Aired) -> [Counts; 5]
     match a {
         Aired::Refused => conns,
         Aired::Goes(_, _) => conns,
-        Aired::Activates(_, _) => opened_at(conns, 0, terms_of(p, 0)),
-        Aired::Ends(_) => shut_at(conns, 0),
+        Aired::Activates(_, _) => controller_opened_at(conns, 0, terms_of(p, 0)),
+        Aired::Ends(_) => controller_closed_at(conns, 0),
         Aired::Speaks => conns,
     }
 }

@@ -27,14 +27,14 @@ use Rattle.calls.specs.calls.Consume.{Consumable}
 use Rattle.calls.specs.calls.Up.{Uppable}
 use Rattle.calls.specs.calls.Air.{Airable}
 use Rattle.calls.proofs.Rules.{first-taken}
-use Rattle.calls.proofs.Commanding.{commandTests, command-tests, command-facts}
-use Rattle.calls.proofs.Sending.{sendTests, send-tests, send-facts}
-use Rattle.calls.proofs.Crediting.{creditTests, credit-tests, credit-facts}
-use Rattle.calls.proofs.Replying.{replyTests, reply-tests, reply-facts}
-use Rattle.calls.proofs.Downing.{downTests, down-tests, down-facts}
-use Rattle.calls.proofs.Consumed.{consumeTests, consume-tests, consume-facts}
-use Rattle.calls.proofs.Upping.{upTests, up-tests, up-facts}
-use Rattle.calls.proofs.Airing.{airTests, air-tests, air-facts}
+use Rattle.calls.proofs.Command.{commandTests, command-tests, command-facts}
+use Rattle.calls.proofs.Send.{sendTests, send-tests, send-facts}
+use Rattle.calls.proofs.Credit.{creditTests, credit-tests, credit-facts}
+use Rattle.calls.proofs.Reply.{replyTests, reply-tests, reply-facts}
+use Rattle.calls.proofs.Down.{downTests, down-tests, down-facts}
+use Rattle.calls.proofs.ConsumeRecord.{consumeTests, consume-tests, consume-facts}
+use Rattle.calls.proofs.UpPacket.{upTests, up-tests, up-facts}
+use Rattle.calls.proofs.Air.{airTests, air-tests, air-facts}
 
 pub command-able : (a : Octets) (r : Record) (gid oid : ℕ) (m : Octets) → Fit r → 0 ≡ lowest (commandRules gid oid m (view a r)) → Commandable r gid oid m
 command-able a r gid oid m f e =

@@ -16,9 +16,9 @@ use Rattle.model.proofs.Terms.{own-terms}
 use Rattle.calls.specs.calls.Fresh.{freshCall}
 use Rattle.calls.specs.Played.{OctetPlays}
 use Rattle.calls.specs.Profiles.{FiveMeanEleven, OneForm, AlwaysOwn}
-use Rattle.calls.proofs.Demanding.{run-stands}
-use Rattle.calls.proofs.Lasting.{every-run}
-use Rattle.calls.proofs.Playing.{plays}
+use Rattle.calls.proofs.Demand.{run-stands}
+use Rattle.calls.proofs.EveryRun.{every-run}
+use Rattle.calls.proofs.Played.{plays}
 
 pub five-mean-eleven : FiveMeanEleven
 unfolding freshCall

@@ -9,7 +9,7 @@ use Rattle.octets.specs.Octets.{Octets, pick, cut}
 use Rattle.octets.specs.Octal.{Octal}
 use Rattle.calls.specs.Kinds.{Record}
 use Rattle.area.specs.Map.{areaSize}
-use Rattle.record.specs.Claims.{stored}
+use Rattle.record.specs.Claims.{saved}
 use Rattle.record.specs.Fit.{Shape, Fit}
 use Rattle.record.specs.Small.{Small}
 use Rattle.views.specs.View.{view}
@@ -25,7 +25,7 @@ module _ (x : Octets) (r : Record) (long : areaSize ≤ length x) (fit : Fit r) 
   pub quiet-refines : (c : Call) → starts c ≡ false → (q : Puts) → Follows (q .down) (r .down) → Follows (q .up) (r .up)
       → (d h : Bool) (len : ℕ) (out : Octets) (e : Effect) → len < 65536 → d ≡ e .drop → 0 ≡ e .rfu → [] ≡ e .toDown → [] ≡ e .toUp
       → pick h (cut 0 len out ∷ []) [] ≡ e .message → view x r ≡ e .next
-      → RefinesTo c q (outcome (wordOf d h len 0 0) (stored x r) out) (record { answer = taken; effect = e })
+      → RefinesTo c q (outcome (wordOf d h len 0 0) (saved x r) out) (record { answer = taken; effect = e })
   quiet-refines c goes-on q down up d h len out e few dr rf td tu ms nx =
       took-refines c q x out r d h len 0 0 e
       (record {

@@ -38,10 +38,10 @@ use Rattle.calls.specs.calls.Fresh.{freshCall}
 use Rattle.calls.specs.Demand.{Key, pressed, slice, areaAfter}
 use Rattle.calls.specs.Reserved.{tellable, RfuExact, AlwaysClear}
 use Rattle.calls.proofs.Called.{sound-area}
-use Rattle.calls.proofs.Downing as downing
-use Rattle.calls.proofs.Upping as upping
-use Rattle.calls.proofs.Demanding.{all-refine, short-buffer, run-stands}
-use Rattle.calls.proofs.Lasting.{every-run}
+use Rattle.calls.proofs.Down as downing
+use Rattle.calls.proofs.UpPacket as upping
+use Rattle.calls.proofs.Demand.{all-refine, short-buffer, run-stands}
+use Rattle.calls.proofs.EveryRun.{every-run}
 
 -- ---- on the model
 

@@ -14,12 +14,12 @@ use Rattle.area.specs.Map.{areaSize, downAt, upAt, wireSlots}
 use Rattle.area.specs.Ring.{packetsFrom, packetsIn}
 use Rattle.area.proofs.Rings.{length-packets}
 use Rattle.record.specs.Reading.{decodeOf}
-use Rattle.record.specs.Claims.{stored}
+use Rattle.record.specs.Claims.{saved}
 use Rattle.record.specs.Fit.{Shape, Fit, FitRing}
 use Rattle.record.specs.Small.{Small}
-use Rattle.record.proofs.Stored.{stored-record}
+use Rattle.record.proofs.Saved.{saved-record}
 use Rattle.views.specs.View.{view, viewOf}
-use Rattle.views.proofs.Stored.{stored-view}
+use Rattle.views.proofs.Saved.{saved-view}
 use Rattle.model.specs.State.{State}
 use Rattle.model.specs.Effects.{Call, Effect, taken, telling}
 use Rattle.model.specs.Grants.{WithinGrants}
@@ -29,7 +29,7 @@ use Rattle.calls.specs.Outcome.{Outcome, outcome, tells}
 use Rattle.calls.specs.Seen.{Puts, noPuts, starts, restarts, putsAfter}
 use Rattle.calls.specs.Refines.{Follows, Along, RefinesTo}
 use Rattle.calls.proofs.Words.{word-down, word-up, word-seen, word-puts, told-answer, told-dropped, told-handed, told-length, told-down, told-up, told-rfu}
-use Rattle.calls.proofs.Refining.{stored-good, puts-seen}
+use Rattle.calls.proofs.Refine.{saved-good, puts-seen}
 
 -- ---- a wire
 
@@ -82,13 +82,13 @@ module _ (c : Call) (q : Puts) (x t : Octets) (n : Record) where
 
   module _ (d h : Bool) (len down up : ℕ) (e : Effect) (k : Took d h len down up e) where
     abbrev area : Octets
-    area = stored x n
+    area = saved x n
 
     after : decodeOf area ≡ n
-    after = stored-record x n (k .long) (k .fit) (k .shape)
+    after = saved-record x n (k .long) (k .fit) (k .shape)
 
     next-view : viewOf area ≡ e .next
-    next-view = stored-view x n (k .long) (k .fit) (k .shape) ∙ k .next
+    next-view = saved-view x n (k .long) (k .fit) (k .shape) ∙ k .next
 
     fits : Fit (decodeOf area)
     fits = subst Fit (sym after) (k .fit)
@@ -110,7 +110,7 @@ module _ (c : Call) (q : Puts) (x t : Octets) (n : Record) where
         let few-down = added-few downAt area (q .down) down (decodeOf area .down) (e .next .down) (e .toDown) downs on-down (fits .down) in
         let few-up = added-few upAt area (q .up) up (decodeOf area .up) (e .next .up) (e .toUp) ups on-up (fits .up) in
         record {
-          good = λ w. stored-good x n (k .long) (k .fit) (k .shape) (k .octal) (k .small) (subst WithinGrants (sym (k .next)) w);
+          good = λ w. saved-good x n (k .long) (k .fit) (k .shape) (k .octal) (k .small) (subst WithinGrants (sym (k .next)) w);
           event =
               word-seen d h len down up (k .short) few-down few-up c q area t
               ∙ (λ i.

@@ -15,7 +15,7 @@ use Rattle.dh.specs.Kinds.command as command
 use Rattle.dh.specs.Kinds.notice as notice
 use Rattle.dh.specs.Kinds.answer.{Done, ClosesAll, Sized, Opens, Closes}
 use Rattle.dh.specs.Kinds.heard.{Nothing, Dropped, Answered, Activated, Deactivated, Credits}
-use Rattle.state.specs.Conn.{flows, creditSum, countsOf, withHost, leftAt, joinedAt, allLeft}
+use Rattle.state.specs.Conn.{flows, creditSum, countsOf, withHost, hostClosedAt, hostOpenedAt, hostAllClosed}
 use Rattle.state.specs.Commands.{commandOf, aimIn}
 use Rattle.state.specs.Profile.{leastSize}
 use Rattle.dh.specs.Contents.{noticeOf, entryId, entryCredits, written}
@@ -143,17 +143,17 @@ allCredited conns m = creditedAt (creditedAt (creditedAt (creditedAt (creditedAt
 
 abbrev pub connsAnswered : List Counts → Answer → List Counts
 connsAnswered conns Done = conns
-connsAnswered conns ClosesAll = allLeft conns
+connsAnswered conns ClosesAll = hostAllClosed conns
 connsAnswered conns (Sized n) = conns
-connsAnswered conns (Opens c t) = joinedAt conns c t
-connsAnswered conns (Closes c) = leftAt conns c
+connsAnswered conns (Opens c t) = hostOpenedAt conns c t
+connsAnswered conns (Closes c) = hostClosedAt conns c
 
 unfoldable pub connsHeard : List Counts → Octets → Heard → List Counts
 connsHeard conns m Nothing = conns
 connsHeard conns m Dropped = conns
 connsHeard conns m (Answered a) = connsAnswered conns a
-connsHeard conns m (Activated t) = joinedAt conns 0 t
-connsHeard conns m Deactivated = leftAt conns 0
+connsHeard conns m (Activated t) = hostOpenedAt conns 0 t
+connsHeard conns m Deactivated = hostClosedAt conns 0
 connsHeard conns m Credits = allCredited conns m
 
 -- the drop flag

@@ -313,10 +313,10 @@ fn conns_answered(conns: [Counts; 5], a: Answer) -> [Counts; 5]
 {
     match a {
         Answer::Done => conns,
-        Answer::ClosesAll => conn::all_left(conns),
+        Answer::ClosesAll => conn::host_all_closed(conns),
         Answer::Sized(_) => conns,
-        Answer::Opens(id, t) => conn::joined_at(conns, id, t),
-        Answer::Closes(id) => conn::left_at(conns, id),
+        Answer::Opens(id, t) => conn::host_opened_at(conns, id, t),
+        Answer::Closes(id) => conn::host_closed_at(conns, id),
     }
 }
 
@@ -328,8 +328,8 @@ pub fn conns_heard(conns: [Counts; 5], m: &[u8], x: Heard) -> [Counts; 5]
         Heard::Nothing => conns,
         Heard::Dropped => conns,
         Heard::Answered(a) => conns_answered(conns, a),
-        Heard::Activated(t) => conn::joined_at(conns, 0, t),
-        Heard::Deactivated => conn::left_at(conns, 0),
+        Heard::Activated(t) => conn::host_opened_at(conns, 0, t),
+        Heard::Deactivated => conn::host_closed_at(conns, 0),
         Heard::Credits => all_credited(conns, m),
     }
 }

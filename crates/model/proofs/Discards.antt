@@ -30,11 +30,11 @@ use Rattle.model.specs.Refusals.{Rule, rule, isNil, first, noConn, full,
 use Rattle.model.specs.Runs.{runAfter, wholeBy, flagBy}
 use Rattle.model.specs.Changes.{atHost}
 use Rattle.model.specs.calls.Push.{pushing}
-use Rattle.model.specs.calls.Down.{answering, arriving, taking}
+use Rattle.model.specs.calls.Down.{answering, arriving, takingDown}
 use Rattle.model.specs.calls.Consume.{isLoop, segmentIn, echoed, joinedEnd, consuming}
 use Rattle.model.specs.calls.Air.{airedConns, airing}
 use Rattle.model.specs.calls.Reply.{replying}
-use Rattle.model.specs.calls.Up.{coming, reading, heard}
+use Rattle.model.specs.calls.Up.{coming, takingUp, heard}
 use Rattle.model.specs.Bench.{rules, act, judged, step}
 use Rattle.model.specs.Observer.{Ledger, Account, opening, observe, observed, changeIn, eventOf, events, after}
 use Rattle.model.specs.Discards.{Hand, Diary, nothing, firstPage, withHands, handSent, handPushed, handBy, handHeard, noted, turned, note, diary, Discards, TakenBefore, DiscardClaim, AllDiscards}
@@ -47,7 +47,7 @@ use Rattle.model.proofs.Order.{Only}
 use Rattle.model.proofs.Closing.{closing, closed-by, closing-pending}
 use Rattle.state.proofs.Limits.{profile-limits}
 use Rattle.model.proofs.Fine.{kept, cold-fine, at-keeps}
-use Rattle.model.proofs.Hearing as hearing
+use Rattle.model.proofs.Up as hearing
 use Rattle.model.proofs.Meanings.{hear-notice}
 use Rattle.model.proofs.Never.{heard-whole, not-among, answer-first}
 use Rattle.model.proofs.Trace.{same-account, step-keeps}
@@ -117,7 +117,7 @@ arriving-aside (control mt gid oid x) p s =
     (λ e. (refl, λ d. refl))
 arriving-aside junk p s = (refl, λ d. refl)
 
-down-aside : (w : List Octets) (s : State) → Aside s (taking w s)
+down-aside : (w : List Octets) (s : State) → Aside s (takingDown w s)
 down-aside [] s = (refl, λ d. refl)
 down-aside (p ∷ w) s = arriving-aside (meaning p) p (withDown w s)
 
@@ -253,7 +253,7 @@ up-marked : (s : State) (aim : ℕ) (l : ℕ → Ledger) (n : Diary) → first (
 up-marked s aim l n t f m = go (s .up) (need 8 (rules up s) t) f
   where
     go : (w : List Octets) → isNil w ≡ false → Fine (withUp w s) aim l
-        → MarkedIn (reading w s .next) (turned (withHands (λ d. handHeard aim d w (n .hand d)) n))
+        → MarkedIn (takingUp w s .next) (turned (withHands (λ d. handHeard aim d w (n .hand d)) n))
     go [] e f = clash refl e
     go (p ∷ w) e f = coming-marked s aim l p w f n m (meaning p) refl (f .sound .0)
 

@@ -23,11 +23,11 @@ use Rattle.model.specs.Refusals.{first, isHeld}
 use Rattle.model.specs.Changes.{atController}
 use Rattle.model.specs.Runs.{runAfter, wholeBy, flagBy}
 use Rattle.model.specs.calls.Push.{pushing}
-use Rattle.model.specs.calls.Down.{answering, arriving, taking}
+use Rattle.model.specs.calls.Down.{answering, arriving, takingDown}
 use Rattle.model.specs.calls.Consume.{isLoop, echoed, segmentIn, joinedEnd, consuming}
 use Rattle.model.specs.calls.Air.{airing, airedConns}
 use Rattle.model.specs.calls.Reply.{replying}
-use Rattle.model.specs.calls.Up.{hearing, coming, reading}
+use Rattle.model.specs.calls.Up.{hearing, coming, takingUp}
 use Rattle.model.specs.Bench.{rules, act}
 use Rattle.model.specs.Reachable.{Always, LoopbacksPaid}
 use Rattle.model.proofs.Cases.{clash, each}
@@ -91,7 +91,7 @@ arriving-paid s (control mt gid oid x) p h =
     (λ _. answering-paid (withAsking (runAfter (s .asking) 1 gid oid x) s) gid oid (wholeBy (s .asking) 1 gid oid x) (flagBy (s .asking) 1 gid oid x) h) (λ _. h)
 arriving-paid s junk p h = h
 
-down-paid : (s : State) (w : List Octets) → LoopbacksPaid s → LoopbacksPaid (taking w s .next)
+down-paid : (s : State) (w : List Octets) → LoopbacksPaid s → LoopbacksPaid (takingDown w s .next)
 down-paid s [] h = h
 down-paid s (p ∷ w) h = arriving-paid (withDown w s) (meaning p) p h
 
@@ -121,7 +121,7 @@ coming-paid s (control mt gid oid x) h =
     (λ _. hearing-paid (withHearing (runAfter (s .hearing) mt gid oid x) s) mt gid oid (wholeBy (s .hearing) mt gid oid x) (flagBy (s .hearing) mt gid oid x) h)
 coming-paid s junk h = h
 
-up-paid : (s : State) (w : List Octets) → LoopbacksPaid s → LoopbacksPaid (reading w s .next)
+up-paid : (s : State) (w : List Octets) → LoopbacksPaid s → LoopbacksPaid (takingUp w s .next)
 up-paid s [] h = h
 up-paid s (p ∷ w) h = coming-paid (withUp w s) (meaning p) h
 

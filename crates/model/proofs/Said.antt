@@ -35,7 +35,7 @@ use Rattle.model.proofs.Meanings.{meaning-notice}
 use Rattle.model.proofs.Messages.{answeredBy, says-response, meaning-answer}
 use Rattle.model.proofs.Cases.{each}
 use Rattle.model.proofs.Fine.{ChangeOk}
-use Rattle.model.proofs.Deciding.{dynamic-conn}
+use Rattle.model.proofs.DownAnswer.{dynamic-conn}
 
 -- ---- what is heard
 

@@ -40,7 +40,7 @@ use Rattle.model.specs.calls.Consume.{isLoop, echo, echoed, segmentIn, j
 use Rattle.model.specs.calls.Credit.{owedBy}
 use Rattle.model.specs.calls.Air.{airedConns, airing}
 use Rattle.model.specs.calls.Reply.{replying}
-use Rattle.model.specs.calls.Up.{heard, hearing, coming, reading}
+use Rattle.model.specs.calls.Up.{heard, hearing, coming, takingUp}
 use Rattle.model.specs.Bench.{rules, act}
 use Rattle.model.specs.Observer.{Ledger}
 use Rattle.model.specs.Reachable.{Always, RunWithin, Sizes}
@@ -51,7 +51,7 @@ use Rattle.model.proofs.Link.{held-le, owed-le}
 use Rattle.air.proofs.Taken.{Within, event-within, aired-steady}
 use Rattle.model.proofs.Meanings.{meaning-data}
 use Rattle.model.proofs.Messages.{notices-few}
-use Rattle.model.proofs.Airing.{Suits, aired-ok, aired-suits, kind-eight, notifies}
+use Rattle.model.proofs.Air.{Suits, aired-ok, aired-suits, kind-eight, notifies}
 use Rattle.model.proofs.Trace.{reachable}
 use Rattle.model.proofs.Always.{Stays, always}
 use Rattle.model.proofs.Never.{heard-whole}
@@ -334,7 +334,7 @@ module _ (s : State) (aim : ℕ) (l : ℕ → Ledger) (p : Octets) (w : List Oct
 up-small : (s : State) (aim : ℕ) (l : ℕ → Ledger) → first (rules up s) ≡ taken → Fine s aim l → Small s → Small (act up s .next)
 up-small s aim l t f m = go (s .up) (need 8 (rules up s) t) f m
   where
-    go : (w : List Octets) → isNil w ≡ false → Fine (withUp w s) aim l → Small (withUp w s) → Small (reading w s .next)
+    go : (w : List Octets) → isNil w ≡ false → Fine (withUp w s) aim l → Small (withUp w s) → Small (takingUp w s .next)
     go [] e f m = clash refl e
     go (p ∷ w) e f m = coming-small s aim l p w f m (meaning p) refl (f .sound .0)
 

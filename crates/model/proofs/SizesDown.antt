@@ -24,7 +24,7 @@ use Rattle.model.specs.Effects.{down, Effect, taken}
 use Rattle.model.specs.Refusals.{first, isNil, full}
 use Rattle.model.specs.Runs.{runFor, runAfter, wholeBy}
 use Rattle.ends.specs.Changes.{changeBy}
-use Rattle.model.specs.calls.Down.{answers, deciding, answering, arriving, taking, tooTight, firstFull, needsTwo, storeFull}
+use Rattle.model.specs.calls.Down.{answers, deciding, answering, arriving, takingDown, tooTight, firstFull, needsTwo, storeFull}
 use Rattle.model.specs.Bench.{rules, act}
 use Rattle.model.specs.Observer.{Ledger}
 use Rattle.model.specs.invariant.Bench.{Fine}
@@ -33,7 +33,7 @@ use Rattle.model.proofs.Needs.{need}
 use Rattle.nfcc.proofs.Verdicts.{Fits, judge-fits, after-steady}
 use Rattle.model.proofs.Messages.{notices-few}
 use Rattle.model.proofs.Order.{way-low, way-small}
-use Rattle.model.proofs.Deciding.{verdict-ok}
+use Rattle.model.proofs.DownAnswer.{verdict-ok}
 use Rattle.model.proofs.Said.{said-append, answers-said}
 use Rattle.model.proofs.Small.{Small, grown-within, more-none, at-small, change-controller, open-known}
 
@@ -140,6 +140,6 @@ pub down-small : (s : State) (aim : ℕ) (l : ℕ → Ledger) → first (rules d
 down-small s aim l t f m = go (s .down) (need 4 (rules down s) t) (need 8 (rules down s) t) (need 12 (rules down s) t) f m
   where
     go : (w : List Octets) → tooTight s w ≡ false → isNil w ≡ false → firstFull s w ≡ false → Fine (withDown w s) aim l → Small (withDown w s)
-        → Small (taking w s .next)
+        → Small (takingDown w s .next)
     go [] two e room f m = clash refl e
     go (p ∷ w) two e room f m = arriving-small s aim l p w f m (meaning p) refl two room

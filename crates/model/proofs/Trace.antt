@@ -29,11 +29,11 @@ use Rattle.model.proofs.Link.{held-counted, held-shown, stored-counted,
 use Rattle.model.proofs.Meanings.{dataCount-segs, creditsUp-items}
 use Rattle.state.proofs.Limits.{profile-limits}
 use Rattle.model.proofs.Fine.{kept, cold-fine}
-use Rattle.model.proofs.Keeping.{fresh-keeps, power-keeps, command-keeps, send-keeps, push-keeps, report-keeps}
-use Rattle.model.proofs.Returning.{consume-keeps, credit-keeps, reply-keeps}
-use Rattle.model.proofs.Arriving.{down-keeps}
-use Rattle.model.proofs.Airing.{air-keeps}
-use Rattle.model.proofs.Hearing.{up-keeps}
+use Rattle.model.proofs.HostCalls.{fresh-keeps, power-keeps, command-keeps, send-keeps, push-keeps, report-keeps}
+use Rattle.model.proofs.ControllerCalls.{consume-keeps, credit-keeps, reply-keeps}
+use Rattle.model.proofs.Down.{down-keeps}
+use Rattle.model.proofs.Air.{air-keeps}
+use Rattle.model.proofs.Up.{up-keeps}
 
 -- ---- every call keeps the invariant
 

@@ -32,11 +32,11 @@ use Rattle.model.specs.Refusals.{first, noConn, isNil, isHeld}
 use Rattle.model.specs.Runs.{runAfter, wholeBy}
 use Rattle.ends.specs.Changes.{changeBy, changeAired, changeHeard}
 use Rattle.model.specs.calls.Push.{pushing}
-use Rattle.model.specs.calls.Down.{answers, deciding, answering, arriving, taking}
+use Rattle.model.specs.calls.Down.{answers, deciding, answering, arriving, takingDown}
 use Rattle.model.specs.calls.Consume.{isLoop, echo, echoed, segmentIn, joinedEnd, consuming}
 use Rattle.model.specs.calls.Air.{airedConns, airing}
 use Rattle.model.specs.calls.Reply.{replying}
-use Rattle.model.specs.calls.Up.{hearing, coming, reading}
+use Rattle.model.specs.calls.Up.{hearing, coming, takingUp}
 use Rattle.model.specs.Bench.{rules, act}
 use Rattle.model.specs.Observer.{Ledger}
 use Rattle.model.specs.Reachable.{Always, WellFormed, GoesDown, GoesUp, Each, Wires}
@@ -147,7 +147,7 @@ module _ (s : State) (aim : ℕ) (l : ℕ → Ledger) (p : Octets) (w : List Oct
 down-shaped : (s : State) (aim : ℕ) (l : ℕ → Ledger) → first (rules down s) ≡ taken → Fine s aim l → Shaped s → Shaped (act down s .next)
 down-shaped s aim l t f m = go (s .down) (need 8 (rules down s) t) f m
   where
-    go : (w : List Octets) → isNil w ≡ false → Fine (withDown w s) aim l → Shaped (withDown w s) → Shaped (taking w s .next)
+    go : (w : List Octets) → isNil w ≡ false → Fine (withDown w s) aim l → Shaped (withDown w s) → Shaped (takingDown w s .next)
     go [] e f m = clash refl e
     go (p ∷ w) e f m = arriving-shaped s aim l p w f m (meaning p) refl
 
@@ -257,7 +257,7 @@ module _ (s : State) (p : Octets) (w : List Octets) (m : Shaped (withUp (p ∷ w
 up-shaped : (s : State) → first (rules up s) ≡ taken → Shaped s → Shaped (act up s .next)
 up-shaped s t m = go (s .up) (need 8 (rules up s) t) m
   where
-    go : (w : List Octets) → isNil w ≡ false → Shaped (withUp w s) → Shaped (reading w s .next)
+    go : (w : List Octets) → isNil w ≡ false → Shaped (withUp w s) → Shaped (takingUp w s .next)
     go [] e m = clash refl e
     go (p ∷ w) e m = coming-shaped s p w m (meaning p)
 

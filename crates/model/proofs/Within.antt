@@ -26,11 +26,11 @@ use Rattle.model.specs.Refusals.{first, noConn, ids, isHeld}
 use Rattle.model.specs.Runs.{runAfter, wholeBy, flagBy}
 use Rattle.model.specs.Changes.{atController, atHost}
 use Rattle.model.specs.calls.Push.{pushing}
-use Rattle.model.specs.calls.Down.{answering, arriving, taking}
+use Rattle.model.specs.calls.Down.{answering, arriving, takingDown}
 use Rattle.model.specs.calls.Consume.{isLoop, echoed, segmentIn, joinedEnd, consuming}
 use Rattle.model.specs.calls.Air.{airing, airedConns}
 use Rattle.model.specs.calls.Reply.{replying}
-use Rattle.model.specs.calls.Up.{hearing, heard, coming, reading}
+use Rattle.model.specs.calls.Up.{hearing, heard, coming, takingUp}
 use Rattle.model.specs.Bench.{rules, act, judged, step}
 use Rattle.model.specs.Grants.{ConnWithin, WithinGrants, passing, above, anyOf, aboveIn, tooMany, firstTooMany, pastGrant}
 use Rattle.model.proofs.Cases.{each}
@@ -123,7 +123,7 @@ module _ (s : State) (h : WithinGrants s) where
         go false z = hearing-within (runAfter (s .hearing) mt gid oid x) mt gid oid (wholeBy (s .hearing) mt gid oid x) (flagBy (s .hearing) mt gid oid x) z
     coming-within junk e = h
 
-  up-within : (w : List Octets) → firstTooMany s w ≡ false → WithinGrants (reading w s .next)
+  up-within : (w : List Octets) → firstTooMany s w ≡ false → WithinGrants (takingUp w s .next)
   up-within [] e = h
   up-within (p ∷ w) e = coming-within w (meaning p) e
 
@@ -149,7 +149,7 @@ arriving-within s (control mt gid oid x) p h =
     (λ _. answering-within (withAsking (runAfter (s .asking) 1 gid oid x) s) gid oid (wholeBy (s .asking) 1 gid oid x) (flagBy (s .asking) 1 gid oid x) h) (λ _. h)
 arriving-within s junk p h = h
 
-down-within : (s : State) (w : List Octets) → WithinGrants s → WithinGrants (taking w s .next)
+down-within : (s : State) (w : List Octets) → WithinGrants s → WithinGrants (takingDown w s .next)
 down-within s [] h = h
 down-within s (p ∷ w) h = arriving-within (withDown w s) (meaning p) p h
 

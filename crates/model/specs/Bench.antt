@@ -12,12 +12,12 @@ use Rattle.model.specs.Refusals.{Rule, rule, first}
 use Rattle.model.specs.calls.Command.{commanding, commandRules}
 use Rattle.model.specs.calls.Send.{sending, sendRules}
 use Rattle.model.specs.calls.Push.{pushing, pushRules}
-use Rattle.model.specs.calls.Down.{taking, downRules}
+use Rattle.model.specs.calls.Down.{takingDown, downRules}
 use Rattle.model.specs.calls.Consume.{consuming, consumeRules}
 use Rattle.model.specs.calls.Credit.{crediting, creditRules}
 use Rattle.model.specs.calls.Air.{airing, airingAs, airRules}
 use Rattle.model.specs.calls.Reply.{replying, replyRules}
-use Rattle.model.specs.calls.Up.{reading, upRules}
+use Rattle.model.specs.calls.Up.{takingUp, upRules}
 use Rattle.model.specs.calls.Report.{reporting, reportRules}
 
 abbrev pub rules : Call → State → List Rule
@@ -40,12 +40,12 @@ act power s = quiet (cold (s .profile))
 act (command gid oid m) s = commanding gid oid m s
 act (send c m) s = sending c m s
 act (push c) s = pushing c (s .conns c .host .hand) s
-act down s = telling (firstRfu Down (s .down)) (taking (s .down) s)
+act down s = telling (firstRfu Down (s .down)) (takingDown (s .down) s)
 act (consume c) s = consuming c (s .conns c .controller .store) s
 act credit s = crediting s
 act (air m) s = airingAs (eventOf m) (airing s m) m s
 act reply s = replying (s .conns 0 .controller .speech) s
-act up s = telling (firstRfu Up (s .up)) (reading (s .up) s)
+act up s = telling (firstRfu Up (s .up)) (takingUp (s .up) s)
 act (report c) s = reporting c s
 
 -- a refusal changes nothing

@@ -14,7 +14,7 @@ use Rattle.nfcc.specs.Kinds.phase.{Cold, Ready}
 use Rattle.nfcc.specs.Kinds.phase as phase
 use Rattle.nfcc.specs.Kinds.command.{Reset, Init, ConnCreate, ConnClose, Discover, Select, Deactivate, Unknown}
 use Rattle.nfcc.specs.Kinds.verdict.{Refuses, Resets, Initialises, Opens, Closes, Turns, Selects, Deactivates}
-use Rattle.state.specs.Conn.{termsOf, shutAt, openedAt, allShut, empty}
+use Rattle.state.specs.Conn.{termsOf, controllerClosedAt, controllerOpenedAt, controllerAllClosed, empty}
 use Rattle.state.specs.Radio.{isIdle, polls, listens, noPairs, listed}
 use Rattle.state.specs.Commands.{commandOf}
 
@@ -184,13 +184,13 @@ controllerAfter k (Deactivates t rf) = turned k rf
 
 unfoldable pub connsAfter : List Counts → Verdict → List Counts
 connsAfter conns (Refuses s) = conns
-connsAfter conns (Resets t) = allShut conns
+connsAfter conns (Resets t) = controllerAllClosed conns
 connsAfter conns Initialises = conns
-connsAfter conns (Opens c t) = openedAt conns c t
-connsAfter conns (Closes c) = shutAt conns c
+connsAfter conns (Opens c t) = controllerOpenedAt conns c t
+connsAfter conns (Closes c) = controllerClosedAt conns c
 connsAfter conns (Turns rf) = conns
 connsAfter conns (Selects p) = conns
-connsAfter conns (Deactivates t rf) = shutAt conns 0
+connsAfter conns (Deactivates t rf) = controllerClosedAt conns 0
 
 -- the endpoint's message in hand: connection 0 opens and closes with none
 unfoldable pub endpointAfter : Hand → Verdict → Hand

@@ -1,8 +1,8 @@
 // What a verdict does: to the controller's numbers, to the connections, and to the endpoint's message.
-use state::conn::all_shut;
+use state::conn::controller_all_closed;
+use state::conn::controller_closed_at;
+use state::conn::controller_opened_at;
 use state::conn::empty_hand;
-use state::conn::opened_at;
-use state::conn::shut_at;
 use state::kinds::Controller;
 use state::kinds::Counts;
 use state::kinds::Hand;
@@ -78,13 +78,13 @@ pub fn conns_after(conns: [Counts; 5], v: Verdict) -> [Counts; 5]
 {
     match v {
         Verdict::Refuses(_) => conns,
-        Verdict::Resets(_) => all_shut(conns),
+        Verdict::Resets(_) => controller_all_closed(conns),
         Verdict::Initialises => conns,
-        Verdict::Opens(id, t) => opened_at(conns, id, t),
-        Verdict::Closes(id) => shut_at(conns, id),
+        Verdict::Opens(id, t) => controller_opened_at(conns, id, t),
+        Verdict::Closes(id) => controller_closed_at(conns, id),
         Verdict::Turns(_) => conns,
         Verdict::Selects(_) => conns,
-        Verdict::Deactivates(_, _) => shut_at(conns, 0),
+        Verdict::Deactivates(_, _) => controller_closed_at(conns, 0),
     }
 }
 

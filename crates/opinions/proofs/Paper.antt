@@ -6,7 +6,7 @@ use Rattle.model.specs.State.{State}
 use Rattle.model.specs.Effects.{Call, command, push, down}
 use Rattle.model.specs.Bench.{step}
 use Rattle.model.specs.Observer.{events}
-use Rattle.calls.proofs.Playing.{as-model}
+use Rattle.calls.proofs.Played.{as-model}
 use Rattle.opinions.specs.Shown.{hex, Line, refusal, puts, lineOf, profile, start, lines}
 use Rattle.opinions.specs.FirstPaper.{paper, paperShows}
 use Rattle.opinions.specs.OnOctets.{seenLine, PaperOnOctets}

@@ -8,7 +8,7 @@ use Rattle.record.specs.Claims.{Claims}
 use Rattle.record.proofs.Loads.{short-load, bad-load, long-load}
 use Rattle.record.proofs.Fits.{judged-fits, judged-granted, fits-judged}
 use Rattle.record.proofs.ReadsBack.{reads-back, judged-back}
-use Rattle.record.proofs.Outside.{slot-octet, outside-before, outside-after, outside-length, same-record, same-judgement}
+use Rattle.record.proofs.Outside.{record-octet, outside-before, outside-after, outside-length, same-record, same-judgement}
 
 pub decoded-shape : (area : Octets) → Shape (decodeOf area)
 unfolding decodeOf recordOf endsOf controllerAt pairsAt connsAt
@@ -17,7 +17,7 @@ decoded-shape area = record { pairs = refl; conns = refl }
 pub claims : Claims
 claims =
     record {
-      slot-octet = slot-octet;
+      record-octet = record-octet;
       reads-back = reads-back;
       judged-back = judged-back;
       judged-fits = judged-fits;

@@ -15,7 +15,7 @@ use Rattle.state.specs.Profile.{leastSize, profileOk}
 use Rattle.state.proofs.Chains.{every-at}
 use Rattle.state.proofs.Limits.{profile-within, within-profile}
 use Rattle.area.specs.Map.{areaSize, wireSlots, storeSlots, messageSize, controlSize, places}
-use Rattle.record.specs.Layout.{slot, pairsRoom}
+use Rattle.record.specs.Layout.{recordOctets, pairsRoom}
 use Rattle.record.specs.Reading.{decodeOf}
 use Rattle.record.specs.Judge.{ringOk, handOk, givenOk, hostSideOk, controllerSideOk, countsOk, countsOkIn, connsOk, endsOk, recordOk, tagsOk, judgeOf}
 use Rattle.record.specs.Fit.{FitRing, FitHand, FitCounts, Each, Fit, GrantedCounts, Granted}
@@ -207,7 +207,7 @@ fits-judged r f g =
 
 judged-ok : (area : Octets) → judgeOf area ≡ true → recordOk (decodeOf area) ≡ true
 unfolding judgeOf
-judged-ok area h = every-at (tagsOk (slot area)) (recordOk (decodeOf area) ∷ []) h 1
+judged-ok area h = every-at (tagsOk (recordOctets area)) (recordOk (decodeOf area) ∷ []) h 1
 
 pub judged-fits : (area : Octets) → judgeOf area ≡ true → areaSize ≤ length area → Fit (decodeOf area)
 judged-fits area h long = ok-fits (decodeOf area) (judged-ok area h)

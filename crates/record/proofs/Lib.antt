@@ -5,7 +5,7 @@ pub mod ReadsBack
 pub mod Small
 pub mod Hosts
 pub mod Conns
-pub mod Stored
+pub mod Saved
 pub mod Taken
 pub mod Outside
 pub mod Claims

@@ -17,12 +17,12 @@ use Rattle.record.specs.Kinds.phase.{Cold, Reset, Ready}
 use Rattle.record.specs.Kinds.pending as pending
 use Rattle.state.specs.Conn.{closedCounts}
 use Rattle.area.specs.Map.{areaSize, recordAt, recordRoom, wireSlots, messageSize, controlSize, places}
-use Rattle.record.specs.Layout.{slot, pairsRoom, recordEnd, high, low, bit}
+use Rattle.record.specs.Layout.{recordOctets, pairsRoom, recordEnd, high, low, bit}
 use Rattle.record.specs.Reading.{wideAt, pendingOf, phaseOf, rfOf, profileAt, progressAt, controlRunAt, handAt, ringAt, hostAt, pairAt, pairsAt, controllerAt, hostSideAt, controllerSideAt, countsAt, connsAt, endsOf, recordOf, decodeOf}
 use Rattle.record.specs.Writing.{pendingOctets, phaseOctet, rfOctets, profileOctets, controlRunOctets, handOctets, ringOctets, hostOctets, noPair, pairsOctets, controllerOctets, countsOctets, connsOctets, frontOctets, middleOctets, wiresOctets, encodeOf}
 use Rattle.record.specs.Judge.{recordOk, rfKnown, connKnown, connsKnown, tagsOk, judgeOf}
 use Rattle.record.specs.Fit.{Shape, FitCounts, Fit}
-use Rattle.record.specs.Claims.{stored}
+use Rattle.record.specs.Claims.{saved}
 use Rattle.record.proofs.Writing.{length-encode}
 use Rattle.record.proofs.Fits.{ok-fits}
 
@@ -272,28 +272,28 @@ again-back r s f =
 
 -- what stands after the record in its 512 octets
 rest : Octets → Record → Octets
-rest area r = take (recordRoom - recordEnd) (drop recordEnd (drop recordAt (stored area r)))
+rest area r = take (recordRoom - recordEnd) (drop recordEnd (drop recordAt (saved area r)))
 
-slot-stored : (area : Octets) (r : Record) → areaSize ≤ length area → slot (stored area r) ≡ encodeOf r ++ rest area r
-unfolding slot cut rest
-slot-stored area r long =
+room-saved : (area : Octets) (r : Record) → areaSize ≤ length area → recordOctets (saved area r) ≡ encodeOf r ++ rest area r
+unfolding recordOctets cut rest
+room-saved area r long =
     let l = length-encode r in
     let fits : recordAt + length (encodeOf r) ≤ length area = rw l (omega arith) in
-    let same : take recordEnd (drop recordAt (stored area r)) ≡ encodeOf r = rw l at (cut-same area recordAt (encodeOf r) fits) in
-    take-add recordEnd (recordRoom - recordEnd) (drop recordAt (stored area r)) ∙ ap (λ (k : Octets). k ++ rest area r) same
+    let same : take recordEnd (drop recordAt (saved area r)) ≡ encodeOf r = rw l at (cut-same area recordAt (encodeOf r) fits) in
+    take-add recordEnd (recordRoom - recordEnd) (drop recordAt (saved area r)) ∙ ap (λ (k : Octets). k ++ rest area r) same
 
 module _ (area : Octets) (r : Record) (long : areaSize ≤ length area) (s : Shape r) where
-  in-slot : slot (stored area r) ≡ written r (four (pendingOctets (r .ends .host .pending))) (four (rfOctets (r .ends .controller .rf))) ++ rest area r
-  in-slot = slot-stored area r long ∙ ap (λ (k : Octets). k ++ rest area r) (encoded r)
+  in-room : recordOctets (saved area r) ≡ written r (four (pendingOctets (r .ends .host .pending))) (four (rfOctets (r .ends .controller .rf))) ++ rest area r
+  in-room = room-saved area r long ∙ ap (λ (k : Octets). k ++ rest area r) (encoded r)
 
-  pub reads-back : Fit r → decodeOf (stored area r) ≡ r
+  pub reads-back : Fit r → decodeOf (saved area r) ≡ r
   unfolding decodeOf
-  reads-back f = ap recordOf in-slot ∙ parts r (pendingOctets (r .ends .host .pending)) (rfOctets (r .ends .controller .rf)) (rest area r) ∙ again-back r s f
+  reads-back f = ap recordOf in-room ∙ parts r (pendingOctets (r .ends .host .pending)) (rfOctets (r .ends .controller .rf)) (rest area r) ∙ again-back r s f
 
-  pub judged-back : recordOk r ≡ true → judgeOf (stored area r) ≡ true
+  pub judged-back : recordOk r ≡ true → judgeOf (saved area r) ≡ true
   unfolding judgeOf
   judged-back ok =
       let p = r .ends .host .pending in
       let x = r .ends .controller .rf in
-      let known = ap tagsOk in-slot ∙ tags r (pendingOctets p) (rfOctets x) (rest area r) (pending-known p) (rf-known x) in
+      let known = ap tagsOk in-room ∙ tags r (pendingOctets p) (rfOctets x) (rest area r) (pending-known p) (rf-known x) in
       rw (known, reads-back (ok-fits r ok)) ok

@@ -18,7 +18,7 @@ use Rattle.state.specs.Radio.{noPairs}
 use Rattle.state.proofs.Chains.{on}
 use Rattle.state.proofs.SmallVerdicts.{Bare, SmallTerms}
 use Rattle.area.specs.Map.{recordAt, recordRoom, places}
-use Rattle.record.specs.Layout.{slot, rfPart, selectedPart, pairsPart, pendingPart, runPart, hostSideSize, countsPart, profilePlace, hostPlace, hearingPlace, controllerPlace, askingPlace, connsPlace, high, low, bit}
+use Rattle.record.specs.Layout.{recordOctets, rfPart, selectedPart, pairsPart, pendingPart, runPart, hostSideSize, countsPart, profilePlace, hostPlace, hearingPlace, controllerPlace, askingPlace, connsPlace, high, low, bit}
 use Rattle.record.specs.Reading.{pendingOf, phaseOf, rfOf, profileAt, progressAt, controlRunAt, hostAt, pairAt, pairsAt, controllerAt, hostSideAt, controllerSideAt, countsAt, connsAt, endsOf, recordOf, decodeOf}
 use Rattle.record.specs.Writing.{pendingOctets, phaseOctet, rfOctets, profileOctets, progressOctets, controlRunOctets, handOctets, ringOctets, hostOctets, pairsOctets, controllerOctets, countsOctets, connsOctets, frontOctets, middleOctets, wiresOctets, encodeOf}
 use Rattle.record.specs.Fit.{Each}
@@ -156,7 +156,7 @@ module _ (s : Octets) (h : Octal s) where
   conns-small at (suc (suc (suc (suc (suc n))))) h = absurd (omega arith)
 
 pub small-decode : (a : Octets) → Octal a → Small (decodeOf a)
-unfolding decodeOf recordOf endsOf slot
+unfolding decodeOf recordOf endsOf recordOctets
 small-decode a h =
     let s : Octets = cut recordAt recordRoom a in
     let o : Octal s = octal-cut recordAt recordRoom h in

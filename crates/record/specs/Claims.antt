@@ -6,7 +6,7 @@ use mathlib.Core.Bool.{true, false}
 use lib.ListN.{length, getD}
 use Rattle.octets.specs.Octets.{Octets, cut, splice}
 use Rattle.record.specs.Kinds.{Record}
-use Rattle.record.specs.Layout.{slot, recordEnd}
+use Rattle.record.specs.Layout.{recordOctets, recordEnd}
 use Rattle.area.specs.Map.{areaSize, recordAt, recordRoom}
 use Rattle.record.specs.Reading.{decodeOf}
 use Rattle.record.specs.Writing.{encodeOf}
@@ -15,26 +15,26 @@ use Rattle.record.specs.Fit.{Shape, Fit, Granted}
 use Rattle.record.specs.Load.{blank, loaded, loadOf}
 
 -- the area after a record is written into it
-abbrev pub stored : Octets → Record → Octets
-stored area r = splice area recordAt (encodeOf r)
+abbrev pub saved : Octets → Record → Octets
+saved area r = splice area recordAt (encodeOf r)
 
 -- ---- the claims
 
 pub record Claims : Type 0 where
   -- octet k of the record is octet 36,352 + k of the area
-  pub slot-octet : (area : Octets) (k : ℕ) → k < recordRoom → getD (slot area) k 0 ≡ getD area (recordAt + k) 0
+  pub record-octet : (area : Octets) (k : ℕ) → k < recordRoom → getD (recordOctets area) k 0 ≡ getD area (recordAt + k) 0
   -- what was written is read back, whatever its credits, and judged good, for every record whose numbers are within row 1
-  pub reads-back : (area : Octets) (r : Record) → areaSize ≤ length area → Shape r → Fit r → decodeOf (stored area r) ≡ r
-  pub judged-back : (area : Octets) (r : Record) → areaSize ≤ length area → Shape r → recordOk r ≡ true → judgeOf (stored area r) ≡ true
+  pub reads-back : (area : Octets) (r : Record) → areaSize ≤ length area → Shape r → Fit r → decodeOf (saved area r) ≡ r
+  pub judged-back : (area : Octets) (r : Record) → areaSize ≤ length area → Shape r → recordOk r ≡ true → judgeOf (saved area r) ≡ true
   -- a record that is judged good has all its bounds, and one that has them has numbers within row 1
   pub judged-fits : (area : Octets) → judgeOf area ≡ true → areaSize ≤ length area → Fit (decodeOf area)
   pub judged-granted : (area : Octets) → judgeOf area ≡ true → Granted (decodeOf area)
   pub fits-judged : (r : Record) → Fit r → Granted r → recordOk r ≡ true
   pub decoded-shape : (area : Octets) → Shape (decodeOf area)
   -- octets outside the record's 160 are untouched by writing it, and the area's length is kept
-  pub outside-before : (area : Octets) (r : Record) (i n : ℕ) → i + n ≤ recordAt → cut i n (stored area r) ≡ cut i n area
-  pub outside-after : (area : Octets) (r : Record) (i n : ℕ) → recordAt + recordEnd ≤ i → cut i n (stored area r) ≡ cut i n area
-  pub outside-length : (area : Octets) (r : Record) → length (stored area r) ≡ length area
+  pub outside-before : (area : Octets) (r : Record) (i n : ℕ) → i + n ≤ recordAt → cut i n (saved area r) ≡ cut i n area
+  pub outside-after : (area : Octets) (r : Record) (i n : ℕ) → recordAt + recordEnd ≤ i → cut i n (saved area r) ≡ cut i n area
+  pub outside-length : (area : Octets) (r : Record) → length (saved area r) ≡ length area
   -- what is written before the record's place leaves the record and its judgement
   pub same-record : (area : Octets) (i : ℕ) (v : Octets) → i + length v ≤ recordAt → decodeOf (splice area i v) ≡ decodeOf area
   pub same-judgement : (area : Octets) (i : ℕ) (v : Octets) → i + length v ≤ recordAt → judgeOf (splice area i v) ≡ judgeOf area

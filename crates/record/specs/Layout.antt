@@ -11,8 +11,8 @@ use Rattle.area.specs.Map.{recordAt, recordRoom, places}
 -- ---- the area (document 01: "the record rests in the last 512 of those octets")
 
 -- the octets in which the record rests: octet k of them is octet 36,352 + k of the area
-unfoldable pub slot : Octets → Octets
-slot area = cut recordAt recordRoom area
+unfoldable pub recordOctets : Octets → Octets
+recordOctets area = cut recordAt recordRoom area
 
 -- ---- the structs: how many octets each has (Size), and where what is more than one octet, or a tag, stands in it (Part).
 -- All else is one octet for each field, in the order of the struct.

@@ -11,7 +11,7 @@ use Rattle.record.specs.Kinds.rf.{Idle, Discovery, W4AllDiscoveries, W4H
 use Rattle.record.specs.Kinds.phase.{Cold, Reset, Ready}
 use Rattle.record.specs.Kinds.pending as pending
 use Rattle.state.specs.Profile.{termsIn}
-use Rattle.record.specs.Layout.{slot, profilePlace, hostPlace, hearingPlace, controllerPlace, askingPlace, endpointPlace, connsPlace, downPlace, upPlace, lostPart, runPart, pendingPart, rfPart, selectedPart, pairsPart, handPart, hostRunPart, storePart, controllerRunPart, hostSideSize, countsPart}
+use Rattle.record.specs.Layout.{recordOctets, profilePlace, hostPlace, hearingPlace, controllerPlace, askingPlace, endpointPlace, connsPlace, downPlace, upPlace, lostPart, runPart, pendingPart, rfPart, selectedPart, pairsPart, handPart, hostRunPart, storePart, controllerRunPart, hostSideSize, countsPart}
 
 -- ---- numbers
 
@@ -134,4 +134,4 @@ recordOf s = record { ends = endsOf s; down = ringAt s downPlace; up = ringAt s 
 
 -- the record of an area
 unfoldable pub decodeOf : Octets → Record
-decodeOf area = recordOf (slot area)
+decodeOf area = recordOf (recordOctets area)

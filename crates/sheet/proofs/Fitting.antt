@@ -45,7 +45,7 @@ use Rattle.calls.specs.calls.Report.{reportCall}
 use Rattle.calls.proofs.Rules.{small, numbered, refused-small}
 use Rattle.calls.proofs.Called.{sound-area}
 use Rattle.calls.proofs.Words.{word-length, told-length}
-use Rattle.calls.proofs.Showing.{wire-fits, length-slot}
+use Rattle.calls.proofs.Packet.{wire-fits, length-slot}
 use Rattle.ascii.proofs.Digits.{length-hex, length-decimal}
 use Rattle.sheet.specs.Kinds.{Name}
 use Rattle.sheet.specs.Kinds.name.{Fresh, Power, Command, Send, Push, Down, Consume, Credit, Air, Reply, Up, Report, Read, Bad}

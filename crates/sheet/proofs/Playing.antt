@@ -49,19 +49,19 @@ use Rattle.calls.specs.calls.Reply.{replyCall}
 use Rattle.calls.specs.calls.Up.{upRead, receivedJoin, receivedUp, comingUp, readUp, upCall}
 use Rattle.calls.specs.calls.Air.{airCall}
 use Rattle.calls.specs.calls.Report.{reportCall}
-use Rattle.calls.proofs.Displaying.{refined-shown}
+use Rattle.calls.proofs.Displayed.{refined-shown}
 use Rattle.calls.proofs.Read.{read-says}
-use Rattle.calls.proofs.Starting.{fresh-refines, power-refines, fresh-good, fresh-view, fresh-along, fresh-own}
-use Rattle.calls.proofs.Commanding.{command-refines}
-use Rattle.calls.proofs.Sending.{send-refines}
-use Rattle.calls.proofs.Pushing.{push-refines}
-use Rattle.calls.proofs.Downing.{down-refines}
-use Rattle.calls.proofs.Consuming.{consume-refines}
-use Rattle.calls.proofs.Crediting.{credit-refines}
-use Rattle.calls.proofs.Replying.{reply-refines}
-use Rattle.calls.proofs.Coming.{up-refines}
-use Rattle.calls.proofs.Airing.{air-refines}
-use Rattle.calls.proofs.Reporting.{report-refines}
+use Rattle.calls.proofs.FreshPower.{fresh-refines, power-refines, fresh-good, fresh-view, fresh-along, fresh-own}
+use Rattle.calls.proofs.Command.{command-refines}
+use Rattle.calls.proofs.Send.{send-refines}
+use Rattle.calls.proofs.Push.{push-refines}
+use Rattle.calls.proofs.Down.{down-refines}
+use Rattle.calls.proofs.Consume.{consume-refines}
+use Rattle.calls.proofs.Credit.{credit-refines}
+use Rattle.calls.proofs.Reply.{reply-refines}
+use Rattle.calls.proofs.Up.{up-refines}
+use Rattle.calls.proofs.Air.{air-refines}
+use Rattle.calls.proofs.Report.{report-refines}
 use Rattle.ascii.specs.Digits.{hexOf, decimalOf}
 use Rattle.sheet.specs.Kinds.{Name}
 use Rattle.sheet.specs.Kinds.name.{Fresh, Power, Command, Send, Push, Down, Consume, Credit, Air, Reply, Up, Report, Read, Bad}

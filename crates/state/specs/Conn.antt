@@ -111,25 +111,25 @@ withController conns c k = set conns (placeOf c) (record { host = countsOf conns
 
 -- ---- closing and opening at the controller
 
-abbrev pub shutAt : List Counts → ℕ → List Counts
-shutAt conns c = withController conns c closedController
+abbrev pub controllerClosedAt : List Counts → ℕ → List Counts
+controllerClosedAt conns c = withController conns c closedController
 
-abbrev pub openedAt : List Counts → ℕ → Terms → List Counts
-openedAt conns c t = withController conns c (openedController t)
+abbrev pub controllerOpenedAt : List Counts → ℕ → Terms → List Counts
+controllerOpenedAt conns c t = withController conns c (openedController t)
 
-abbrev pub allShut : List Counts → List Counts
-allShut conns = shutAt (shutAt (shutAt (shutAt (shutAt conns 0) 2) 3) 4) 5
+abbrev pub controllerAllClosed : List Counts → List Counts
+controllerAllClosed conns = controllerClosedAt (controllerClosedAt (controllerClosedAt (controllerClosedAt (controllerClosedAt conns 0) 2) 3) 4) 5
 
 -- ---- closing and opening at the host
 
-abbrev pub leftAt : List Counts → ℕ → List Counts
-leftAt conns c = withHost conns c closedHost
+abbrev pub hostClosedAt : List Counts → ℕ → List Counts
+hostClosedAt conns c = withHost conns c closedHost
 
-abbrev pub joinedAt : List Counts → ℕ → Terms → List Counts
-joinedAt conns c t = withHost conns c (openedHost t)
+abbrev pub hostOpenedAt : List Counts → ℕ → Terms → List Counts
+hostOpenedAt conns c t = withHost conns c (openedHost t)
 
-abbrev pub allLeft : List Counts → List Counts
-allLeft conns = leftAt (leftAt (leftAt (leftAt (leftAt conns 0) 2) 3) 4) 5
+abbrev pub hostAllClosed : List Counts → List Counts
+hostAllClosed conns = hostClosedAt (hostClosedAt (hostClosedAt (hostClosedAt (hostClosedAt conns 0) 2) 3) 4) 5
 
 -- ---- credits inside a data packet
 

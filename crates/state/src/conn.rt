@@ -8,7 +8,7 @@ use crate::kinds::Progress;
 use crate::kinds::Ring;
 use crate::kinds::Terms;
 ghost use mathlib.Core.Path.{_≡_};
-ghost use Rattle.state.specs.Conn.{placeOf, connOf, termsOf, metered, creditSum, owing, countsOf, heldOpen, openAt, start, empty, handWith, handAfter, closedController, openedController, closedHost, openedHost, withController, withHost, shutAt, openedAt, allShut, leftAt, joinedAt, allLeft, carriedBy, paidSide, noticedSide, noticedAt, allNoticed};
+ghost use Rattle.state.specs.Conn.{placeOf, connOf, termsOf, metered, creditSum, owing, countsOf, heldOpen, openAt, start, empty, handWith, handAfter, closedController, openedController, closedHost, openedHost, withController, withHost, controllerClosedAt, controllerOpenedAt, controllerAllClosed, hostClosedAt, hostOpenedAt, hostAllClosed, carriedBy, paidSide, noticedSide, noticedAt, allNoticed};
 
 // The credits octet for no flow control.
 pub const UNMETERED: u8 = 255;
@@ -262,53 +262,53 @@ pub fn with_host(conns: [Counts; 5], conn: u8, side: HostSide) -> [Counts; 5]
 }
 
 // A connection closes at the controller.
-pub fn shut_at(conns: [Counts; 5], conn: u8) -> [Counts; 5]
-    ensures { λ r. ⌜ r ≡ shutAt conns conn ⌝ }
+pub fn controller_closed_at(conns: [Counts; 5], conn: u8) -> [Counts; 5]
+    ensures { λ r. ⌜ r ≡ controllerClosedAt conns conn ⌝ }
 {
     with_controller(conns, conn, closed_controller())
 }
 
 // A connection opens at the controller.
-pub fn opened_at(conns: [Counts; 5], conn: u8, t: Terms) -> [Counts; 5]
-    ensures { λ r. ⌜ r ≡ openedAt conns conn t ⌝ }
+pub fn controller_opened_at(conns: [Counts; 5], conn: u8, t: Terms) -> [Counts; 5]
+    ensures { λ r. ⌜ r ≡ controllerOpenedAt conns conn t ⌝ }
 {
     with_controller(conns, conn, opened_controller(t))
 }
 
 // All connections close at the controller.
-pub fn all_shut(conns: [Counts; 5]) -> [Counts; 5]
-    ensures { λ r. ⌜ r ≡ allShut conns ⌝ }
+pub fn controller_all_closed(conns: [Counts; 5]) -> [Counts; 5]
+    ensures { λ r. ⌜ r ≡ controllerAllClosed conns ⌝ }
 {
-    let a = shut_at(conns, 0);
-    let b = shut_at(a, 2);
-    let c = shut_at(b, 3);
-    let d = shut_at(c, 4);
-    shut_at(d, 5)
+    let a = controller_closed_at(conns, 0);
+    let b = controller_closed_at(a, 2);
+    let c = controller_closed_at(b, 3);
+    let d = controller_closed_at(c, 4);
+    controller_closed_at(d, 5)
 }
 
 // A connection closes at the host.
-pub fn left_at(conns: [Counts; 5], conn: u8) -> [Counts; 5]
-    ensures { λ r. ⌜ r ≡ leftAt conns conn ⌝ }
+pub fn host_closed_at(conns: [Counts; 5], conn: u8) -> [Counts; 5]
+    ensures { λ r. ⌜ r ≡ hostClosedAt conns conn ⌝ }
 {
     with_host(conns, conn, closed_host())
 }
 
 // A connection opens at the host.
-pub fn joined_at(conns: [Counts; 5], conn: u8, t: Terms) -> [Counts; 5]
-    ensures { λ r. ⌜ r ≡ joinedAt conns conn t ⌝ }
+pub fn host_opened_at(conns: [Counts; 5], conn: u8, t: Terms) -> [Counts; 5]
+    ensures { λ r. ⌜ r ≡ hostOpenedAt conns conn t ⌝ }
 {
     with_host(conns, conn, opened_host(t))
 }
 
 // All connections close at the host.
-pub fn all_left(conns: [Counts; 5]) -> [Counts; 5]
-    ensures { λ r. ⌜ r ≡ allLeft conns ⌝ }
+pub fn host_all_closed(conns: [Counts; 5]) -> [Counts; 5]
+    ensures { λ r. ⌜ r ≡ hostAllClosed conns ⌝ }
 {
-    let a = left_at(conns, 0);
-    let b = left_at(a, 2);
-    let c = left_at(b, 3);
-    let d = left_at(c, 4);
-    left_at(d, 5)
+    let a = host_closed_at(conns, 0);
+    let b = host_closed_at(a, 2);
+    let c = host_closed_at(b, 3);
+    let d = host_closed_at(c, 4);
+    host_closed_at(d, 5)
 }
 
 // The credits that a data packet going up carries: what the connection owes, at most 3.

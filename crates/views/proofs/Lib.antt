@@ -7,7 +7,7 @@ pub mod Others
 pub mod Controls
 pub mod Commands
 pub mod Whole
-pub mod Stored
+pub mod Saved
 pub mod Credits
 pub mod Tests
 pub mod Changed

@@ -13,7 +13,7 @@ use Rattle.ends.specs.Steps.{airedIn, met}
 use Rattle.area.specs.Map.{wireSlots, upAt, endpointAt}
 use Rattle.area.specs.Ring.{freeAt, putInto}
 use Rattle.record.specs.Reading.{decodeOf}
-use Rattle.record.specs.Claims.{stored}
+use Rattle.record.specs.Claims.{saved}
 use Rattle.record.specs.Fit.{FitRing}
 use Rattle.record.specs.Plan.{withUp, withEnds}
 use Rattle.views.specs.View.{viewOf}
@@ -56,7 +56,7 @@ abbrev pub airedWord : Bool → ℕ
 airedWord spoken = wordOf false false 0 0 (pick spoken 0 1)
 
 abbrev pub aired : Record → Octets → Octets → Octets → Outcome
-aired r m a out = outcome (airedWord (speaks m)) (stored (airedArea r m a) (airedRecord r m)) out
+aired r m a out = outcome (airedWord (speaks m)) (saved (airedArea r m a) (airedRecord r m)) out
 
 unfoldable pub airCall : Octets → Octets → Octets → Outcome
 airCall a out m = called (airRules m (viewOf a)) (aired (decodeOf a) m a out) a out

@@ -14,7 +14,7 @@ use Rattle.dh.specs.Host.{askedOf}
 use Rattle.area.specs.Map.{payloadSize, wireSlots, downAt}
 use Rattle.area.specs.Movers.{putsAll}
 use Rattle.record.specs.Reading.{decodeOf}
-use Rattle.record.specs.Claims.{stored}
+use Rattle.record.specs.Claims.{saved}
 use Rattle.record.specs.Fit.{FitRing}
 use Rattle.record.specs.Plan.{withDown, withHostState}
 use Rattle.views.specs.View.{viewOf}
@@ -52,7 +52,7 @@ abbrev pub commandedWord : Record → Octets → ℕ
 commandedWord r m = wordOf false false 0 (commandedCount r m) 0
 
 abbrev pub commanded : Record → ℕ → ℕ → Octets → Octets → Octets → Outcome
-commanded r gid oid m a out = outcome (commandedWord r m) (stored (commandedSlots r gid oid m a) (commandedRecord r gid oid m)) out
+commanded r gid oid m a out = outcome (commandedWord r m) (saved (commandedSlots r gid oid m a) (commandedRecord r gid oid m)) out
 
 unfoldable pub commandCall : Octets → Octets → ℕ → ℕ → Octets → Outcome
 commandCall a out gid oid m = called (commandRules gid oid m (viewOf a)) (commanded (decodeOf a) gid oid m a out) a out

@@ -16,7 +16,7 @@ use Rattle.area.specs.Map.{slotSize, wireSlots, storeSlots, messageSize, places
 use Rattle.area.specs.Ring.{firstAt, freeAt, tookFrom, putInto}
 use Rattle.area.specs.Runs.{runArea}
 use Rattle.record.specs.Reading.{decodeOf}
-use Rattle.record.specs.Claims.{stored}
+use Rattle.record.specs.Claims.{saved}
 use Rattle.record.specs.Fit.{FitRing}
 use Rattle.record.specs.Plan.{withUp, withConns}
 use Rattle.views.specs.View.{viewOf}
@@ -92,7 +92,7 @@ abbrev pub consumedWord : ℕ → Joined → ℕ → ℕ
 consumedWord c j len = wordOf (j .dropped) (j .done) (pick (j .done) len 0) 0 (pick (isLoop c) 1 0)
 
 abbrev pub consumedAs : Record → ℕ → Joined → ℕ → Octets → Octets → Outcome
-consumedAs r c j len a out = outcome (consumedWord c j len) (stored (echoedSlot r c a) (consumedRecord r c (j .next))) (consumedOut c j len a out)
+consumedAs r c j len a out = outcome (consumedWord c j len) (saved (echoedSlot r c a) (consumedRecord r c (j .next))) (consumedOut c j len a out)
 
 -- ---- by what the reader found; of a packet that it drops nothing joins the run
 

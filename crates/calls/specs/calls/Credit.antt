@@ -10,7 +10,7 @@ use Rattle.state.specs.Conn.{allNoticed}
 use Rattle.area.specs.Map.{wireSlots, upAt}
 use Rattle.area.specs.Ring.{freeAt, putInto}
 use Rattle.record.specs.Reading.{decodeOf}
-use Rattle.record.specs.Claims.{stored}
+use Rattle.record.specs.Claims.{saved}
 use Rattle.record.specs.Fit.{FitRing}
 use Rattle.record.specs.Plan.{withUp, withConns}
 use Rattle.views.specs.View.{viewOf}
@@ -36,7 +36,7 @@ abbrev pub creditedWord : ℕ
 creditedWord = wordOf false false 0 0 1
 
 abbrev pub credited : Record → Octets → Octets → Outcome
-credited r a out = outcome creditedWord (stored (creditedSlot r a) (creditedRecord r)) out
+credited r a out = outcome creditedWord (saved (creditedSlot r a) (creditedRecord r)) out
 
 unfoldable pub creditCall : Octets → Octets → Outcome
 creditCall a out = called (creditRules (viewOf a)) (credited (decodeOf a) a out) a out

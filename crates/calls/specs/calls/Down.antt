@@ -22,7 +22,7 @@ use Rattle.area.specs.Ring.{firstAt, freeAt, tookFrom, putInto}
 use Rattle.area.specs.Movers.{putsAll}
 use Rattle.area.specs.Runs.{runArea}
 use Rattle.record.specs.Reading.{decodeOf}
-use Rattle.record.specs.Claims.{stored}
+use Rattle.record.specs.Claims.{saved}
 use Rattle.record.specs.Fit.{FitRing}
 use Rattle.record.specs.Plan.{withDown, withUp, withEnds, withConns, withAsking, withStore}
 use Rattle.views.specs.View.{viewOf}
@@ -45,7 +45,7 @@ tookDown r = withDown (tookFrom wireSlots (r .down)) r
 
 -- dropped: nothing else changes
 abbrev pub downDropped : Record → Octets → Octets → Outcome
-downDropped t a out = outcome (wordOf true false 0 0 0) (stored a t) out
+downDropped t a out = outcome (wordOf true false 0 0 0) (saved a t) out
 
 -- ---- data: the slot is copied, unchanged, into the first free slot of the connection's store
 
@@ -60,7 +60,7 @@ abbrev pub storedSlot : Record → ℕ → ℕ → Octets → Octets
 storedSlot t slot c a = splice a (freeAt (storeAt (placeOf c)) storeSlots (controllerSide t c .store)) (cut slot slotSize a)
 
 abbrev pub dataStored : Record → ℕ → ℕ → Octets → Octets → Outcome
-dataStored t slot c a out = outcome (wordOf false false 0 0 0) (stored (storedSlot t slot c a) (storedRecord t c)) out
+dataStored t slot c a out = outcome (wordOf false false 0 0 0) (saved (storedSlot t slot c a) (storedRecord t c)) out
 
 -- dropped if the connection isn't open
 unfoldable pub dataDown : Record → ℕ → ℕ → Octets → Octets → Outcome
@@ -83,7 +83,7 @@ askedArea t slot h n a = joinedArea (t .ends .asking) slot h n a
 -- it ends no command, or one past its limit, which is not answered
 abbrev pub onlyJoined : Record → ℕ → Header → ℕ → Octets → Octets → Outcome
 onlyJoined t slot h n a out =
-    outcome (wordOf (askedRun t h n .dropped) false 0 0 0) (stored (askedArea t slot h n a) (askedRecord t h n)) out
+    outcome (wordOf (askedRun t h n .dropped) false 0 0 0) (saved (askedArea t slot h n a) (askedRecord t h n)) out
 
 -- ---- messages as packets
 
@@ -117,7 +117,7 @@ answeredArea t h v a = putsAll upAt a (t .up) (answersTo t h v)
 
 abbrev pub answeredBy : Record → Header → Verdict → Octets → Octets → Outcome
 answeredBy t h v a out =
-    outcome (wordOf false false 0 0 (length (answersTo t h v))) (stored (answeredArea t h v a) (answeredRecord t h v)) out
+    outcome (wordOf false false 0 0 (length (answersTo t h v))) (saved (answeredArea t h v a) (answeredRecord t h v)) out
 
 abbrev pub answered : Record → Header → Octets → Octets → Octets → Outcome
 answered t h m a out = answeredBy t h (verdictOf (t .ends) (h .id) (h .oid) m) a out

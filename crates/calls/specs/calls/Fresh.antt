@@ -10,7 +10,7 @@ use Rattle.octets.specs.Octets.{Octets, splice}
 use Rattle.state.specs.Profile.{profileIn}
 use Rattle.area.specs.Map.{areaSize, messageSize}
 use Rattle.area.specs.Movers.{zeros}
-use Rattle.record.specs.Claims.{stored}
+use Rattle.record.specs.Claims.{saved}
 use Rattle.record.specs.Plan.{coldRecord}
 use Rattle.views.specs.View.{viewOf}
 use Rattle.model.specs.Effects.{fresh}
@@ -28,7 +28,7 @@ abbrev pub roomRules : ℕ → ℕ → List Rule
 roomRules n room = rule 2 (ltb n areaSize) ∷ rule 2 (ltb room messageSize) ∷ []
 
 abbrev pub freshed : Octets → Octets → Octets → Outcome
-freshed m a out = outcome quietWord (stored (splice a 0 (zeros areaSize)) (coldRecord (profileIn m))) out
+freshed m a out = outcome quietWord (saved (splice a 0 (zeros areaSize)) (coldRecord (profileIn m))) out
 
 unfoldable pub freshCall : Octets → Octets → Octets → Outcome
 freshCall a out m = decided (first (roomRules (length a) (length out) ++ rules (fresh m) (viewOf a))) (freshed m a out) a out

@@ -3,7 +3,7 @@
 use Rattle.octets.specs.Octets.{Octets}
 use Rattle.calls.specs.Kinds.{Record}
 use Rattle.record.specs.Reading.{decodeOf}
-use Rattle.record.specs.Claims.{stored}
+use Rattle.record.specs.Claims.{saved}
 use Rattle.record.specs.Plan.{coldRecord}
 use Rattle.views.specs.View.{viewOf}
 use Rattle.model.specs.Effects.{power}
@@ -12,7 +12,7 @@ use Rattle.calls.specs.Outcome.{Outcome, outcome, called}
 use Rattle.calls.specs.calls.Fresh.{quietWord}
 
 abbrev pub powered : Record → Octets → Octets → Outcome
-powered r a out = outcome quietWord (stored a (coldRecord (r .ends .profile))) out
+powered r a out = outcome quietWord (saved a (coldRecord (r .ends .profile))) out
 
 unfoldable pub powerCall : Octets → Octets → Outcome
 powerCall a out = called (rules power (viewOf a)) (powered (decodeOf a) a out) a out

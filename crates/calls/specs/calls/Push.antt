@@ -12,7 +12,7 @@ use Rattle.state.specs.Conn.{placeOf, countsOf, flows, handAfter}
 use Rattle.area.specs.Map.{wireSlots, places, downAt, handAt}
 use Rattle.area.specs.Ring.{freeAt, putInto}
 use Rattle.record.specs.Reading.{decodeOf}
-use Rattle.record.specs.Claims.{stored}
+use Rattle.record.specs.Claims.{saved}
 use Rattle.record.specs.Fit.{FitRing, FitHand}
 use Rattle.record.specs.Plan.{withDown, withConns}
 use Rattle.views.specs.View.{viewOf}
@@ -57,7 +57,7 @@ abbrev pub pushedWord : ℕ
 pushedWord = wordOf false false 0 1 0
 
 abbrev pub pushed : Record → ℕ → Octets → Octets → Outcome
-pushed r c a out = outcome pushedWord (stored (pushedSlot r c a) (pushedRecord r c)) out
+pushed r c a out = outcome pushedWord (saved (pushedSlot r c a) (pushedRecord r c)) out
 
 unfoldable pub pushCall : Octets → Octets → ℕ → Outcome
 pushCall a out c = called (pushRules c (viewOf a)) (pushed (decodeOf a) c a out) a out

@@ -12,7 +12,7 @@ use Rattle.state.specs.Conn.{handAfter, carriedBy, paidSide}
 use Rattle.area.specs.Map.{payloadSize, wireSlots, upAt, endpointAt}
 use Rattle.area.specs.Ring.{freeAt, putInto}
 use Rattle.record.specs.Reading.{decodeOf}
-use Rattle.record.specs.Claims.{stored}
+use Rattle.record.specs.Claims.{saved}
 use Rattle.record.specs.Fit.{FitRing, FitHand}
 use Rattle.record.specs.Plan.{withUp, withConns, withEndpoint}
 use Rattle.views.specs.View.{viewOf}
@@ -51,7 +51,7 @@ abbrev pub repliedWord : ℕ
 repliedWord = wordOf false false 0 0 1
 
 abbrev pub replied : Record → Octets → Octets → Outcome
-replied r a out = outcome repliedWord (stored (repliedSlot r a) (repliedRecord r)) out
+replied r a out = outcome repliedWord (saved (repliedSlot r a) (repliedRecord r)) out
 
 unfoldable pub replyCall : Octets → Octets → Outcome
 replyCall a out = called (replyRules (viewOf a)) (replied (decodeOf a) a out) a out

@@ -9,7 +9,7 @@ use Rattle.state.specs.Conn as conn
 use Rattle.state.specs.Conn.{placeOf, handWith}
 use Rattle.area.specs.Map.{messageSize, places, handAt}
 use Rattle.record.specs.Reading.{decodeOf}
-use Rattle.record.specs.Claims.{stored}
+use Rattle.record.specs.Claims.{saved}
 use Rattle.record.specs.Plan.{withConns, withHand}
 use Rattle.views.specs.View.{viewOf}
 use Rattle.model.specs.calls.Send.{sendRules}
@@ -33,7 +33,7 @@ abbrev pub sentWord : ℕ
 sentWord = wordOf false false 0 0 0
 
 abbrev pub sent : Record → ℕ → Octets → Octets → Octets → Outcome
-sent r c m a out = outcome sentWord (stored (sentPlace c m a) (sentRecord r c m)) out
+sent r c m a out = outcome sentWord (saved (sentPlace c m a) (sentRecord r c m)) out
 
 unfoldable pub sendCall : Octets → Octets → ℕ → Octets → Outcome
 sendCall a out c m = called (sendRules c m (viewOf a)) (sent (decodeOf a) c m a out) a out

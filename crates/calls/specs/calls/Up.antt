@@ -21,7 +21,7 @@ use Rattle.area.specs.Map.{slotSize, wireSlots, messageSize, controlSize, place
 use Rattle.area.specs.Ring.{firstAt, tookFrom}
 use Rattle.area.specs.Runs.{runArea}
 use Rattle.record.specs.Reading.{decodeOf}
-use Rattle.record.specs.Claims.{stored}
+use Rattle.record.specs.Claims.{saved}
 use Rattle.record.specs.Fit.{FitRing}
 use Rattle.record.specs.Plan.{withConns, withHearing, withHostRun}
 use Rattle.views.specs.View.{viewOf}
@@ -48,7 +48,7 @@ upRecord r e = record { ends = e; down = r .down; up = tookFrom wireSlots (r .up
 
 -- dropped: nothing else changes
 abbrev pub droppedUp : Record → Octets → Octets → Outcome
-droppedUp r a out = outcome (wordOf true false 0 0 0) (stored a (upRecord r (r .ends))) out
+droppedUp r a out = outcome (wordOf true false 0 0 0) (saved a (upRecord r (r .ends))) out
 
 -- ---- data: its credits are held, the segment joins the connection's run, and a message that it finishes is handed out
 
@@ -82,7 +82,7 @@ receivedOut r h n a out = pick (receivedJoin r h n .done) (splice out 0 (receive
 
 abbrev pub received : Record → Header → ℕ → Octets → Octets → Outcome
 received r h n a out =
-    outcome (receivedWord r h n) (stored (receivedArea r h n a) (upRecord r (receivedEnds r h n))) (receivedOut r h n a out)
+    outcome (receivedWord r h n) (saved (receivedArea r h n a) (upRecord r (receivedEnds r h n))) (receivedOut r h n a out)
 
 -- data for a connection not open at the host is dropped, its credits with it
 unfoldable pub receivedUp : Record → Header → ℕ → Octets → Octets → Outcome
@@ -116,7 +116,7 @@ abbrev pub heardWord : Record → Header → ℕ → Octets → ℕ
 heardWord r h n a = wordOf (heardDrop r h n a) false 0 0 0
 
 abbrev pub heardUp : Record → Header → ℕ → Octets → Octets → Outcome
-heardUp r h n a out = outcome (heardWord r h n a) (stored (heardArea r h n a) (upRecord r (heardEnds r h n a))) out
+heardUp r h n a out = outcome (heardWord r h n a) (saved (heardArea r h n a) (upRecord r (heardEnds r h n a))) out
 
 -- ---- by what the reader found; a command at the host is dropped
 

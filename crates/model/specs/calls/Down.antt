@@ -70,9 +70,9 @@ arriving (datum c n x) p s = storing c p s
 arriving (control mt gid oid x) p s = pick (eqb mt mtCommand) (asked gid oid x s) (flaggedAs true s)
 arriving junk p s = flaggedAs true s
 
-abbrev pub taking : List Octets → State → Effect
-taking [] s = quiet s
-taking (p ∷ w) s = arriving (meaning p) p (withDown w s)
+abbrev pub takingDown : List Octets → State → Effect
+takingDown [] s = quiet s
+takingDown (p ∷ w) s = arriving (meaning p) p (withDown w s)
 
 -- ---- refusals
 

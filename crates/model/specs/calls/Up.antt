@@ -58,9 +58,9 @@ coming (datum c n x) s = receiving c n x s
 coming (control mt gid oid x) s = pick (eqb mt mtCommand) (flaggedAs true s) (heard mt gid oid x s)
 coming junk s = flaggedAs true s
 
-abbrev pub reading : List Octets → State → Effect
-reading [] s = quiet s
-reading (p ∷ w) s = coming (meaning p) (withUp w s)
+abbrev pub takingUp : List Octets → State → Effect
+takingUp [] s = quiet s
+takingUp (p ∷ w) s = coming (meaning p) (withUp w s)
 
 -- ---- refusals
 

@@ -17,14 +17,14 @@ enum-told-3 c = search needs
 terms-of-requires : tie.Need-terms-of-requires
 terms-of-requires c κs = search needs
 
-opened-at-requires : tie.Need-opened-at-requires
-opened-at-requires c κs = search needs
+controller-opened-at-requires : tie.Need-controller-opened-at-requires
+controller-opened-at-requires c κs = search needs
 
 enum-told-4 : tie.Need-enum-told-4
 enum-told-4 c = search needs
 
-shut-at-requires : tie.Need-shut-at-requires
-shut-at-requires c κs = search needs
+controller-closed-at-requires : tie.Need-controller-closed-at-requires
+controller-closed-at-requires c κs = search needs
 
 enum-told-5 : tie.Need-enum-told-5
 enum-told-5 c = search needs
@@ -39,11 +39,11 @@ returns-2 c = rw (c .enum-told2 .given .1)
 
 returns-3 : tie.Need-returns-3
 unfolding connsAired
-returns-3 c = rw (c .before .before .enum-told3 .given .1, c .opened-at .ensures, c .before .terms-of .ensures)
+returns-3 c = rw (c .before .before .enum-told3 .given .1, c .controller-opened-at .ensures, c .before .terms-of .ensures)
 
 returns-4 : tie.Need-returns-4
 unfolding connsAired
-returns-4 c = rw (c .before .enum-told4 .given .1) (c .shut-at .ensures)
+returns-4 c = rw (c .before .enum-told4 .given .1) (c .controller-closed-at .ensures)
 
 returns-5 : tie.Need-returns-5
 unfolding connsAired
@@ -57,9 +57,9 @@ conns-aired-spec =
     enum-told-2
     enum-told-3
     terms-of-requires
-    opened-at-requires
+    controller-opened-at-requires
     enum-told-4
-    shut-at-requires
+    controller-closed-at-requires
     enum-told-5
     returns
     returns-2

@@ -2,7 +2,7 @@
 -- Assumes nothing.
 use native.Mathlib.Omega.{arith}
 use denote.Ref.{now}
-use Rattle.calls.proofs.Entering.{enters-not, enters-short, enters-whole}
+use Rattle.calls.proofs.Enter.{enters-not, enters-short, enters-whole}
 use borrow.Author.Needs.{needs}
 use Rattle.bench.proofs.entry.enter.Statement.{statement}
 use Rattle.bench.proofs.entry.enter.Tie as tie

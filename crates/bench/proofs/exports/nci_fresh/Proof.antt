@@ -3,7 +3,7 @@
 use mathlib.Core.Path.{sym, _∙_}
 use denote.Ref.{now}
 use Rattle.calls.specs.Outcome.{outcome}
-use Rattle.calls.proofs.Starting.{fresh-refused, fresh-long, fresh-taken}
+use Rattle.calls.proofs.FreshPower.{fresh-refused, fresh-long, fresh-taken}
 use borrow.Author.Needs.{needs}
 use Rattle.bench.proofs.exports.nci_fresh.Statement.{statement}
 use Rattle.bench.proofs.exports.nci_fresh.Tie as tie

@@ -1,7 +1,7 @@
 -- `bench::exports::nci_packet` meets its contract: not entered, refused, or taken.
 -- Assumes nothing.
 use Rattle.calls.specs.Packet.{packetBack, packetRules, shownPacket, packetCall}
-use Rattle.calls.proofs.Showing.{packet-able}
+use Rattle.calls.proofs.Packet.{packet-able}
 use mathlib.Core.Path.{subst}
 use Rattle.record.specs.Fit.{Fit}
 use mathlib.Core.Path.{refl, sym, _∙_}

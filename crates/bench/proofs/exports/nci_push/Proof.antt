@@ -2,7 +2,7 @@
 -- Assumes nothing.
 use Rattle.model.specs.calls.Push.{pushRules}
 use Rattle.calls.specs.calls.Push.{pushed, pushCall}
-use Rattle.calls.proofs.Pushing.{push-able}
+use Rattle.calls.proofs.Push.{push-able}
 use mathlib.Core.Path.{subst}
 use Rattle.record.specs.Fit.{Fit}
 use mathlib.Core.Path.{refl, sym, _∙_}

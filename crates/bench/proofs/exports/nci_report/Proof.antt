@@ -2,7 +2,7 @@
 -- Assumes nothing.
 use Rattle.model.specs.calls.Report.{reportRules}
 use Rattle.calls.specs.calls.Report.{reported, reportCall}
-use Rattle.calls.proofs.Reporting.{report-able}
+use Rattle.calls.proofs.Report.{report-able}
 use mathlib.Core.Path.{subst}
 use Rattle.record.specs.Fit.{Fit}
 use mathlib.Core.Path.{refl, sym, _∙_}

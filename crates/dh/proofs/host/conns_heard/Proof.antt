@@ -20,14 +20,14 @@ conns-answered-requires c κs = search needs
 enum-known-x-2 : tie.Need-enum-known-x-2
 enum-known-x-2 c = search needs
 
-joined-at-requires : tie.Need-joined-at-requires
-joined-at-requires c κs = search needs
+host-opened-at-requires : tie.Need-host-opened-at-requires
+host-opened-at-requires c κs = search needs
 
 enum-told-3 : tie.Need-enum-told-3
 enum-told-3 c = search needs
 
-left-at-requires : tie.Need-left-at-requires
-left-at-requires c κs = search needs
+host-closed-at-requires : tie.Need-host-closed-at-requires
+host-closed-at-requires c κs = search needs
 
 enum-told-4 : tie.Need-enum-told-4
 enum-told-4 c = search needs
@@ -49,11 +49,11 @@ returns-3 c = rw (c .before .before .x .given .1) (c .conns-answered .ensures)
 
 returns-4 : tie.Need-returns-4
 unfolding connsHeard
-returns-4 c = rw (c .before .before .x2 .given .1) (c .joined-at .ensures)
+returns-4 c = rw (c .before .before .x2 .given .1) (c .host-opened-at .ensures)
 
 returns-5 : tie.Need-returns-5
 unfolding connsHeard
-returns-5 c = rw (c .before .enum-told3 .given .1) (c .left-at .ensures)
+returns-5 c = rw (c .before .enum-told3 .given .1) (c .host-closed-at .ensures)
 
 returns-6 : tie.Need-returns-6
 unfolding connsHeard
@@ -68,9 +68,9 @@ conns-heard-spec =
     enum-known-x
     conns-answered-requires
     enum-known-x-2
-    joined-at-requires
+    host-opened-at-requires
     enum-told-3
-    left-at-requires
+    host-closed-at-requires
     enum-told-4
     all-credited-requires
     returns

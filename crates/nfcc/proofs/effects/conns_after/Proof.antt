@@ -11,8 +11,8 @@ enum-told c = search needs
 enum-told-2 : tie.Need-enum-told-2
 enum-told-2 c = search needs
 
-all-shut-requires : tie.Need-all-shut-requires
-all-shut-requires c κs = search needs
+controller-all-closed-requires : tie.Need-controller-all-closed-requires
+controller-all-closed-requires c κs = search needs
 
 enum-told-3 : tie.Need-enum-told-3
 enum-told-3 c = search needs
@@ -20,14 +20,14 @@ enum-told-3 c = search needs
 enum-known-v : tie.Need-enum-known-v
 enum-known-v c = search needs
 
-opened-at-requires : tie.Need-opened-at-requires
-opened-at-requires c κs = search needs
+controller-opened-at-requires : tie.Need-controller-opened-at-requires
+controller-opened-at-requires c κs = search needs
 
 enum-known-v-2 : tie.Need-enum-known-v-2
 enum-known-v-2 c = search needs
 
-shut-at-requires : tie.Need-shut-at-requires
-shut-at-requires c κs = search needs
+controller-closed-at-requires : tie.Need-controller-closed-at-requires
+controller-closed-at-requires c κs = search needs
 
 enum-told-4 : tie.Need-enum-told-4
 enum-told-4 c = search needs
@@ -38,8 +38,8 @@ enum-told-5 c = search needs
 enum-told-6 : tie.Need-enum-told-6
 enum-told-6 c = search needs
 
-shut-at-requires-2 : tie.Need-shut-at-requires-2
-shut-at-requires-2 c κs = search needs
+controller-closed-at-requires-2 : tie.Need-controller-closed-at-requires-2
+controller-closed-at-requires-2 c κs = search needs
 
 returns : tie.Need-returns
 unfolding connsAfter
@@ -47,7 +47,7 @@ returns c = rw (c .enum-told .given .1)
 
 returns-2 : tie.Need-returns-2
 unfolding connsAfter
-returns-2 c = rw (c .all-shut .ensures, c .before .enum-told2 .given .1)
+returns-2 c = rw (c .controller-all-closed .ensures, c .before .enum-told2 .given .1)
 
 returns-3 : tie.Need-returns-3
 unfolding connsAfter
@@ -55,11 +55,11 @@ returns-3 c = rw (c .enum-told3 .given .1)
 
 returns-4 : tie.Need-returns-4
 unfolding connsAfter
-returns-4 c = rw (c .opened-at .ensures, c .before .before .v .given .1)
+returns-4 c = rw (c .controller-opened-at .ensures, c .before .before .v .given .1)
 
 returns-5 : tie.Need-returns-5
 unfolding connsAfter
-returns-5 c = rw (c .shut-at .ensures, c .before .before .v2 .given .1)
+returns-5 c = rw (c .controller-closed-at .ensures, c .before .before .v2 .given .1)
 
 returns-6 : tie.Need-returns-6
 unfolding connsAfter
@@ -71,7 +71,7 @@ returns-7 c = rw (c .enum-told5 .given .1)
 
 returns-8 : tie.Need-returns-8
 unfolding connsAfter
-returns-8 c = rw (c .shut-at2 .ensures, c .before .enum-told6 .given .1)
+returns-8 c = rw (c .controller-closed-at2 .ensures, c .before .enum-told6 .given .1)
 
 pub conns-after-spec : {M : Type 1} → statement M
 conns-after-spec =
@@ -79,16 +79,16 @@ conns-after-spec =
     (tie.spec
     enum-told
     enum-told-2
-    all-shut-requires
+    controller-all-closed-requires
     enum-told-3
     enum-known-v
-    opened-at-requires
+    controller-opened-at-requires
     enum-known-v-2
-    shut-at-requires
+    controller-closed-at-requires
     enum-told-4
     enum-told-5
     enum-told-6
-    shut-at-requires-2
+    controller-closed-at-requires-2
     returns
     returns-2
     returns-3

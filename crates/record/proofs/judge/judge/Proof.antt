@@ -1,7 +1,7 @@
 -- `record::judge::judge` meets its contract.
 -- Assumes nothing.
 use Rattle.record.specs.Judge.{judgeOf}
-use Rattle.record.specs.Layout.{slot}
+use Rattle.record.specs.Layout.{recordOctets}
 use Rattle.octets.specs.Octets.{cut}
 use borrow.Author.Needs.{needs}
 use Rattle.record.proofs.judge.judge.Statement.{statement}
@@ -23,7 +23,7 @@ record-ok-requires : tie.Need-record-ok-requires
 record-ok-requires c κs = search needs
 
 returns : tie.Need-returns
-unfolding judgeOf slot cut
+unfolding judgeOf recordOctets cut
 returns c = rw (c .record-ok .ensures, c .before .tags-ok .ensures, c .before .before .before .before .pre .1)
 
 pub judge-spec : {M : Type 1} → statement M

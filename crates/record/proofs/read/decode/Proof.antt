@@ -1,7 +1,7 @@
 -- `record::read::decode` meets its contract.
 -- Assumes nothing.
 use Rattle.record.specs.Reading.{decodeOf}
-use Rattle.record.specs.Layout.{slot}
+use Rattle.record.specs.Layout.{recordOctets}
 use Rattle.octets.specs.Octets.{cut}
 use borrow.Author.Needs.{needs}
 use Rattle.record.proofs.read.decode.Statement.{statement}
@@ -20,7 +20,7 @@ record-of-requires : tie.Need-record-of-requires
 record-of-requires c κs = search needs
 
 returns : tie.Need-returns
-unfolding decodeOf slot cut
+unfolding decodeOf recordOctets cut
 returns c = c .record-of .ensures
 
 pub decode-spec : {M : Type 1} → statement M

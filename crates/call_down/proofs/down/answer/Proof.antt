@@ -1,0 +1,91 @@
+-- `call_down::down::answer` meets its contract: the command is answered from a local array, the answer goes up and the record is written.
+-- Assumes nothing.
+use Rattle.calls.specs.calls.Down.{commandIn}
+use Rattle.calls.proofs.DownAnswer.{notes-few, answers-short, answer-made}
+use Rattle.area.proofs.Puts.{length-puts}
+use Rattle.area.specs.Map.{askingAt}
+use Rattle.octets.proofs.Octets.{length-splice, length-cut, cut-copied}
+use lib.ListN.{length}
+use Prim.Native.Nat.{ℕ, _≤_}
+use denote.Ref.{now}
+use native.Mathlib.Omega.{arith}
+use mathlib.Core.Path.{refl, sym, ap, subst}
+use borrow.Author.Needs.{needs}
+use Rattle.call_down.proofs.down.answer.Statement.{statement}
+use Rattle.call_down.proofs.down.answer.Tie as tie
+
+slice-aggregate-hand-out : tie.Need-slice-aggregate-hand-out
+slice-aggregate-hand-out c = search needs
+
+hand-out-requires : tie.Need-hand-out-requires
+hand-out-requires c κs = search needs
+
+sub-answer : tie.Need-sub-answer
+sub-answer c = search needs
+
+part-answer-start : tie.Need-part-answer-start
+part-answer-start c = search needs
+
+part-answer-end : tie.Need-part-answer-end
+part-answer-end c = search needs
+
+answer-requires : tie.Need-answer-requires
+answer-requires c κs = search needs
+
+slice-aggregate-put-answers : tie.Need-slice-aggregate-put-answers
+slice-aggregate-put-answers c = omega (arith, simp length-splice at (ap length (c .before .before .before .before .before .before .answer .ensures .response .octets)))
+
+slice-aggregate-put-answers-2 : tie.Need-slice-aggregate-put-answers-2
+slice-aggregate-put-answers-2 c = omega (arith, simp length-splice at (ap length (c .before .before .before .before .before .before .before .answer .ensures .notice .octets)))
+
+put-answers-requires : tie.Need-put-answers-requires
+put-answers-requires c κs =
+    let s = c .before .before .before .before .before .before .before .before .before .before .before .before .before .before .before .before .before .before .before .before in
+    let short = answers-short _ _ _ _ _ _ _ _ _ (c .before .before .before .before .before .before .before .answer .ensures) in
+    (s .pre .0, s .pre .2, s .pre .3, short .0, short .1)
+
+add-t25 : tie.Need-add-t25
+add-t25 c =
+    let few = subst (λ (k : ℕ). k ≤ 2) (sym (c .before .before .before .put-answers .ensures .0)) (notes-few _ _ _ _) in
+    omega (arith, c .before .before .before .before .before .before .before .before .before .before .before .before .before .before .before .before .before .before .before .before .before .before .before .before .pre .3, few)
+
+encode-requires : tie.Need-encode-requires
+encode-requires c κs = omega (arith, c .before .before .before .before .before .before .before .before .before .before .before .before .before .before .before .before .before .before .before .before .before .before .before .before .before .pre .0, simp length-puts at (ap length (c .before .before .before .before .put-answers .ensures .1)))
+
+mul-result : tie.Need-mul-result
+mul-result c =
+    let few = subst (λ (k : ℕ). k ≤ 2) (sym (c .before .before .before .before .before .before .before .put-answers .ensures .0)) (notes-few _ _ _ _) in
+    omega arith
+
+same-length : tie.Need-same-length
+same-length c = search needs
+
+returns : tie.Need-returns
+returns c =
+    let s = c .before .before .before .before .before .before .before .before .before .before .before .before .before .before .before .before .before .before .before .before .before .before .before .before .before .before .before .before in
+    let t = s .args .t in
+    let h = s .args .h in
+    let a = now (s .args .area) in
+    let len = s .args .len in
+    let put = c .before .before .before .before .before .before .before .put-answers .ensures in
+    let text = cut-copied _ _ (commandIn len a) len (length-cut askingAt len a (omega (arith, s .pre .0, s .pre .1))) (omega (arith, s .pre .1)) (c .before .before .before .before .before .before .before .before .before .before .before .before .before .before .before .before .before .before .before .before .before .hand-out .ensures) in
+    answer-made t h (commandIn len a) _ a _ _ _ _ _ _ _ _ text (c .before .before .before .before .before .before .before .before .before .before .before .before .before .before .before .answer .ensures) refl refl (put .0) (put .1) (c .before .before .encode .ensures)
+
+pub answer-spec : {M : Type 1} → statement M
+answer-spec =
+    tie.close
+    (tie.spec
+    slice-aggregate-hand-out
+    hand-out-requires
+    sub-answer
+    part-answer-start
+    part-answer-end
+    answer-requires
+    slice-aggregate-put-answers
+    slice-aggregate-put-answers-2
+    put-answers-requires
+    add-t25
+    encode-requires
+    mul-result
+    same-length
+    returns)
