@@ -31,7 +31,7 @@ use Rattle.model.proofs.Never.{answer-first, kept-within}
 use Rattle.calls.specs.Word.{answerIn, downIn, upIn}
 use Rattle.calls.specs.Outcome.{Outcome, outcome, decided, entryRules, lowest}
 use Rattle.calls.specs.Seen.{Puts, noPuts, putsAfter, seenBy}
-use Rattle.calls.specs.Refines.{Good, Along, Refines}
+use Rattle.calls.specs.Refines.{Good, Along, Refines, AllRefine}
 use Rattle.calls.specs.calls.Fresh.{roomRules, freshed, freshCall}
 use Rattle.calls.specs.calls.Power.{powerCall}
 use Rattle.calls.specs.calls.Command.{commandCall}
@@ -60,7 +60,7 @@ use Rattle.calls.proofs.Report.{report-refines}
 
 -- ---- every call is the model's step
 
-pub all-refine : (c : Call) (q : Puts) (a out : Octets) → Octal (slice c) → Good a → messageSize ≤ length out → Along q a → Refines c q a (perform c a out)
+pub all-refine : AllRefine
 all-refine (fresh m) q a out v g room al = fresh-refines m q a out g room al
 all-refine power q a out v g room al = power-refines a out g q room al
 all-refine (command gid oid m) q a out v g room al = command-refines gid oid m q a out v g room al
