@@ -219,10 +219,9 @@ module _ (c : ℕ) (a : Octets) (p : Puts) (o : Account) (s : Stands a p o) wher
     unfolding step
     same-numbers = ap front (sym (ap (λ (r : Result). judged r (report c) (viewOf a) .effect .message) none-applies) ∙ claimed .numbers h)
 
-    reports : (out : Octets) → messageSize ≤ length out → splice out 0 (reportOf c (viewOf a)) ≡ reportCall a out c .out
+    reports : (out : Octets) → messageSize ≤ length out → reported (decodeOf a) c a out ≡ reportCall a out c
     unfolding reportCall
     reports out room =
-        ap (λ (x : Outcome). x .out)
         (called-own (reportRules c (viewOf a)) (reported (decodeOf a) c a out) a out taken (enters a (length out) (s .good .long) (s .good .judged) room) none-applies)
 
   octet-claim : OctetClaim c a o
@@ -230,9 +229,11 @@ module _ (c : ℕ) (a : Octets) (p : Puts) (o : Account) (s : Stands a p o) wher
   octet-claim =
       record {
         taken-if-open = λ out room. (λ h. claimed .taken-if-open .0 (sym (same-answer out room) ∙ h), λ h. same-answer out room ∙ claimed .taken-if-open .1 h);
+        word = λ out room h. ap (λ (x : Outcome). x .word) (sym (reports h out room));
+        still = λ out room h. ap (λ (x : Outcome). x .area) (sym (reports h out room));
         numbers =
-            λ out room h. ap (take 5) (sym (reports h out room)) ∙ cut-same out 0 (reportOf c (viewOf a)) (omega (arith, room)) ∙ same-numbers h;
-        rest = λ out room h. ap (drop 5) (sym (reports h out room)) ∙ drop-splice out 0 (reportOf c (viewOf a)) 5 (omega arith);
+            λ out room h. ap (λ (x : Outcome). take 5 (x .out)) (sym (reports h out room)) ∙ cut-same out 0 (reportOf c (viewOf a)) (omega (arith, room)) ∙ same-numbers h;
+        rest = λ out room h. ap (λ (x : Outcome). drop 5 (x .out)) (sym (reports h out room)) ∙ drop-splice out 0 (reportOf c (viewOf a)) 5 (omega arith);
         account = claimed .account;
       }
 
