@@ -7,6 +7,7 @@ import re
 import sys
 from collections import namedtuple
 
+from definitions import definition, split
 from programs import ROOT, Suite
 
 TABLE = ROOT / "tests" / "data" / "refusals.txt"
@@ -59,26 +60,6 @@ def once(numbers):
 
 MODEL_CALLS = "crates/model/specs/calls"
 OCTET_CALLS = "crates/calls/specs/calls"
-
-
-def definition(text, name):
-    """What stands behind the equals sign, up to a blank line."""
-    found = re.search(rf"^{re.escape(name)} [^=\n]*=\s(.*?)(?:\n\n|\Z)", text, re.M | re.S)
-    if not found:
-        raise LookupError(f"{name} is not defined")
-    return found[1]
-
-
-def split(text, sign):
-    """The parts of a text between signs that stand outside parentheses."""
-    parts, depth = [""], 0
-    for word in re.split(rf"([()]|{re.escape(sign)})", text):
-        depth += (word == "(") - (word == ")")
-        if word == sign and depth == 0:
-            parts.append("")
-        else:
-            parts[-1] += word
-    return [part.strip() for part in parts]
 
 
 def kinds_of(test):
