@@ -1,6 +1,6 @@
 #!/usr/bin/env python3
 """docs/AREA.md, the map of the area and of the record in absolute octets: every number in its tables is computed here from
-the definitions (area_map.py), and the code has the same numbers.
+the definitions (area_map.py), and the code and the header have the same numbers.
 
     area.py             compares the page, the definitions and the code
     area.py --write     writes the numbers of today into the page's tables
@@ -11,17 +11,22 @@ import re
 import sys
 
 from area_map import (
-    CODE_MAP, CODE_PLACES, CODE_RUNS, FILES, JUDGE, LAYOUT, MAP, PARTS, PROFILE, RUNS, SIZES, WRITING, Area, code_problems,
-    distances_differ, sums_differ,
+    CODE_MAP, CODE_PLACES, CODE_RUNS, CONN, FILES, JUDGE, LAYOUT, MAP, PARTS, PLACES, PROFILE, RUNS, SIZES, WRITING, Area,
+    code_problems, distances_differ, sums_differ,
 )
-from definitions import value
+from definitions import definition, split, value
 from programs import ROOT, Suite
 
 PAGE = "docs/AREA.md"
 HEADER = "include/nci_bench.h"
 
-# connections by place
-CONNS = (0, 2, 3, 4, 5)
+# sizes that the header has too
+HEADER_SIZES = {
+    "NCI_AREA_SIZE": "areaSize", "NCI_BUFFER_SIZE": "messageSize", "NCI_MESSAGE_MAX": "messageSize",
+    "NCI_COMMAND_MAX": "controlSize", "NCI_PACKET_MAX": "slotSize", "NCI_LONG_PROFILE_SIZE": "profileSize",
+    "NCI_WIRE_SLOTS": "wireSlots", "NCI_STORE_SLOTS": "storeSlots",
+}
+
 # parts of the record that have a table of their own
 APART = ("host.pending", "controller.rf", "controller.pairs.list", "conns")
 # most of an octet
@@ -30,6 +35,9 @@ OCTET = 255
 RING = "ringOk slots k = leb (k .count) slots && ltb (k .head) slots"
 HAND = "handOk h = leb (h .len) messageSize && leb (h .at) (h .len)"
 FLAG = "flagOk s at = leb (getD s at 0) 1"
+
+# the tests of the record's numbers
+JUDGED = ("recordOk", "endsOk", "handOk", "hostSideOk", "controllerSideOk")
 
 # of fields, by the end of their names: the numbers that their values are told with, and the definition that they are from.
 # A field that is not here is not judged, or has its cases in a table
@@ -103,7 +111,7 @@ def record_rows(area):
 def conn_rows(area):
     for field, length in area.fields("conns.0.").items():
         own = field.removeprefix("conns.0.")
-        octets = [both(area.at(f"conns.{place}.{own}")) for place in range(len(CONNS))]
+        octets = [both(area.at(f"conns.{place}.{own}")) for place in range(len(area.conns))]
         yield [f"`{own}`", str(length), *octets, None, values_of(area, own)]
 
 
@@ -121,7 +129,7 @@ def case_rows(area, case, field):
 
 def tables(area):
     """Of each table its rows, the heading among them, by the title over it."""
-    names, conns, places = area.names, [f"connection {conn}" for conn in CONNS], range(area.names["places"])
+    names, conns, places = area.names, area.conns, range(area.names["places"])
     by_place = [names[name] for name in PARTS.values() if name]
     stores = [names["storeAt"](place) for place in places]
     return {
@@ -206,11 +214,24 @@ def layout_differs(texts, area):
         yield "two layouts have one checksum"
 
 
+def sizes_differ(header, area):
+    """Sizes of the header that are not as they are defined."""
+    found = dict(re.findall(r"^#define (NCI_\w+) (\d+)u", header, re.M))
+    for name, size in HEADER_SIZES.items():
+        if found.get(name) != str(area.names[size]):
+            yield f"{name} is {found.get(name)}, {size} is {area.names[size]}"
+
+
 def unsaid(texts):
-    """Definitions that values are from, and that say something else now."""
+    """Definitions that values are from and that say something else, and tests of the record that no value is from."""
     for name, (_, path, words) in VALUES.items():
         if words not in re.sub(r"\s+", " ", texts[path]):
             yield f"{name}: {path} does not say {words}"
+    known = {part for _, _, words in VALUES.values() for part in split(words.split(" = ")[-1], "&&")}
+    for name in JUDGED:
+        for part in split(definition(texts[JUDGE], name), "&&"):
+            if part not in known and part.split()[0] not in (*JUDGED, "profileOk", "givenOk", "connsOk"):
+                yield f"{name} tests {part}, and the page has no values from it"
 
 
 # ---- all of it
@@ -230,6 +251,7 @@ def compared(texts, area):
         LAYOUT: list(sums_differ(area, texts[LAYOUT])),
         WRITING: list(distances_differ(area)),
         **code_problems(area, texts),
+        HEADER: list(sizes_differ(texts[HEADER], area)),
         "where values are from": list(unsaid(texts)),
         **page_problems(texts[PAGE], tables(area)),
         "the layout's number": list(layout_differs(texts, area)),
@@ -241,9 +263,10 @@ def compared(texts, area):
 # of each file, the lines whose numbers count
 COUNTED = {
     PAGE: r"^\|.*|^- layout .*",
-    HEADER: r"^#define NCI_LAYOUT \d+",
+    HEADER: rf"^#define (?:NCI_LAYOUT|{'|'.join(HEADER_SIZES)}) \d+",
     RUNS: r"^\w+Limit = .*",
     PROFILE: r"^(?:leastSize|payloadOk|creditsOk|controlOk) .*",
+    CONN: PLACES,
     MAP: r"^(?!--).*[=≡].*",
     LAYOUT: r"^(?!--).*[=≡].*",
     WRITING: r"^(?!--|use|noPair).*",

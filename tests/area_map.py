@@ -6,11 +6,11 @@ from collections import namedtuple
 
 from definitions import coded, defined, split, value
 
-RUNS, PROFILE = "crates/state/specs/Runs.antt", "crates/state/specs/Profile.antt"
+RUNS, PROFILE, CONN = (f"crates/state/specs/{name}.antt" for name in ("Runs", "Profile", "Conn"))
 MAP, LAYOUT = "crates/area/specs/Map.antt", "crates/record/specs/Layout.antt"
 WRITING, JUDGE = "crates/record/specs/Writing.antt", "crates/record/specs/Judge.antt"
 CODE_RUNS, CODE_MAP, CODE_PLACES = "crates/state/src/runs.rt", "crates/area/src/map.rt", "crates/record/src/places.rt"
-FILES = (RUNS, PROFILE, MAP, LAYOUT, WRITING, JUDGE, CODE_RUNS, CODE_MAP, CODE_PLACES)
+FILES = (RUNS, PROFILE, CONN, MAP, LAYOUT, WRITING, JUDGE, CODE_RUNS, CODE_MAP, CODE_PLACES)
 
 SIZES = ("areaSize", "slotSize", "wireSlots", "wireSize", "storeSlots", "storeSize", "messageSize", "controlSize", "places")
 # the parts of the area in their order, and what those are called of a place that have one for each
@@ -19,6 +19,8 @@ PARTS = {
     "hostRunsAt": "hostRunAt", "controllerRunsAt": "controllerRunAt", "askingAt": None, "hearingAt": None,
     "spareAt": None, "recordAt": None,
 }
+# which place a Conn ID has
+PLACES = r"pick \(eqb c (\d)\) (\d)"
 # octets by cases, and what they are called in one
 CASES = ("pendingOctets", "phaseOctet", "rfOctets")
 WORDS = {"gid": "GID", "oid": "OID", "aim": "aim", "id": "ID", "protocol": "protocol", "mode": "mode"}
@@ -96,13 +98,15 @@ class Written:
 
 
 class Area:
-    """The map: the numbers by their names, and the record's octets."""
+    """The map: the numbers by their names, the record's octets, and the connections by place."""
 
     def __init__(self, texts):
         self.names = defined(*(texts[path] for path in (RUNS, PROFILE, MAP, LAYOUT)))
         self.written, self.forms = Written(texts[WRITING]), re.findall(FORMS, texts[LAYOUT], re.M)
         leaves = [Leaf(leaf.field.removeprefix("ends."), leaf.form) for leaf in self.written.octets("encodeOf", [""])]
         self.leaves = [*leaves, Leaf("end", "")]
+        by_place = {int(place): conn for conn, place in re.findall(PLACES, texts[CONN])}
+        self.conns = [f"connection {by_place[place]}" for place in range(self.names["places"])]
 
     def place(self, field):
         """Where a field starts in the record."""
@@ -129,7 +133,7 @@ class Area:
         numbers = [f"{name} {self.names[name]}" for name in (*SIZES, *PARTS)]
         octets = [f"{self.names['recordAt'] + i} {leaf.field} {leaf.form}" for i, leaf in enumerate(self.leaves)]
         cases = [f"{name} {' '.join(octets)}" for case in CASES for name, octets in self.written.cases(case)]
-        return hashlib.sha256("\n".join(numbers + octets + cases + self.forms).encode()).hexdigest()[:16]
+        return hashlib.sha256("\n".join(numbers + octets + cases + self.forms + self.conns).encode()).hexdigest()[:16]
 
 
 # ---- what is wrong with the definitions, and with the code beside them
