@@ -60,6 +60,13 @@ def once(numbers):
 
 MODEL_CALLS = "crates/model/specs/calls"
 OCTET_CALLS = "crates/calls/specs/calls"
+# how a rule of air asks for the kind
+KIND_TESTS = {
+    r"eqb kind (\d)": lambda kind, n: kind == n,
+    r"leb (\d) kind": lambda kind, n: n <= kind,
+    r"leb kind (\d)": lambda kind, n: kind <= n,
+    r"\(eqb kind (\d) \|\| eqb kind (\d)\)": lambda kind, m, n: kind in (m, n),
+}
 
 
 def kinds_of(test):
@@ -75,14 +82,6 @@ def kinds_of(test):
             if "kind" in part:
                 raise LookupError(f"a test of another form: {part}")
     return None if 0 in left else frozenset(left)
-
-
-KIND_TESTS = {
-    r"eqb kind (\d)": lambda kind, n: kind == n,
-    r"leb (\d) kind": lambda kind, n: n <= kind,
-    r"leb kind (\d)": lambda kind, n: kind <= n,
-    r"\(eqb kind (\d) \|\| eqb kind (\d)\)": lambda kind, m, n: kind in (m, n),
-}
 
 
 def rules_in(body):
