@@ -38,6 +38,7 @@ pub mod Checked
 pub mod EveryRun
 pub mod Displayed
 pub mod Played
+pub mod Owing
 pub mod Discards
 pub mod Profiles
 pub mod Headers
