@@ -1,5 +1,6 @@
 // What the record holds: its types, and what profiles, connections, radio states, runs of packets, the names of commands and verdicts
 // are. Both ends stand on this floor.
+pub mod cold;
 pub mod commands;
 pub mod conn;
 pub mod kinds;
