@@ -14,7 +14,7 @@ use state::profile::LEAST_SIZE;
 ghost use mathlib.Core.Path.{_≡_};
 ghost use Prim.Native.Nat.{_≤_};
 ghost use Rattle.state.specs.Conn.{heldOpen};
-ghost use Rattle.dh.specs.Host.{askedOf, awaits, aimOf, isBusy, isClosing, okAnswer, answerOf, noticed, heardAlone, expected, hearOf, creditsFor, namesClosed, settled, hostAnswered, hostAfter, credited, creditedAt, allCredited, connsAnswered, connsHeard, dropHeard};
+ghost use Rattle.dh.specs.Host.{askedOf, awaits, aimOf, isBusy, isClosing, okAnswer, answerOf, noticed, heardWritten, expected, hearOf, creditsFor, namesClosed, settled, hostAnswered, hostAfter, credited, creditedAt, allCredited, connsAnswered, connsHeard, dropHeard};
 ghost use Rattle.dh.specs.Hearing.{entryFor};
 
 // What the awaited response says.
@@ -154,9 +154,10 @@ fn noticed(n: Notice, m: &[u8]) -> Heard
     }
 }
 
-// What a host that stands alone makes of a response or a notification.
-fn heard_alone(p: Pending, mt: u8, gid: u8, oid: u8, m: &[u8]) -> Heard
-    ensures { λ r. ⌜ r ≡ heardAlone p mt gid oid (now (m .entry)) ⌝ }
+// What is heard in contents that are known to be written here. It must stand behind `contents::written`: it tests no length and no
+// value, so a create response that is cut short would open connection 0. A host before a bought controller needs limits of its own.
+fn heard_written(p: Pending, mt: u8, gid: u8, oid: u8, m: &[u8]) -> Heard
+    ensures { λ r. ⌜ r ≡ heardWritten p mt gid oid (now (m .entry)) ⌝ }
 {
     if mt == packets::RESPONSE {
         let c = commands::command_of(gid, oid);
@@ -188,7 +189,7 @@ pub fn hear(p: Pending, mt: u8, gid: u8, oid: u8, m: &[u8]) -> Heard
     let ours = contents::written(mt, gid, oid, m);
     if mine {
         if ours {
-            heard_alone(p, mt, gid, oid, m)
+            heard_written(p, mt, gid, oid, m)
         } else {
             Heard::Nothing
         }
