@@ -1,4 +1,5 @@
 // A profile, its limits and its octets (document 01, "Profile, record and area"). That no octet is over 255 is not tested.
+use crate::conn::UNMETERED;
 use crate::kinds::Profile;
 use crate::kinds::Terms;
 use octets::choose;
@@ -13,7 +14,7 @@ pub const LEAST_SIZE: u8 = 32;
 pub fn credits_ok(n: u8) -> bool
     ensures { λ r. ⌜ r ≡ creditsOk n ⌝ }
 {
-    ((1 <= n) & (n <= 8)) | (n == 255)
+    ((1 <= n) & (n <= 8)) | (n == UNMETERED)
 }
 
 // Payloads are 1-255.
