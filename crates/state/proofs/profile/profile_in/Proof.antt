@@ -1,8 +1,8 @@
--- `call_bench::fresh::profile_in` meets its contract, by that of `terms_in`.
+-- `state::profile::profile_in` meets its contract, by that of `terms_in`.
 -- Assumes nothing.
 use borrow.Author.Needs.{needs}
-use Rattle.call_bench.proofs.fresh.profile_in.Statement.{statement}
-use Rattle.call_bench.proofs.fresh.profile_in.Tie as tie
+use Rattle.state.proofs.profile.profile_in.Statement.{statement}
+use Rattle.state.proofs.profile.profile_in.Tie as tie
 
 octet-at-requires : tie.Need-octet-at-requires
 octet-at-requires c κs = search needs

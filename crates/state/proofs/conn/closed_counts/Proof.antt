@@ -1,8 +1,8 @@
--- `call_bench::fresh::closed` meets its contract.
+-- `state::conn::closed_counts` meets its contract.
 -- Assumes nothing.
 use borrow.Author.Needs.{needs}
-use Rattle.call_bench.proofs.fresh.closed.Statement.{statement}
-use Rattle.call_bench.proofs.fresh.closed.Tie as tie
+use Rattle.state.proofs.conn.closed_counts.Statement.{statement}
+use Rattle.state.proofs.conn.closed_counts.Tie as tie
 
 closed-host-requires : tie.Need-closed-host-requires
 closed-host-requires c κs = search needs
@@ -13,5 +13,5 @@ closed-controller-requires c κs = search needs
 returns : tie.Need-returns
 returns c = rw (c .closed-controller .ensures, c .before .closed-host .ensures)
 
-pub closed-spec : {M : Type 1} → statement M
-closed-spec = tie.close (tie.spec closed-host-requires closed-controller-requires returns)
+pub closed-counts-spec : {M : Type 1} → statement M
+closed-counts-spec = tie.close (tie.spec closed-host-requires closed-controller-requires returns)

@@ -1,9 +1,9 @@
--- `call_host::command::asking` meets its contract, by that of what it calls.
+-- `dh::sending::commanded` meets its contract, by that of what it calls.
 -- Assumes nothing.
 use Rattle.state.specs.declared.kinds.Pending.the-variants as pending
 use borrow.Author.Needs.{needs}
-use Rattle.call_host.proofs.command.asking.Statement.{statement}
-use Rattle.call_host.proofs.command.asking.Tie as tie
+use Rattle.dh.proofs.sending.commanded.Statement.{statement}
+use Rattle.dh.proofs.sending.commanded.Tie as tie
 
 asked-of-requires : tie.Need-asked-of-requires
 asked-of-requires c κs = search needs
@@ -11,5 +11,5 @@ asked-of-requires c κs = search needs
 returns : tie.Need-returns
 returns c = λ i. record { size = c .before .before .args .h .size; pending = pending.Command (c .asked-of .ensures i) }
 
-pub asking-spec : {M : Type 1} → statement M
-asking-spec = tie.close (tie.spec asked-of-requires returns)
+pub commanded-spec : {M : Type 1} → statement M
+commanded-spec = tie.close (tie.spec asked-of-requires returns)

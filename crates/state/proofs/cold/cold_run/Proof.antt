@@ -1,8 +1,8 @@
--- `call_bench::fresh::cold_run` meets its contract.
+-- `state::cold::cold_run` meets its contract.
 -- Assumes nothing.
 use borrow.Author.Needs.{needs}
-use Rattle.call_bench.proofs.fresh.cold_run.Statement.{statement}
-use Rattle.call_bench.proofs.fresh.cold_run.Tie as tie
+use Rattle.state.proofs.cold.cold_run.Statement.{statement}
+use Rattle.state.proofs.cold.cold_run.Tie as tie
 
 start-requires : tie.Need-start-requires
 start-requires c κs = search needs

@@ -1,8 +1,8 @@
--- `call_bench::fresh::terms_in` meets its contract, octet by octet.
+-- `state::profile::terms_in` meets its contract, octet by octet.
 -- Assumes nothing.
 use borrow.Author.Needs.{needs}
-use Rattle.call_bench.proofs.fresh.terms_in.Statement.{statement}
-use Rattle.call_bench.proofs.fresh.terms_in.Tie as tie
+use Rattle.state.proofs.profile.terms_in.Statement.{statement}
+use Rattle.state.proofs.profile.terms_in.Tie as tie
 
 choose-requires : tie.Need-choose-requires
 choose-requires c κs = search needs

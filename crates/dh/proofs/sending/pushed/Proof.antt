@@ -1,8 +1,8 @@
--- `call_host::push::pushed_side` meets its contract, by those of what it calls.
+-- `dh::sending::pushed` meets its contract, by those of what it calls.
 -- Assumes nothing.
 use borrow.Author.Needs.{needs}
-use Rattle.call_host.proofs.push.pushed_side.Statement.{statement}
-use Rattle.call_host.proofs.push.pushed_side.Tie as tie
+use Rattle.dh.proofs.sending.pushed.Statement.{statement}
+use Rattle.dh.proofs.sending.pushed.Tie as tie
 
 cast-size : tie.Need-cast-size
 cast-size c = search needs
@@ -16,5 +16,5 @@ hand-after-requires c κs = search needs
 returns : tie.Need-returns
 returns c = rw (c .hand-after .ensures, c .before .spent .ensures)
 
-pub pushed-side-spec : {M : Type 1} → statement M
-pushed-side-spec = tie.close (tie.spec cast-size spent-requires hand-after-requires returns)
+pub pushed-spec : {M : Type 1} → statement M
+pushed-spec = tie.close (tie.spec cast-size spent-requires hand-after-requires returns)

@@ -1,10 +1,10 @@
--- `call_host::push::spent` meets its contract, by the tests.
+-- `dh::sending::spent` meets its contract, by the tests.
 -- Assumes nothing.
 use native.Mathlib.Omega.{arith}
 use borrow.Author.Tests.{eq-eqb, ne-eqb}
 use borrow.Author.Needs.{needs}
-use Rattle.call_host.proofs.push.spent.Statement.{statement}
-use Rattle.call_host.proofs.push.spent.Tie as tie
+use Rattle.dh.proofs.sending.spent.Statement.{statement}
+use Rattle.dh.proofs.sending.spent.Tie as tie
 
 returns : tie.Need-returns
 returns c = rw (eq-eqb _ _ (c .if1 .taken))
