@@ -6,47 +6,36 @@ use mathlib.Core.Bool.{Bool, true, false, _&&_}
 use mathlib.Core.List.{[]}
 use native.Mathlib.Omega.{arith}
 use borrow.Author.Tests.{leb-true}
-use lib.ListN.{length, drop, length-drop}
-use lib.Seq.{take-all}
+use lib.ListN.{length}
 use lib.Dec.{leb}
 use Rattle.octets.specs.Octets.{Octets, pick, cut, splice}
 use Rattle.octets.specs.Octal.{Octal, octal-nil}
 use Rattle.octets.proofs.Octets.{cut-same}
-use Rattle.ascii.specs.Words.{startsWith}
+use Rattle.ascii.specs.Fields.{afterField, hasField, onlyField}
 use Rattle.ascii.specs.Digits.{isHex, octetsIn}
-use Rattle.ascii.proofs.Words.{both, up-to-short}
+use Rattle.ascii.proofs.Words.{both}
+use Rattle.ascii.proofs.Lines.{after-short, value-short}
 use Rattle.ascii.proofs.Digits.{length-octets, octets-octal}
 use Rattle.forms.specs.Kinds.{Name}
 use Rattle.forms.specs.Kinds.name.{Bad}
 use Rattle.forms.specs.Names.{nameIn}
-use Rattle.forms.specs.Form.{evLabel, argLabel, headOf, tailOf, wordIn, digitsIn, formed, argsOf, fits, fitting, asks}
-
--- all of a part of a line from an index on
-rest : (at n : ℕ) (l : Octets) → length l ≤ n → cut at n l ≡ drop at l
-unfolding cut
-rest at n l h = take-all n (drop at l) (simp length-drop (omega arith))
-
-pub head-rest : (at : ℕ) (l : Octets) → cut at (length l) (headOf l) ≡ drop at (headOf l)
-head-rest at l = rest at (length l) (headOf l) (up-to-short 32 l)
-
-pub tail-rest : (at : ℕ) (l : Octets) → cut at (length l) (tailOf l) ≡ drop at (tailOf l)
-tail-rest at l = rest at (length l) (tailOf l) (simp length-drop (omega arith))
+use Rattle.forms.specs.Form.{evName, argName, wordIn, digitsIn, formed, argsOf, fits, fitting, asks}
 
 -- ---- a line that has the form
 
 module _ (l : Octets) (e : formed l ≡ true) where
-  parts : (leb (length l) 2100 && startsWith (headOf l) evLabel && startsWith (tailOf l) argLabel && isHex (digitsIn l)) ≡ true
+  parts : (leb (length l) 2100 && hasField evName l && onlyField argName (afterField l) && isHex (digitsIn l)) ≡ true
   unfolding formed
   parts = e
 
   pub formed-hex : isHex (digitsIn l) ≡ true
-  formed-hex = both (leb (length l) 2100 && startsWith (headOf l) evLabel && startsWith (tailOf l) argLabel) (isHex (digitsIn l)) parts .1
+  formed-hex = both (leb (length l) 2100 && hasField evName l && onlyField argName (afterField l)) (isHex (digitsIn l)) parts .1
 
   short : length l ≤ 2100
   short =
-      let three = both (leb (length l) 2100 && startsWith (headOf l) evLabel && startsWith (tailOf l) argLabel) (isHex (digitsIn l)) parts .0 in
-      let two = both (leb (length l) 2100 && startsWith (headOf l) evLabel) (startsWith (tailOf l) argLabel) three .0 in
-      leb-true _ _ (both (leb (length l) 2100) (startsWith (headOf l) evLabel) two .0)
+      let three = both (leb (length l) 2100 && hasField evName l && onlyField argName (afterField l)) (isHex (digitsIn l)) parts .0 in
+      let two = both (leb (length l) 2100 && hasField evName l) (onlyField argName (afterField l)) three .0 in
+      leb-true _ _ (both (leb (length l) 2100) (hasField evName l) two .0)
 
   pub formed-args : argsOf l ≡ octetsIn (digitsIn l)
   unfolding argsOf
@@ -58,7 +47,7 @@ module _ (l : Octets) (e : formed l ≡ true) where
 
   -- the buffer for arguments has room
   pub args-short : length (octetsIn (digitsIn l)) ≤ 1050
-  args-short = omega (arith, length-octets (digitsIn l), length-drop 5 (tailOf l), length-drop (length (headOf l)) l, short)
+  args-short = omega (arith, length-octets (digitsIn l), value-short argName (afterField l), after-short l, short)
 
 pub unformed-args : (l : Octets) → formed l ≡ false → argsOf l ≡ []
 unfolding argsOf
