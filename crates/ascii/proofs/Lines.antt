@@ -1,15 +1,19 @@
 -- The laws of `specs/Fields.antt`.
 -- Assumes nothing.
-use Prim.Native.Nat.{ℕ, _+_, _≤_}
-use mathlib.Core.Path.{_≡_, refl, ap}
+use Prim.Native.Nat.{ℕ, suc, _+_, _≤_, _<_}
+use mathlib.Core.Path.{_≡_, refl, sym, ap, _∙_}
 use mathlib.Core.Bool.{Bool, true, false}
-use mathlib.Core.List.{[]}
+use mathlib.Core.List.{[], _∷_, _++_}
 use native.Mathlib.Omega.{arith}
-use lib.ListN.{length, drop, length-drop}
-use lib.Seq.{take-all}
+use native.Mathlib.Numerals.{add-one}
+use borrow.Author.Tests.{eqb-true, ltb-true, ltb-false}
+use lib.ListN.{length, take, drop, getD, length-drop, take-append-drop, List·getD-eq-default}
+use lib.Seq.{take-all, drop-cons}
+use lib.Dec.{eqb, ltb}
 use Rattle.octets.specs.Octets.{Octets, pick, cut}
-use Rattle.ascii.specs.Fields.{fieldOf, afterField, hasField, valueIn}
-use Rattle.ascii.proofs.Words.{up-to-short}
+use Rattle.ascii.specs.Words.{startsWith}
+use Rattle.ascii.specs.Fields.{fieldOf, afterField, hasField, onlyField, valueIn}
+use Rattle.ascii.proofs.Words.{both, same-true, up-to-short, up-to-front, up-to-rest}
 
 -- all of the first field from an index on
 pub field-rest : (at : ℕ) (l : Octets) → cut at (length l) (fieldOf l) ≡ drop at (fieldOf l)
@@ -33,3 +37,44 @@ value-short name l = go (hasField name l) refl
     go : (b : Bool) → hasField name l ≡ b → length (valueIn name l) ≤ length l
     go true e = omega (arith, ap length (value-named name l e), length-drop (length name + 1) (fieldOf l), up-to-short 32 l)
     go false e = omega (arith, ap length (value-other name l e))
+
+-- ---- a line, put together again from its fields
+
+starts-front : (l w : Octets) → startsWith l w ≡ true → take (length w) l ≡ w
+unfolding startsWith cut
+starts-front l w e = same-true (take (length w) l) w e
+
+sign-inside : (l : Octets) (n : ℕ) → getD l n 0 ≡ 61 → n < length l
+sign-inside l n e = go (ltb n (length l)) refl
+  where
+    go : (b : Bool) → ltb n (length l) ≡ b → n < length l
+    go true t = ltb-true n (length l) t
+    go false t =
+        let past : getD l n 0 ≡ 0 = List·getD-eq-default l 0 (ltb-false n (length l) t) in
+        omega (arith, e, past)
+
+module _ (name l : Octets) (e : hasField name l ≡ true) where
+  sign : getD (fieldOf l) (length name) 0 ≡ 61
+  sign = eqb-true (getD (fieldOf l) (length name) 0) 61 (both (startsWith (fieldOf l) name) (eqb (getD (fieldOf l) (length name) 0) 61) e .1)
+
+  -- a field is its name, an equals sign and its value
+  pub field-named : fieldOf l ≡ name ++ (61 ∷ valueIn name l)
+  field-named =
+      sym (take-append-drop (length name) (fieldOf l))
+      ∙ (λ i. starts-front (fieldOf l) name (both (startsWith (fieldOf l) name) (eqb (getD (fieldOf l) (length name) 0) 61) e .0) i ++ drop-cons (fieldOf l) (length name) 0 (sign-inside (fieldOf l) (length name) sign) i)
+      ∙ (λ i. name ++ (sign i ∷ drop (sym (add-one (length name)) i) (fieldOf l)))
+      ∙ (λ i. name ++ (61 ∷ sym (value-named name l e) i))
+
+  -- a line with a blank is its first field, the blank and what follows
+  pub line-more : length (fieldOf l) < length l → l ≡ (name ++ (61 ∷ valueIn name l)) ++ (32 ∷ afterField l)
+  line-more h = up-to-rest 32 l h ∙ (λ i. field-named i ++ (32 ∷ drop (sym (add-one (length (fieldOf l))) i) l))
+
+-- a line of one field is that field
+pub line-only : (name l : Octets) → onlyField name l ≡ true → l ≡ name ++ (61 ∷ valueIn name l)
+unfolding cut
+line-only name l e =
+    let t = both (hasField name l) (eqb (length (fieldOf l)) (length l)) e in
+    sym (take-all (length l) l (omega arith))
+    ∙ (λ i. take (sym (eqb-true (length (fieldOf l)) (length l) (t .1)) i) l)
+    ∙ up-to-front 32 l
+    ∙ field-named name l (t .0)

@@ -83,6 +83,17 @@ up-to-front c (x ∷ l) = go (eqb x c) (up-to-front c l)
     go true ih = refl
     go false ih = ap (λ (m : Octets). x ∷ m) ih
 
+-- what it leaves starts with c
+pub up-to-rest : (c : ℕ) (l : Octets) → length (upTo c l) < length l → l ≡ upTo c l ++ (c ∷ drop (suc (length (upTo c l))) l)
+unfolding upTo
+up-to-rest c [] h = absurd (omega arith)
+up-to-rest c (x ∷ l) h = go (eqb x c) refl (λ k. up-to-rest c l k) h
+  where
+    go : (t : Bool) → eqb x c ≡ t → (length (upTo c l) < length l → l ≡ upTo c l ++ (c ∷ drop (suc (length (upTo c l))) l)) → length (pick t [] (x ∷ upTo c l)) < suc (length l)
+        → (x ∷ l) ≡ pick t [] (x ∷ upTo c l) ++ (c ∷ drop (suc (length (pick t [] (x ∷ upTo c l)))) (x ∷ l))
+    go true e ih k = ap (λ (y : ℕ). y ∷ l) (eqb-true x c e)
+    go false e ih k = ap (λ (m : Octets). x ∷ m) (ih (omega arith))
+
 -- ---- words
 
 -- each character stands above the blank

@@ -1,20 +1,21 @@
 -- The laws of `specs/Form.antt`.
 -- Assumes nothing.
-use Prim.Native.Nat.{ℕ, _≤_}
+use Prim.Native.Nat.{ℕ, _+_, _≤_, _<_}
 use mathlib.Core.Path.{_≡_, refl, sym, ap, subst, _∙_}
 use mathlib.Core.Bool.{Bool, true, false, _&&_}
-use mathlib.Core.List.{[]}
+use mathlib.Core.List.{[], _∷_, _++_}
 use native.Mathlib.Omega.{arith}
 use borrow.Author.Tests.{leb-true}
-use lib.ListN.{length}
+use lib.ListN.{length, length-drop}
 use lib.Dec.{leb}
 use Rattle.octets.specs.Octets.{Octets, pick, cut, splice}
 use Rattle.octets.specs.Octal.{Octal, octal-nil}
 use Rattle.octets.proofs.Octets.{cut-same}
-use Rattle.ascii.specs.Fields.{afterField, hasField, onlyField}
+use Rattle.ascii.specs.Letters as letter
+use Rattle.ascii.specs.Fields.{fieldOf, afterField, hasField, onlyField}
 use Rattle.ascii.specs.Digits.{isHex, octetsIn}
 use Rattle.ascii.proofs.Words.{both}
-use Rattle.ascii.proofs.Lines.{after-short, value-short}
+use Rattle.ascii.proofs.Lines.{after-short, value-short, line-more, line-only}
 use Rattle.ascii.proofs.Digits.{length-octets, octets-octal}
 use Rattle.forms.specs.Kinds.{Name}
 use Rattle.forms.specs.Kinds.name.{Bad}
@@ -36,6 +37,19 @@ module _ (l : Octets) (e : formed l ≡ true) where
       let three = both (leb (length l) 2100 && hasField evName l && onlyField argName (afterField l)) (isHex (digitsIn l)) parts .0 in
       let two = both (leb (length l) 2100 && hasField evName l) (onlyField argName (afterField l)) three .0 in
       leb-true _ _ (both (leb (length l) 2100) (hasField evName l) two .0)
+
+  named : (hasField evName l ≡ true) × (onlyField argName (afterField l) ≡ true)
+  named =
+      let three = both (leb (length l) 2100 && hasField evName l && onlyField argName (afterField l)) (isHex (digitsIn l)) parts .0 in
+      let two = both (leb (length l) 2100 && hasField evName l) (onlyField argName (afterField l)) three in
+      (both (leb (length l) 2100) (hasField evName l) (two .0) .1, two .1)
+
+  -- it is `ev=NAME arg=HEX`, and nothing else
+  pub formed-line : l ≡ (evName ++ (letter.equals ∷ wordIn l)) ++ (letter.blank ∷ (argName ++ (letter.equals ∷ digitsIn l)))
+  formed-line =
+      let last : afterField l ≡ argName ++ (letter.equals ∷ digitsIn l) = line-only argName (afterField l) (named .1) in
+      let more : length (fieldOf l) < length l = omega (arith, ap length last, length-drop (length (fieldOf l) + 1) l) in
+      line-more evName l (named .0) more ∙ (λ i. (evName ++ (letter.equals ∷ wordIn l)) ++ (letter.blank ∷ last i))
 
   pub formed-args : argsOf l ≡ octetsIn (digitsIn l)
   unfolding argsOf
