@@ -2,18 +2,18 @@
 -- Assumes nothing.
 use Prim.Native.Nat.{ℕ, suc, _+_, _≤_, _<_}
 use mathlib.Core.Path.{_≡_, refl, sym, ap, _∙_}
-use mathlib.Core.Bool.{Bool, true, false}
+use mathlib.Core.Bool.{Bool, true, false, _&&_}
 use mathlib.Core.List.{[], _∷_, _++_}
 use native.Mathlib.Omega.{arith}
 use native.Mathlib.Numerals.{add-one}
-use borrow.Author.Tests.{eqb-true, ltb-true, ltb-false}
+use borrow.Author.Tests.{eq-eqb, eqb-true, ltb-true, ltb-false}
 use lib.ListN.{length, take, drop, getD, length-drop, take-append-drop, List·getD-eq-default}
 use lib.Seq.{take-all, drop-cons}
 use lib.Dec.{eqb, ltb}
 use Rattle.octets.specs.Octets.{Octets, pick, cut}
-use Rattle.ascii.specs.Words.{startsWith}
+use Rattle.ascii.specs.Words.{sameAs, startsWith}
 use Rattle.ascii.specs.Fields.{fieldOf, afterField, hasField, onlyField, valueIn}
-use Rattle.ascii.proofs.Words.{both, same-true, up-to-short, up-to-front, up-to-rest}
+use Rattle.ascii.proofs.Words.{both, same-true, up-to-short, up-to-front, up-to-rest, up-to-append}
 
 -- all of the first field from an index on
 pub field-rest : (at : ℕ) (l : Octets) → cut at (length l) (fieldOf l) ≡ drop at (fieldOf l)
@@ -78,3 +78,51 @@ line-only name l e =
     ∙ (λ i. take (sym (eqb-true (length (fieldOf l)) (length l) (t .1)) i) l)
     ∙ up-to-front 32 l
     ∙ field-named name l (t .0)
+
+-- ---- a line that is written so has its fields
+
+starts-again : (w m : Octets) → startsWith (w ++ m) w ≡ true
+unfolding startsWith cut sameAs
+starts-again [] m = refl
+starts-again (x ∷ w) m = λ i. eq-eqb x x refl i && starts-again w m i
+
+sign-again : (w v : Octets) → getD (w ++ (61 ∷ v)) (length w) 0 ≡ 61
+sign-again [] v = refl
+sign-again (x ∷ w) v = sign-again w v
+
+behind : (w : Octets) (c : ℕ) (v : Octets) → drop (suc (length w)) (w ++ (c ∷ v)) ≡ v
+behind [] c v = refl
+behind (x ∷ w) c v = behind w c v
+
+-- a field has no blank: its value is what stands behind the equals sign, whatever follows a blank
+module _ (name v : Octets) (solid : fieldOf (name ++ (61 ∷ v)) ≡ name ++ (61 ∷ v)) where
+  named : (l : Octets) → fieldOf l ≡ name ++ (61 ∷ v) → hasField name l ≡ true
+  named l first =
+      (λ i. startsWith (first i) name && eqb (getD (first i) (length name) 0) 61)
+      ∙ (λ i. starts-again name (61 ∷ v) i && eq-eqb (getD (name ++ (61 ∷ v)) (length name) 0) 61 (sign-again name v) i)
+
+  valued : (l : Octets) → fieldOf l ≡ name ++ (61 ∷ v) → valueIn name l ≡ v
+  valued l first =
+      value-named name l (named l first)
+      ∙ (λ i. drop (add-one (length name) i) (first i))
+      ∙ behind name 61 v
+
+  pub field-last : (onlyField name (name ++ (61 ∷ v)) ≡ true) × (valueIn name (name ++ (61 ∷ v)) ≡ v)
+  field-last =
+      let all = eq-eqb (length (fieldOf (name ++ (61 ∷ v)))) (length (name ++ (61 ∷ v))) (ap length solid) in
+      (λ i. named (name ++ (61 ∷ v)) solid i && all i, valued (name ++ (61 ∷ v)) solid)
+
+  module _ (rest : Octets) where
+    pub field-first : fieldOf ((name ++ (61 ∷ v)) ++ (32 ∷ rest)) ≡ name ++ (61 ∷ v)
+    field-first = up-to-append 32 (name ++ (61 ∷ v)) rest solid
+
+    pub field-has : hasField name ((name ++ (61 ∷ v)) ++ (32 ∷ rest)) ≡ true
+    field-has = named ((name ++ (61 ∷ v)) ++ (32 ∷ rest)) field-first
+
+    pub field-value : valueIn name ((name ++ (61 ∷ v)) ++ (32 ∷ rest)) ≡ v
+    field-value = valued ((name ++ (61 ∷ v)) ++ (32 ∷ rest)) field-first
+
+    pub field-after : afterField ((name ++ (61 ∷ v)) ++ (32 ∷ rest)) ≡ rest
+    field-after =
+        (λ i. drop (add-one (length (field-first i)) i) ((name ++ (61 ∷ v)) ++ (32 ∷ rest)))
+        ∙ behind (name ++ (61 ∷ v)) 32 rest

@@ -1,21 +1,22 @@
 -- The laws of `specs/Form.antt`.
 -- Assumes nothing.
-use Prim.Native.Nat.{ℕ, _+_, _≤_, _<_}
+use Prim.Native.Nat.{ℕ, _+_, _%_, _≤_, _<_}
 use mathlib.Core.Path.{_≡_, refl, sym, ap, subst, _∙_}
-use mathlib.Core.Bool.{Bool, true, false, _&&_}
+use mathlib.Core.Bool.{Bool, true, false, _&&_, false≢true}
 use mathlib.Core.List.{[], _∷_, _++_}
 use native.Mathlib.Omega.{arith}
-use borrow.Author.Tests.{leb-true}
+use borrow.Author.Tests.{leb-true, le-leb, eqb-true}
 use lib.ListN.{length, length-drop}
-use lib.Dec.{leb}
+use lib.Dec.{leb, ltb, eqb}
 use Rattle.octets.specs.Octets.{Octets, pick, cut, splice}
 use Rattle.octets.specs.Octal.{Octal, octal-nil}
 use Rattle.octets.proofs.Octets.{cut-same}
 use Rattle.ascii.specs.Letters as letter
-use Rattle.ascii.specs.Fields.{fieldOf, afterField, hasField, onlyField}
-use Rattle.ascii.specs.Digits.{isHex, octetsIn}
+use Rattle.ascii.specs.Words.{upTo}
+use Rattle.ascii.specs.Fields.{fieldOf, afterField, hasField, onlyField, valueIn}
+use Rattle.ascii.specs.Digits.{valueOf, allDigits, isHex, octetsIn}
 use Rattle.ascii.proofs.Words.{both}
-use Rattle.ascii.proofs.Lines.{after-short, value-short, line-more, line-only}
+use Rattle.ascii.proofs.Lines.{after-short, value-short, line-more, line-only, field-last, field-has, field-value, field-after}
 use Rattle.ascii.proofs.Digits.{length-octets, octets-octal}
 use Rattle.forms.specs.Kinds.{Name}
 use Rattle.forms.specs.Kinds.name.{Bad}
@@ -62,6 +63,44 @@ module _ (l : Octets) (e : formed l ≡ true) where
   -- the buffer for arguments has room
   pub args-short : length (octetsIn (digitsIn l)) ≤ 1050
   args-short = omega (arith, length-octets (digitsIn l), value-short argName (afterField l), after-short l, short)
+
+-- digits are no blanks
+digits-solid : (h : Octets) → allDigits h ≡ true → fieldOf h ≡ h
+unfolding allDigits upTo valueOf
+digits-solid [] e = refl
+digits-solid (x ∷ h) e =
+    let t = both (ltb (valueOf x) 16) (allDigits h) e in
+    go (eqb x 32) refl (t .0) (digits-solid h (t .1))
+  where
+    go : (b : Bool) → eqb x 32 ≡ b → ltb (valueOf x) 16 ≡ true → fieldOf h ≡ h → pick b [] (x ∷ fieldOf h) ≡ x ∷ h
+    go true q d k = absurd (false≢true (ap (λ (y : ℕ). ltb (valueOf y) 16) (sym (eqb-true x 32 q)) ∙ d))
+    go false q d k = ap (λ (m : Octets). x ∷ m) k
+
+-- a line that is written so has the form: a name without a blank, and pairs of digits
+module _ (name h : Octets) (solid : fieldOf name ≡ name) (hex : isHex h ≡ true) where
+  ev-solid : fieldOf (evName ++ (letter.equals ∷ name)) ≡ evName ++ (letter.equals ∷ name)
+  unfolding upTo
+  ev-solid = ap (λ (m : Octets). evName ++ (letter.equals ∷ m)) solid
+
+  arg-solid : fieldOf (argName ++ (letter.equals ∷ h)) ≡ argName ++ (letter.equals ∷ h)
+  unfolding upTo isHex
+  arg-solid = ap (λ (m : Octets). argName ++ (letter.equals ∷ m)) (digits-solid h (both (eqb (length h % 2) 0) (allDigits h) hex .1))
+
+  pub line-word : wordIn ((evName ++ (letter.equals ∷ name)) ++ (letter.blank ∷ (argName ++ (letter.equals ∷ h)))) ≡ name
+  line-word = field-value evName name ev-solid (argName ++ (letter.equals ∷ h))
+
+  pub line-digits : digitsIn ((evName ++ (letter.equals ∷ name)) ++ (letter.blank ∷ (argName ++ (letter.equals ∷ h)))) ≡ h
+  line-digits = (λ i. valueIn argName (field-after evName name ev-solid (argName ++ (letter.equals ∷ h)) i)) ∙ field-last argName h arg-solid .1
+
+  pub line-formed : length ((evName ++ (letter.equals ∷ name)) ++ (letter.blank ∷ (argName ++ (letter.equals ∷ h)))) ≤ 2100
+      → formed ((evName ++ (letter.equals ∷ name)) ++ (letter.blank ∷ (argName ++ (letter.equals ∷ h)))) ≡ true
+  unfolding formed
+  line-formed few =
+      λ i.
+      le-leb _ _ few i
+      && field-has evName name ev-solid (argName ++ (letter.equals ∷ h)) i
+      && ((λ j. onlyField argName (field-after evName name ev-solid (argName ++ (letter.equals ∷ h)) j)) ∙ field-last argName h arg-solid .0) i
+      && ((λ j. isHex (line-digits j)) ∙ hex) i
 
 pub unformed-args : (l : Octets) → formed l ≡ false → argsOf l ≡ []
 unfolding argsOf
