@@ -29,7 +29,7 @@ DEMANDS = "docs/DEMANDS.md"
 WRONG = "docs/WRONG-PROGRAMS.md"
 DOCUMENTS = {README, "examples/README.md", "second/README.md", "compare/README.md"}
 CLAIM = "crates/calls/specs/Demand.antt"
-SKIPPED = {".git", "target", "build"}
+SKIPPED = {".git", "target", "build", "__pycache__"}
 # crates of programs: their functions have no contracts of their own, other scripts compare what they print
 PROGRAMS = {"text", "vectors", "steps", "paper"}
 # columns whose names are definitions, in the files that the section or the cell names
@@ -127,7 +127,8 @@ def is_module(name, texts):
 def is_short(name, texts):
     """`module::function`, where one crate alone has it."""
     module, _, function = name.partition("::")
-    return sum(function in functions(p, texts) for p in texts if p.startswith("crates/") and p.endswith("/src/%s.rt" % module)) == 1
+    modules = [p for p in texts if p.startswith("crates/") and p.endswith("/src/%s.rt" % module)]
+    return sum(function in functions(p, texts) for p in modules) == 1
 
 
 # ---- the tables of a document
@@ -188,8 +189,9 @@ def unknown(document, texts, words):
 
 def missing_files(document, texts):
     """`crate/File` that is no file and no folder of its crate."""
+    known = crates(texts)
     for name in sorted(set(re.findall(r"`([a-z_]+/\w+(?:/\w+)*)`", texts[document]))):
-        if name.split("/")[0] in crates(texts) and not placed(name, texts) and not any(("/%s/" % name) in p for p in texts):
+        if name.split("/")[0] in known and not placed(name, texts) and not any(("/%s/" % name) in p for p in texts):
             yield "there is no file `%s`" % name
 
 
@@ -198,7 +200,7 @@ def missing_functions(document, texts):
     for name in sorted(set(re.findall(r"`([a-z_]+(?:::[a-z_]+)+)`", texts[document]))):
         full = is_function(name, texts) or is_module(name, texts)
         if not full and (document == DEMANDS or not is_short(name, texts)):
-            yield "`%s` is no function `crate::module::function`, and no module" % name
+            yield "there is no function `%s`" % name
 
 
 def is_defined(head, named, document):
@@ -212,7 +214,7 @@ def misplaced(document, texts):
         for name, where, said in names_in(cell, named):
             if head == "function" and has_sentences(document):
                 if not is_function(name, texts):
-                    yield "`%s` is no function `crate::module::function`" % name
+                    yield "there is no function `%s`" % name
             elif head == "proved by" and has_sentences(document) and not said:
                 yield "the file of the proof `%s` is not named" % name
             elif said or is_defined(head, named, document):
@@ -224,7 +226,8 @@ def unstated(document, texts):
     """Cells under "statement" in which no name is a statement."""
     for head, cell, named in cells(texts[document]):
         if head == "statement" and quoted(cell) and has_sentences(document):
-            if not any(states(p, name, texts) for name, where, _ in names_in(cell, named) for w in where for p in placed(w, texts)):
+            pairs = [(p, name) for name, where, _ in names_in(cell, named) for w in where for p in placed(w, texts)]
+            if not any(states(p, name, texts) for p, name in pairs):
                 yield "there is no statement in: %s" % cell
 
 
@@ -249,7 +252,8 @@ def public_functions(texts):
                 if module == "lib":
                     yield {"%s::%s" % (crate, name)}
                 else:
-                    yield {"%s::%s::%s" % (crate, module, name), name if module == "exports" else "%s::%s" % (module, name)}
+                    short = name if module == "exports" else "%s::%s" % (module, name)
+                    yield {"%s::%s::%s" % (crate, module, name), short}
 
 
 def unruled(texts):
@@ -352,7 +356,10 @@ def listed_path(folder, name):
 def listed(texts):
     """The README's groups: (stated sum, {file: stated lines})."""
     for _, total, body in re.findall(LIST_GROUP, texts[README], re.M):
-        yield int(total), {listed_path(folder, name): int(count) for folder, names in re.findall(LIST_FOLDER, body) for name, count in re.findall(LIST_FILE, names)}
+        group = {}
+        for folder, names in re.findall(LIST_FOLDER, body):
+            group.update((listed_path(folder, name), int(count)) for name, count in re.findall(LIST_FILE, names))
+        yield int(total), group
 
 
 def missing_reading(texts):
@@ -399,6 +406,7 @@ def wrong_claim(texts):
 
 
 def group_written(match, texts):
+    """A group of the list with the lines of today, and their sum."""
     total = 0
 
     def file(folder, entry):
@@ -429,11 +437,17 @@ def write(texts):
 # ---- all of it
 
 
+def places(document, texts):
+    """What the document does not name where it is; each once."""
+    parts = (missing_files, missing_functions, misplaced, unstated)
+    return list(dict.fromkeys(wrong for part in parts for wrong in part(document, texts)))
+
+
 def check(texts):
     suite, words = Suite("documents"), words_of(texts)
     for document in documents(texts):
         suite.check(document + ", names", list(unknown(document, texts, words)))
-        suite.check(document + ", places", [*missing_files(document, texts), *missing_functions(document, texts), *misplaced(document, texts), *unstated(document, texts)])
+        suite.check(document + ", places", places(document, texts))
         suite.check(document + ", cells", list(overfull(document, texts)))
     suite.check("wrong programs, functions", list(unruled(texts)))
     suite.check("wrong programs, edits", list(unlogged(texts)))
