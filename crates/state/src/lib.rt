@@ -1,5 +1,5 @@
 // What the record holds: its types, and what profiles, connections, radio states, runs of packets, the names of commands and verdicts
-// are. Both ends stand on this floor.
+// are. Both ends use this crate.
 pub mod commands;
 pub mod conn;
 pub mod kinds;

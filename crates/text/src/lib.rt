@@ -1,4 +1,4 @@
-// Text of programs that answer lines with lines. Here it is written into a lent buffer: each function writes from an index
+// Text of programs that answer lines with lines. Here it is written into the caller's buffer: each function writes from an index
 // on and answers the next index.
 pub mod fields;
 pub mod lines;

@@ -1,4 +1,4 @@
-// Standard input, line by line. What was read and not yet taken stays in a chunk that the caller lends.
+// Standard input, line by line. What was read and not yet taken stays in the caller's chunk.
 
 // Where the input is. at, held: the next character of the chunk, and the end of what was read into it. n: the characters
 // of the line so far. done: whether the line is whole. more: whether there was one.
