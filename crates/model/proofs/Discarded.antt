@@ -28,4 +28,5 @@ discarded =
       reset-read = λ s. refl;
       late = λ s. refl;
       refused-close = λ s. refl;
+      beside-create = λ s. refl;
     }

@@ -24,7 +24,7 @@ use Rattle.model.specs.calls.Credit.{owedBy, allZero}
 use Rattle.model.specs.Bench.{judged, step}
 use Rattle.model.specs.Observer.{events}
 use Rattle.model.specs.Observer as observer
-use Rattle.model.specs.Table.{goesUp, Plays, Table}
+use Rattle.model.specs.Table.{goesUp, onModel, Table}
 
 -- what is owed decides the notice, whatever else the bench holds
 two-credits : (s : State) → owedBy s ≡ 0 ∷ 2 ∷ 0 ∷ 0 ∷ 0 ∷ [] → full 1 (s .up) ≡ false
@@ -34,7 +34,7 @@ two-credits s e room =
     ap (λ (r : Result). observer.eventOf credit (judged r credit s)) (λ i. first (rule 4 (room i) ∷ rule 8 (allZero (e i)) ∷ []))
     ∙ (λ i. goesUp credit (noticePacket (record { gid = 0; oid = 6; payload = creditsNtf (e i) })))
 
-pub table : Table Plays
+pub table : Table onModel
 unfolding cut octet0 octet1 packetOf oidOf carriedOf spareOf headerOf readOf carrying segmentsWithin segments placeOf connOf termsOf carriable commandOf shortest allowed resetBy after seek nextId createBy closeBy configsOk discoverBy deactivateBy judgeOf controllerAfter entriesFrom entryCount responseOf noticeMessage pollIn eventOf pollBy airedBy airMessage controllerAired noticeOf zeros initWritten createWritten entriesOk creditsWritten activatedWritten written answerOf heardAlone hearOf creditsIn namesClosed hostAfter dropHeard meaning dataCount insideOf countedUp first allZero step events observer.after
 table =
     record {
