@@ -78,6 +78,13 @@ extern "C" {
 #define NCI_OID_MAX 63u           /* greatest opcode identifier */
 #define NCI_NO_FLOW_CONTROL 255u  /* credits of a connection without flow control */
 
+/* ---- the layout of the area */
+
+/* Says which octet of an area is what; docs/AREA.md has the map. A front end that keeps
+ * areas in files keeps this number with them. It is raised when the map or the record
+ * changes: an area that was kept with another number is not to be used. */
+#define NCI_LAYOUT 1u
+
 /* ---- reserved bits of a packet's octet 1 */
 
 #define NCI_RFU_CONTROL 0xC0u   /* of a command, a response or a notification */

@@ -2,7 +2,7 @@
 """The worked front end, front/keys: built, and worked at a terminal and through a pipe, where each answer is to come before
 the next key is typed.
 
-    front.py            builds it and runs all checks; the last line is 'front: N passed, M failed'
+    front.py            builds it and runs all tests; the last line is 'front: N passed, M failed'
     front.py --built    leaves the building out
 
 A session with its answers is in tests/data/keys.txt, one with packets that have reserved bits at 1 in
@@ -21,7 +21,8 @@ import tempfile
 import termios
 from pathlib import Path
 
-ROOT = Path(__file__).resolve().parent.parent
+from programs import ROOT, Suite
+
 KEYS = ROOT / "build" / "keys"
 WORDS = ROOT / "front" / "words.c"
 SOURCES = [ROOT / "front" / "keys.c", WORDS]
@@ -54,23 +55,6 @@ FIELDS = re.compile(
 )
 
 
-class Checks:
-    """Counts what passes and what fails, and says what fails."""
-
-    def __init__(self):
-        self.passed = self.failed = 0
-
-    def check(self, name, good, seen=""):
-        if good:
-            self.passed += 1
-        else:
-            self.failed += 1
-            print(f"{name}: failed {seen}")
-
-    def equal(self, name, got, expected):
-        self.check(name, got == expected, f"\n  {got!r}, expected\n  {expected!r}")
-
-
 # ---- keys at work
 
 
@@ -89,8 +73,8 @@ class Silent(Exception):
 class Worked:
     """The program while it is worked, at a terminal or through pipes. A key without an answer is a failure and ends it."""
 
-    def __init__(self, checks, terminal, program=KEYS):
-        self.checks = checks
+    def __init__(self, suite, terminal, program=KEYS):
+        self.suite = suite
         if terminal:
             self.typing, behind = pty.openpty()
             plain(behind)
@@ -108,7 +92,7 @@ class Worked:
         self.process.kill()
         self.process.wait()
         if isinstance(error, Silent):
-            self.checks.check(f"an answer to {error}", False)
+            self.suite.holds(f"an answer to {error}", False, "there is none")
         return isinstance(error, Silent)
 
     def press(self, key):
@@ -142,24 +126,24 @@ def session(name="keys"):
     return [(key.removeprefix("> "), answer) for key, answer in zip(lines[::2], lines[1::2])]
 
 
-def check_session(checks, terminal, name="keys", program=KEYS):
-    with Worked(checks, terminal, program) as worked:
+def check_session(suite, terminal, name="keys", program=KEYS):
+    with Worked(suite, terminal, program) as worked:
         for n, (key, answer) in enumerate(session(name), 1):
             where = f"{name} on a {'terminal' if terminal else 'pipe'}"
-            checks.equal(f"{where}, key {n}, {key}", worked.press(key), answer)
-        checks.equal(f"{name}, exit status after quit", worked.process.wait(SECONDS), 0)
+            suite.equal(f"{where}, key {n}, {key}", worked.press(key), answer)
+        suite.equal(f"{name}, exit status after quit", worked.process.wait(SECONDS), 0)
 
 
-def check_forged(checks, folder):
+def check_forged(suite, folder):
     """Calls from fresh put no reserved bits at 1, so down and up meet them here alone. What is said has every bit, and
     stays short."""
     program = folder / "forged_keys"
-    checks.equal("forged keys", compiled(["gcc", *STRICT, FORGED_KEYS, WORDS, LIBRARY, "-o", program]), ("", 0))
-    check_session(checks, False, "forged-keys", program)
+    suite.equal("forged keys", compiled(["gcc", *STRICT, FORGED_KEYS, WORDS, LIBRARY, "-o", program]), ("", 0))
+    check_session(suite, False, "forged-keys", program)
     for key, line in session("forged-keys"):
         fields = FIELDS.fullmatch(line)
         good = fields is None or (len(heard(line)) <= MOST_HEARD and says_reserved(fields[7], int(fields[4], 16)))
-        checks.check(f"forged keys, words for {key}", good, line)
+        suite.holds(f"forged keys, words for {key}", good, line)
 
 
 # ---- the lists of the second implementation, typed as keys
@@ -304,19 +288,19 @@ def says_right(key, line, card):
     return in_order and tells_handed and (dropped == "1") == ("dropped" in says)
 
 
-def check_lists(checks, card):
+def check_lists(suite, card):
     keys, answers = zip(*lists())
     out, complaints, status = fed([KEYS], "\n".join(keys).encode())
     lines = out.splitlines()
-    checks.equal("lists, number of answers", len(lines), len(keys))
-    checks.equal("lists, exit status", (complaints, status), ("", 0))
+    suite.equal("lists, number of answers", len(lines), len(keys))
+    suite.equal("lists, exit status", (complaints, status), ("", 0))
     for key, line, answer in zip(keys, lines, answers):
         same = LINE.fullmatch(line) and line.split(" says=")[0] == answer
         most = MOST_OF_FRESH if line.startswith("ev=fresh ") else MOST_HEARD
         good = same and len(heard(line)) <= most and says_right(key, line, card)
-        checks.check(f"lists, {key}", good, f"\n  {line}, expected\n  {answer}")
+        suite.holds(f"lists, {key}", good, f"{line}, expected\n  {answer}")
     met = {line.split()[0] for line in lines}
-    checks.equal("lists, every call", met >= {f"ev={call}" for call in CALLS.split("|")}, True)
+    suite.equal("lists, every call", met >= {f"ev={call}" for call in CALLS.split("|")}, True)
 
 
 # ---- the card, help, and what is no key
@@ -328,28 +312,28 @@ def read_card():
     return {int(n): line for n, line in re.findall(r"^- ([0-9]+): (.*)\.$", text, re.M)}
 
 
-def check_card(checks, card):
-    checks.equal("the card's numbers", list(card), NUMBERS)
-    with Worked(checks, terminal=False) as worked:
+def check_card(suite, card):
+    suite.equal("the card's numbers", list(card), NUMBERS)
+    with Worked(suite, terminal=False) as worked:
         for number, line in card.items():
-            checks.equal(f"card {number}", worked.press(f"card {number}"), f'ev=card ans=0 says="{number}: {line}"')
-        checks.equal("card 0", worked.press("card 0"), 'ev=card ans=0 says="0: taken"')
+            suite.equal(f"card {number}", worked.press(f"card {number}"), f'ev=card ans=0 says="{number}: {line}"')
+        suite.equal("card 0", worked.press("card 0"), 'ev=card ans=0 says="0: taken"')
         others = ["13", "16", "99", "9 9", "-1", "0x9", "009", "013", "D", "F", "99999999999999999999"]
         for key in ["card", *(f"card {other}" for other in others)]:
-            checks.check(key, worked.press(key).startswith(f'ev=bad ans=3 says="{HAS}'))
+            suite.holds(key, worked.press(key).startswith(f'ev=bad ans=3 says="{HAS}'))
 
 
-def check_help(checks):
-    with Worked(checks, terminal=False) as worked:
+def check_help(suite):
+    with Worked(suite, terminal=False) as worked:
         answer = worked.press("help")
         names = answer.removeprefix('ev=help ans=0 says="').removesuffix('"').split()
-        checks.equal("number of keys", len(names), 31)
+        suite.equal("number of keys", len(names), 31)
         document = (ROOT / "docs" / "FRONT-ENDS.md").read_text()
         for name in names:
             line = worked.press(f"help {name}")
-            checks.check(f"help {name}", LINE.fullmatch(line) and name in line and len(line) <= MOST_HEARD, line)
-            checks.check(f"docs/FRONT-ENDS.md has {name}", re.search(f"^- `{name}[ `]", document, re.M))
-        checks.equal("help for no key", worked.press("help nothing"), answer)
+            suite.holds(f"help {name}", LINE.fullmatch(line) and name in line and len(line) <= MOST_HEARD, line)
+            suite.holds(f"docs/FRONT-ENDS.md has {name}", re.search(f"^- `{name}[ `]", document, re.M))
+        suite.equal("help for no key", worked.press("help nothing"), answer)
 
 
 NO_KEYS = [
@@ -370,33 +354,33 @@ SAME_KEYS = [
 ]
 
 
-def check_no_keys(checks):
-    with Worked(checks, terminal=False) as worked:
+def check_no_keys(suite):
+    with Worked(suite, terminal=False) as worked:
         for key in NO_KEYS:
             line = worked.press(key)
             bad = LINE.fullmatch(line) and line.startswith("ev=bad ") and len(line) <= MOST_HEARD
-            checks.check(f"no key: {key!r}", bad, line)
+            suite.holds(f"no key: {key!r}", bad, line)
         for keys in SAME_KEYS:
             one, other = [(worked.press(key), worked.press("power"))[0] for key in keys]
-            checks.equal(" as ".join(keys), one, other)
+            suite.equal(" as ".join(keys), one, other)
 
 
-def check_lengths(checks):
+def check_lengths(suite):
     """Lines of any length; the last has no line feed."""
     longest = "send 0 " + "00" * ((MOST_CHARACTERS - 7) // 2)
-    with Worked(checks, terminal=False) as worked:
-        checks.check("the longest line", worked.press(longest.ljust(MOST_CHARACTERS)).startswith("ev=send ans=3 "))
+    with Worked(suite, terminal=False) as worked:
+        suite.holds("the longest line", worked.press(longest.ljust(MOST_CHARACTERS)).startswith("ev=send ans=3 "))
         for length in (MOST_CHARACTERS + 1, 10000, 1000000):
             answer = worked.press("quit".ljust(length))
-            checks.equal(f"{length} characters", answer, 'ev=bad ans=3 says="the line is too long"')
-        checks.check("a message of 1,025 octets", worked.press("send 0 " + "00" * 1025).startswith("ev=send ans=3 "))
-        checks.check("a message of 1,024 octets", worked.press("send 0 " + "00" * 1024).startswith("ev=send ans=6 "))
-        checks.check("a payload of 256 octets", worked.press("command 0 0 " + "00" * 256).startswith("ev=command ans=3 "))
-        checks.check("33 parameters", worked.press("found 1 4 0 2 " + "00" * 33).startswith("ev=air ans=3 "))
-        checks.check("a read of 258 octets", worked.press("read " + "00" * 258).startswith("ev=read ans=0 drop=0 "))
-        checks.check("a read of 259 octets", worked.press("read " + "00" * 259).startswith("ev=read ans=3 "))
-    checks.equal("no line feed at the end", fed([KEYS], b"card 8")[0], 'ev=card ans=0 says="8: there is nothing to move"\n')
-    checks.equal("no line", fed([KEYS], b""), ("", "", 0))
+            suite.equal(f"{length} characters", answer, 'ev=bad ans=3 says="the line is too long"')
+        suite.holds("a message of 1,025 octets", worked.press("send 0 " + "00" * 1025).startswith("ev=send ans=3 "))
+        suite.holds("a message of 1,024 octets", worked.press("send 0 " + "00" * 1024).startswith("ev=send ans=6 "))
+        suite.holds("a payload of 256 octets", worked.press("command 0 0 " + "00" * 256).startswith("ev=command ans=3 "))
+        suite.holds("33 parameters", worked.press("found 1 4 0 2 " + "00" * 33).startswith("ev=air ans=3 "))
+        suite.holds("a read of 258 octets", worked.press("read " + "00" * 258).startswith("ev=read ans=0 drop=0 "))
+        suite.holds("a read of 259 octets", worked.press("read " + "00" * 259).startswith("ev=read ans=3 "))
+    suite.equal("no line feed at the end", fed([KEYS], b"card 8")[0], 'ev=card ans=0 says="8: there is nothing to move"\n')
+    suite.equal("no line", fed([KEYS], b""), ("", "", 0))
 
 
 # ---- any octets
@@ -420,13 +404,13 @@ def any_octets(count):
     return lines
 
 
-def check_any(checks, name, program, count):
+def check_any(suite, name, program, count):
     out, complaints, status = fed(program, b"\n".join(any_octets(count)))
-    checks.equal(f"{name}, exit status", (complaints, status), ("", 0))
+    suite.equal(f"{name}, exit status", (complaints, status), ("", 0))
     lines = out.splitlines()
-    checks.equal(f"{name}, number of answers", len(lines), count)
+    suite.equal(f"{name}, number of answers", len(lines), count)
     wrong = [line for line in lines if not LINE.fullmatch(line)]
-    checks.equal(f"{name}, lines of another form", wrong[:3], [])
+    suite.equal(f"{name}, lines of another form", wrong[:3], [])
 
 
 def compiled(command):
@@ -435,46 +419,45 @@ def compiled(command):
     return done.stderr, done.returncode
 
 
-def check_compilers(checks, folder):
+def check_compilers(suite, folder):
     for compiler in filter(shutil.which, ("gcc", "clang")):
         for source in SOURCES:
             complaints, status = compiled([compiler, *STRICT, "-O2", "-c", source, "-o", folder / "object"])
-            checks.equal(f"{compiler} {source.name}", (complaints, status), ("", 0))
+            suite.equal(f"{compiler} {source.name}", (complaints, status), ("", 0))
 
 
-def check_sanitized(checks, folder):
+def check_sanitized(suite, folder):
     program = folder / "keys"
     sanitizers = ["-g", "-fsanitize=address,undefined", "-fno-sanitize-recover=all"]
     for compiler in filter(shutil.which, ("gcc", "clang")):
         complaints, status = compiled([compiler, *STRICT, *sanitizers, *SOURCES, LIBRARY, "-o", program])
         if status == 0:
-            check_any(checks, f"{compiler} with sanitizers", [program], 20000)
+            check_any(suite, f"{compiler} with sanitizers", [program], 20000)
         elif "asan" not in complaints:
             # a compiler without its sanitizers' library is not at hand
-            checks.equal(f"{compiler} with sanitizers", complaints, "")
+            suite.equal(f"{compiler} with sanitizers", complaints, "")
     if shutil.which("valgrind"):
-        check_any(checks, "valgrind", ["valgrind", "-q", "--error-exitcode=9", KEYS], 2000)
+        check_any(suite, "valgrind", ["valgrind", "-q", "--error-exitcode=9", KEYS], 2000)
 
 
 def main():
-    checks = Checks()
+    suite = Suite("front")
     if sys.argv[1:] != ["--built"]:
-        checks.equal("front/build", subprocess.run([ROOT / "front" / "build"]).returncode, 0)
+        suite.equal("front/build", subprocess.run([ROOT / "front" / "build"]).returncode, 0)
     card = read_card()
-    check_session(checks, terminal=True)
-    check_session(checks, terminal=False)
-    check_lists(checks, card)
-    check_card(checks, card)
-    check_help(checks)
-    check_no_keys(checks)
-    check_lengths(checks)
-    check_any(checks, "any octets", [KEYS], 50000)
+    check_session(suite, terminal=True)
+    check_session(suite, terminal=False)
+    check_lists(suite, card)
+    check_card(suite, card)
+    check_help(suite)
+    check_no_keys(suite)
+    check_lengths(suite)
+    check_any(suite, "any octets", [KEYS], 50000)
     with tempfile.TemporaryDirectory() as folder:
-        check_forged(checks, Path(folder))
-        check_compilers(checks, Path(folder))
-        check_sanitized(checks, Path(folder))
-    print(f"front: {checks.passed} passed, {checks.failed} failed")
-    return 1 if checks.failed else 0
+        check_forged(suite, Path(folder))
+        check_compilers(suite, Path(folder))
+        check_sanitized(suite, Path(folder))
+    return suite.end()
 
 
 if __name__ == "__main__":

@@ -13,7 +13,8 @@ import tempfile
 from concurrent.futures import ThreadPoolExecutor
 from pathlib import Path
 
-ROOT = Path(__file__).resolve().parent.parent
+from programs import ROOT, Suite
+
 HEADER = ROOT / "include" / "nci_bench.h"
 CARD = ROOT / "docs" / "CARD.md"
 C = ROOT / "tests" / "c"
@@ -238,22 +239,24 @@ def tests(folder):
     yield "damaged benches", damaged
 
 
-def attempt(name, test):
+def attempt(named):
+    """A test's name, and what stopped it."""
+    name, test = named
     try:
         test()
-        return True
+        return name, []
     except Exception as fault:  # whatever stops a test, the others go on
-        print(f"{name}: failed: {type(fault).__name__}: {fault}")
-        return False
+        return name, [f"{type(fault).__name__}: {fault}"]
 
 
 def main():
     print(run(ROOT / "library"), end="")
     cargo("build", "--bins")
+    suite = Suite("interface")
     with tempfile.TemporaryDirectory() as folder, ThreadPoolExecutor(os.cpu_count()) as pool:
-        results = list(pool.map(lambda test: attempt(*test), tests(Path(folder))))
-    print(f"interface: {sum(results)} passed, {len(results) - sum(results)} failed")
-    return 0 if all(results) else 1
+        for name, wrong in pool.map(attempt, tests(Path(folder))):
+            suite.check(name, wrong)
+    return suite.end()
 
 
 if __name__ == "__main__":

@@ -13,29 +13,29 @@ import sys
 import textwrap
 from collections import Counter
 
+import refusals
 from programs import ROOT, Suite, output, second
 
 LISTS = ROOT / "tests" / "data" / "lists.txt"
 STATEMENTS = ROOT / "crates" / "opinions" / "proofs" / "Lists.antt"
 WIDTH = 120
 
-# of each call of the model: its single octets, whether octets of any number follow them, and the refusals that papers have to
-# meet, in their order. 1 and 2 are about areas, which the model does not have.
+# of each call of the model: its single octets, and whether octets of any number follow them
 CALLS = {
-    "fresh": (0, True, [3]),
-    "power": (0, False, []),
-    "command": (2, True, [3, 4, 5]),
-    "send": (1, True, [3, 15, 6, 7]),
-    "push": (1, False, [3, 4, 6, 8, 9, 10]),
-    "down": (0, False, [4, 8, 12]),
-    "consume": (1, False, [3, 4, 6, 8]),
-    "credit": (0, False, [4, 8]),
-    "air": (0, True, [3, 4, 7, 11, 14]),
-    "reply": (0, False, [4, 8]),
-    "up": (0, False, [8]),
-    "report": (1, False, [3, 6]),
+    "fresh": (0, True),
+    "power": (0, False),
+    "command": (2, True),
+    "send": (1, True),
+    "push": (1, False),
+    "down": (0, False),
+    "consume": (1, False),
+    "credit": (0, False),
+    "air": (0, True),
+    "reply": (0, False),
+    "up": (0, False),
+    "report": (1, False),
 }
-READ = {"read": (0, True, [3])}
+READ = {"read": (0, True)}
 # what read is to meet: packets with reserved bits at 1, and a drop
 READS = ("control", "data", "drop")
 # octets of a profile
@@ -61,7 +61,7 @@ class Call:
         if not call or not answer or call[1] != answer[1] or call[1] not in CALLS | READ:
             raise SystemExit(f"not a call and its answer:\n{asked}\n{answered}")
         self.name, argument = call[1], bytes.fromhex(call[2])
-        singles, more, _ = (CALLS | READ)[self.name]
+        singles, more = (CALLS | READ)[self.name]
         self.singles, self.octets = argument[:singles], argument[singles:] if more else None
         if len(self.singles) < singles or (len(argument) > singles and not more):
             raise SystemExit(f"octets missing or to spare:\n{asked}")
@@ -107,10 +107,12 @@ def read_kind(call):
 
 def missing(papers):
     """Calls never taken, refusals that a call never met, numbers of credits that no data packet carried up, numbers of
-    octets that no profile had, taken or refused, and what read never met."""
+    octets that no profile had, taken or refused, and what read never met. Refusals 1 and 2 are about areas, which the model
+    does not have."""
     calls = [call for paper in papers for call in paper.calls]
     met = Counter((call.name, call.answer) for call in calls)
-    due = [(name, answer) for name, (_, _, refusals) in (CALLS | READ).items() for answer in [0, *refusals]]
+    table = refusals.load()
+    due = [(name, answer) for name in CALLS | READ for answer in [0, *refusals.own(table[name])]]
     carried = {call.packets[1] for call in calls if call.name in ("consume", "reply") and call.packets}
     profiles = {(len(call.octets), call.answer) for call in calls if call.name == "fresh"}
     unmet = sorted({(n, answer) for n in PROFILES for answer in (0, 3)} - profiles)

@@ -1,5 +1,4 @@
-"""What the suites that run programs share: where the programs are, the count of what was run, and groups of lines through a
-program."""
+"""What the suites share: the count of what was run, where programs are, and groups of lines through a program."""
 import os
 import subprocess
 from itertools import zip_longest
@@ -34,7 +33,7 @@ def output(program, octets):
 
 
 class Suite:
-    """Counts what was run: a test passed where nothing was found wrong."""
+    """Counts what was run: a test passed where nothing was found wrong. Every suite in Python counts here, in one thread."""
 
     def __init__(self, name):
         self.name, self.passed, self.failed = name, 0, 0
@@ -48,6 +47,13 @@ class Suite:
             print(f"{what}: {', '.join(words)}")
         for text in wrong[:TOLD]:
             print(f"  {text}")
+
+    def holds(self, what, good, seen="not so"):
+        """A test of yes or no; `seen` tells what there was instead."""
+        self.check(what, [] if good else [seen])
+
+    def equal(self, what, got, due):
+        self.holds(what, got == due, f"{got!r}, expected\n  {due!r}")
 
     def end(self):
         """The suite's last line, and its exit status."""

@@ -31,7 +31,7 @@ use Rattle.model.proofs.Never.{answer-first, kept-within}
 use Rattle.calls.specs.Word.{answerIn, downIn, upIn}
 use Rattle.calls.specs.Outcome.{Outcome, outcome, decided, entryRules, lowest}
 use Rattle.calls.specs.Seen.{Puts, noPuts, putsAfter, seenBy}
-use Rattle.calls.specs.Refines.{Good, Along, Refines}
+use Rattle.calls.specs.Refines.{Good, Along, Refines, AllRefine}
 use Rattle.calls.specs.calls.Fresh.{roomRules, freshed, freshCall}
 use Rattle.calls.specs.calls.Power.{powerCall}
 use Rattle.calls.specs.calls.Command.{commandCall}
@@ -60,7 +60,7 @@ use Rattle.calls.proofs.Report.{report-refines}
 
 -- ---- every call is the model's step
 
-pub all-refine : (c : Call) (q : Puts) (a out : Octets) → Octal (slice c) → Good a → messageSize ≤ length out → Along q a → Refines c q a (perform c a out)
+pub all-refine : AllRefine
 all-refine (fresh m) q a out v g room al = fresh-refines m q a out g room al
 all-refine power q a out v g room al = power-refines a out g q room al
 all-refine (command gid oid m) q a out v g room al = command-refines gid oid m q a out v g room al
@@ -219,10 +219,9 @@ module _ (c : ℕ) (a : Octets) (p : Puts) (o : Account) (s : Stands a p o) wher
     unfolding step
     same-numbers = ap front (sym (ap (λ (r : Result). judged r (report c) (viewOf a) .effect .message) none-applies) ∙ claimed .numbers h)
 
-    reports : (out : Octets) → messageSize ≤ length out → splice out 0 (reportOf c (viewOf a)) ≡ reportCall a out c .out
+    reports : (out : Octets) → messageSize ≤ length out → reported (decodeOf a) c a out ≡ reportCall a out c
     unfolding reportCall
     reports out room =
-        ap (λ (x : Outcome). x .out)
         (called-own (reportRules c (viewOf a)) (reported (decodeOf a) c a out) a out taken (enters a (length out) (s .good .long) (s .good .judged) room) none-applies)
 
   octet-claim : OctetClaim c a o
@@ -230,9 +229,11 @@ module _ (c : ℕ) (a : Octets) (p : Puts) (o : Account) (s : Stands a p o) wher
   octet-claim =
       record {
         taken-if-open = λ out room. (λ h. claimed .taken-if-open .0 (sym (same-answer out room) ∙ h), λ h. same-answer out room ∙ claimed .taken-if-open .1 h);
+        word = λ out room h. ap (λ (x : Outcome). x .word) (sym (reports h out room));
+        still = λ out room h. ap (λ (x : Outcome). x .area) (sym (reports h out room));
         numbers =
-            λ out room h. ap (take 5) (sym (reports h out room)) ∙ cut-same out 0 (reportOf c (viewOf a)) (omega (arith, room)) ∙ same-numbers h;
-        rest = λ out room h. ap (drop 5) (sym (reports h out room)) ∙ drop-splice out 0 (reportOf c (viewOf a)) 5 (omega arith);
+            λ out room h. ap (λ (x : Outcome). take 5 (x .out)) (sym (reports h out room)) ∙ cut-same out 0 (reportOf c (viewOf a)) (omega (arith, room)) ∙ same-numbers h;
+        rest = λ out room h. ap (λ (x : Outcome). drop 5 (x .out)) (sym (reports h out room)) ∙ drop-splice out 0 (reportOf c (viewOf a)) 5 (omega arith);
         account = claimed .account;
       }
 

@@ -27,9 +27,9 @@ use Rattle.wires.proofs.Slots.{read-slot}
 use Rattle.wires.proofs.Counting.{dataOne}
 use Rattle.wires.proofs.Counted.{data-same, counted-same}
 use Rattle.wires.proofs.Same.{same-up}
-use Rattle.record.specs.Layout.{slot}
+use Rattle.record.specs.Layout.{recordOctets}
 use Rattle.record.specs.Reading.{decodeOf}
-use Rattle.record.proofs.Outside.{record-by-slot, judged-by-slot}
+use Rattle.record.proofs.Outside.{record-by-octets, judged-by-octets}
 use Rattle.views.specs.View.{downOf, upOf, view, viewOf}
 use Rattle.model.specs.Connection.{owedOn}
 use Rattle.model.specs.Effects.{Result, taken, refused}
@@ -82,12 +82,12 @@ module _ (a b out : Octets) (c : ℕ) (same : length a ≡ length b) (agree : (k
   abbrev r : Record
   r = decodeOf a
 
-  record-agrees : slot a ≡ slot b
-  unfolding slot
+  record-agrees : recordOctets a ≡ recordOctets b
+  unfolding recordOctets
   record-agrees = cut-agree recordAt recordRoom a b same (λ i h. agree (recordAt + i) (in-record (omega arith) (omega arith)))
 
   decoded : decodeOf a ≡ decodeOf b
-  decoded = record-by-slot a b record-agrees
+  decoded = record-by-octets a b record-agrees
 
   down-agrees : dataCount c (downOf a r) ≡ dataCount c (downOf b r)
   unfolding packetsFrom dataCount
@@ -131,7 +131,7 @@ module _ (a b out : Octets) (c : ℕ) (same : length a ≡ length b) (agree : (k
   rules-agree : entryRules a (length out) ++ reportRules c (viewOf a) ≡ entryRules b (length out) ++ reportRules c (viewOf b)
   rules-agree =
       λ i.
-      rule 2 (ltb (same i) areaSize) ∷ rule 1 (not (judged-by-slot a b record-agrees i)) ∷ rule 2 (ltb (length out) messageSize)
+      rule 2 (ltb (same i) areaSize) ∷ rule 1 (not (judged-by-octets a b record-agrees i)) ∷ rule 2 (ltb (length out) messageSize)
       ∷ rule 3 (noConn c) ∷ rule 6 (not (countsOf (decoded i .ends .conns) c .controller .opened)) ∷ []
 
   answered : (t : Result) (x y : Octets) → x ≡ y → SameAnswer (decided t (outcome reportedWord a x) a out) (decided t (outcome reportedWord b y) b out)

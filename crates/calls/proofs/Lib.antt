@@ -41,3 +41,4 @@ pub mod Played
 pub mod Discards
 pub mod Profiles
 pub mod Headers
+pub mod Kept

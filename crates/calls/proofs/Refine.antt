@@ -45,7 +45,7 @@ module _ (n : ℕ) (s : small n ≡ true) where
   below : n < 256
   below = ltb-true n 256 (and-right (ltb 0 n) (ltb n 256) s)
 
-  refusal-answer : answerIn n ≡ refused n
+  pub refusal-answer : answerIn n ≡ refused n
   unfolding answerIn
   refusal-answer =
       let e : n % 256 ≡ n = omega (arith, below) in
@@ -56,7 +56,7 @@ module _ (n : ℕ) (s : small n ≡ true) where
   unfolding droppedIn
   refusal-dropped = let e : n / 256 % 2 ≡ 0 = omega (arith, below) in rw e
 
-  refusal-handed : handedIn n ≡ false
+  pub refusal-handed : handedIn n ≡ false
   unfolding handedIn
   refusal-handed = let e : n / 512 % 2 ≡ 0 = omega (arith, below) in rw e
 

@@ -4,7 +4,7 @@
 use Prim.Native.Nat.{ℕ, _≤_}
 use mathlib.Core.Path.{_≡_}
 use mathlib.Core.Logic.{_↔_}
-use mathlib.Core.Bool.{true}
+use mathlib.Core.Bool.{true, false}
 use mathlib.Core.List.{List, [], _∷_}
 use lib.ListN.{length, take, drop}
 use Rattle.octets.specs.Octets.{Octets}
@@ -13,7 +13,7 @@ use Rattle.area.specs.Map.{messageSize}
 use Rattle.model.specs.Effects.{Call, fresh, power, command, send, push, down, consume, credit, air, reply, up, report, taken}
 use Rattle.model.specs.Observer.{Event, Account, opening, observed}
 use Rattle.model.specs.Claim.{numbersOf, Conserved}
-use Rattle.calls.specs.Word.{answerIn}
+use Rattle.calls.specs.Word.{wordOf, answerIn}
 use Rattle.calls.specs.Outcome.{Outcome}
 use Rattle.calls.specs.Seen.{Puts, noPuts, putsAfter, seenBy}
 use Rattle.calls.specs.calls.Fresh.{freshCall}
@@ -105,6 +105,9 @@ EveryRun P =
 pub record OctetClaim (c : ℕ) (a : Octets) (o : Account) : Type 0 where
   -- "report is taken exactly for the connections open at the controller"
   pub taken-if-open : (out : Octets) → messageSize ≤ length out → (answerIn (reportCall a out c .word) ≡ taken) ↔ (o .ledger c .controller .opened ≡ true)
+  -- its word says: taken, no drop, a message of five octets, no packet put, no reserved bit; and the area is as it was
+  pub word : (out : Octets) → messageSize ≤ length out → o .ledger c .controller .opened ≡ true → reportCall a out c .word ≡ wordOf false true 5 0 0
+  pub still : (out : Octets) → messageSize ≤ length out → o .ledger c .controller .opened ≡ true → reportCall a out c .area ≡ a
   -- "its five numbers are those counted from the calls": they are the first octets of the buffer, and the rest of it is as it was
   pub numbers : (out : Octets) → messageSize ≤ length out → o .ledger c .controller .opened ≡ true → take 5 (reportCall a out c .out) ≡ numbersOf c o
   pub rest : (out : Octets) → messageSize ≤ length out → o .ledger c .controller .opened ≡ true → drop 5 (reportCall a out c .out) ≡ drop 5 out

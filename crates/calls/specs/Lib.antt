@@ -14,3 +14,4 @@ pub mod Discards
 pub mod Profiles
 pub mod Headers
 pub mod Reserved
+pub mod Kept

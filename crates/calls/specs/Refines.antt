@@ -7,7 +7,7 @@ use lib.ListN.{length}
 use Rattle.octets.specs.Octets.{Octets}
 use Rattle.octets.specs.Octal.{Octal}
 use Rattle.calls.specs.Kinds.{Ring}
-use Rattle.area.specs.Map.{areaSize, wireSlots}
+use Rattle.area.specs.Map.{areaSize, messageSize, wireSlots}
 use Rattle.record.specs.Reading.{decodeOf}
 use Rattle.record.specs.Judge.{judgeOf}
 use Rattle.views.specs.View.{viewOf}
@@ -19,6 +19,7 @@ use Rattle.model.specs.Observer.{eventOf}
 use Rattle.calls.specs.Word.{downIn, upIn}
 use Rattle.calls.specs.Outcome.{Outcome}
 use Rattle.calls.specs.Seen.{Puts, putsAfter, seenBy}
+use Rattle.calls.specs.Demand.{perform, slice}
 
 -- an area of octets, long enough, with a record that row 1 lets pass
 pub record Good (a : Octets) : Type 0 where
@@ -50,3 +51,7 @@ pub record RefinesTo (c : Call) (p : Puts) (o : Outcome) (m : model.Outcome) : T
 
 abbrev pub Refines : Call → Puts → Octets → Outcome → Type 0
 Refines c p a o = RefinesTo c p o (step c (viewOf a))
+
+-- each of the twelve calls on octets is the model's step: on every area with a good record, whether calls made it or not, with room in the buffer for a message
+abbrev pub AllRefine : Type 0
+AllRefine = (c : Call) (p : Puts) (a out : Octets) → Octal (slice c) → Good a → messageSize ≤ length out → Along p a → Refines c p a (perform c a out)

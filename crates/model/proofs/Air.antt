@@ -28,7 +28,7 @@ use Rattle.ends.specs.Changes.{Change, stays, opens, changeAired}
 use Rattle.model.specs.Changes.{atController}
 use Rattle.model.specs.calls.Air.{airingAs, airing}
 use Rattle.model.specs.Bench.{rules}
-use Rattle.model.specs.Observer.{Ledger, spokenL, airedL, shown}
+use Rattle.model.specs.Observer.{Ledger, spokenL, airedL, putsUp}
 use Rattle.model.specs.invariant.Items.{itemsBy, itemsOf, segsOf, putsL}
 use Rattle.model.specs.invariant.Commands.{replies}
 use Rattle.model.specs.invariant.Bench.{Fine, Kept, Keeps, GoodAt, Sound, accountOf}
@@ -163,7 +163,7 @@ module _ (s : State) (aim : ℕ) (l : ℕ → Ledger) (ps : List Octets) (a : Ai
   aired-next : State
   aired-next = withUp (s .up ++ ps) (withControllerState k (withConns (λ d. withController (atController (change d) (s .conns d .controller)) (s .conns d)) s))
 
-  aired-keeps : Kept aired-next (shown ps (accountOf s aim l))
+  aired-keeps : Kept aired-next (putsUp ps (accountOf s aim l))
   unfolding change aired-next
   aired-keeps =
       kept
@@ -190,11 +190,12 @@ module _ (s : State) (aim : ℕ) (l : ℕ → Ledger) (ps : List Octets) (a : Ai
 speaks-keeps : (s : State) (aim : ℕ) (l : ℕ → Ledger) (m : Octets) → length m ≤ dataLimit
     → isActive (s .controller .rf) ≡ true → s .conns 0 .controller .speech ≡ [] → Fine s aim l
     → Kept (withUp (s .up ++ []) (withConns (at 0 (λ k. withController (spoken (segments 255 m) (k .controller)) k) (s .conns)) s))
-    (shown [] (record { down = s .down; up = s .up; aim = aim; ledger = at 0 (spokenL m) l }))
+    (putsUp [] (record { down = s .down; up = s .up; aim = aim; ledger = at 0 (spokenL m) l; stray = [] }))
 speaks-keeps s aim l m short active silent f =
     record {
       same-down = refl;
       same-up = refl;
+      none-astray = refl;
       fine =
           record {
             good =
@@ -220,7 +221,7 @@ module _ (s : State) (aim : ℕ) (l : ℕ → Ledger) (m : Octets) (f : Fine s a
   e = eventOf m
 
   abbrev Aims : Aired → Type 0
-  Aims a = Kept (airingAs e a m s .next) (shown (noticePackets (airMessage (s .profile) e m)) (record { down = s .down; up = s .up; aim = aim; ledger = airedL m l }))
+  Aims a = Kept (airingAs e a m s .next) (putsUp (noticePackets (airMessage (s .profile) e m)) (record { down = s .down; up = s .up; aim = aim; ledger = airedL m l; stray = [] }))
 
   -- where an activation comes, both wires are empty and connection 0 is closed
   empty-wires : activates e ≡ true → (activates e && (not (isNil (s .down)) || not (isNil (s .up)))) ≡ false → (s .down ≡ []) × (s .up ≡ [])
@@ -242,8 +243,8 @@ module _ (s : State) (aim : ℕ) (l : ℕ → Ledger) (m : Octets) (f : Fine s a
       (λ d. tt) d
 
   other : isBad e ≡ false → isEndpoint e ≡ false → (ps : List Octets) {n : State}
-      → Kept n (shown ps (accountOf s aim l))
-      → Kept n (shown ps (record { down = s .down; up = s .up; aim = aim; ledger = airedL m l }))
+      → Kept n (putsUp ps (accountOf s aim l))
+      → Kept n (putsUp ps (record { down = s .down; up = s .up; aim = aim; ledger = airedL m l; stray = [] }))
   other b n ps h = rw (kind-other m e (event-within m) b n) h
 
   items : (a : Aired) → airing s m ≡ a → isRefused a ≡ false → (d : ℕ)

@@ -31,9 +31,9 @@ use Rattle.model.specs.calls.Consume.{isLoop, echoed, consuming, consume
 use Rattle.model.specs.calls.Credit.{owedBy, allZero}
 use Rattle.model.specs.calls.Reply.{replying}
 use Rattle.model.specs.Bench.{rules}
-use Rattle.model.specs.Observer.{Account, Ledger, putBy, consumedL, seen, eventOf, shown}
+use Rattle.model.specs.Observer.{Account, Ledger, putBy, consumedL, eventOf, putsUp}
 use Rattle.model.specs.invariant.Items.{loaded, itemsBy, itemsOf, segsOf}
-use Rattle.model.specs.invariant.Bench.{accountOf, Fine, Kept, Keeps, GoodAt, StoredFor, StoredIn}
+use Rattle.model.specs.invariant.Bench.{accountOf, Fine, Kept, Keeps, GoodAt, StoredFor, StoredIn, tallied}
 use Rattle.model.proofs.Cases.{clash, each}
 use Rattle.model.proofs.Needs.{need}
 use Rattle.model.proofs.Link.{owed-le}
@@ -100,7 +100,7 @@ module _ (s : State) (aim : ℕ) (l : ℕ → Ledger) (c : ℕ) (p : Octets) (st
       meaning-carrying back p c m x means ∙ ap (λ (n : ℕ). datum c n x) small
 
   counted : List Octets → Account
-  counted ps = shown ps (record { down = s .down; up = s .up; aim = aim; ledger = at c (consumedL whole) l })
+  counted ps = putsUp ps (record { down = s .down; up = s .up; aim = aim; ledger = at c (consumedL whole) l; stray = [] })
 
   looped : isLoop c ≡ true → Kept (next (λ k. paid (eaten k)) (returned ∷ [])) (counted (returned ∷ []))
   unfolding eaten back whole next counted
@@ -143,7 +143,7 @@ module _ (s : State) (aim : ℕ) (l : ℕ → Ledger) (c : ℕ) (p : Octets) (st
         limits = f .limits;
       })
 
-  consumed-fine : Kept (consumedAs c (x ∷ []) p st s .next) (seen (consume c) (eventOf (consume c) (record { answer = taken; effect = consumedAs c (x ∷ []) p st s })) (accountOf s aim l))
+  consumed-fine : Kept (consumedAs c (x ∷ []) p st s .next) (tallied (consume c) (eventOf (consume c) (record { answer = taken; effect = consumedAs c (x ∷ []) p st s })) (accountOf s aim l))
   unfolding eaten back whole next returned counted
   consumed-fine = go (isLoop c) refl
     where
@@ -188,12 +188,12 @@ module _ (s : State) (aim : ℕ) (l : ℕ → Ledger) where
       open-here = not-false _ (need 6 (rules (consume c) s) t)
 
       go : (st : List Octets) → s .conns c .controller .store ≡ st
-          → Kept (consuming c st s .next) (seen (consume c) (eventOf (consume c) (record { answer = taken; effect = consuming c st s })) (accountOf s aim l))
+          → Kept (consuming c st s .next) (tallied (consume c) (eventOf (consume c) (record { answer = taken; effect = consuming c st s })) (accountOf s aim l))
       go [] e = clash (ap isNil e) (need 8 (rules (consume c) s) t)
       go (p ∷ st) e = with-meaning (meaning p) refl (rw e at (f .standing .stores c) .0)
         where
           with-meaning : (q : Meaning) → meaning p ≡ q → StoredIn c q
-              → Kept (consumedAs c (segmentIn q) p st s .next) (seen (consume c) (eventOf (consume c) (record { answer = taken; effect = consumedAs c (segmentIn q) p st s })) (accountOf s aim l))
+              → Kept (consumedAs c (segmentIn q) p st s .next) (tallied (consume c) (eventOf (consume c) (record { answer = taken; effect = consumedAs c (segmentIn q) p st s })) (accountOf s aim l))
           with-meaning (datum b n x) m h = consumed-fine s aim l c p st n x open-here e (m ∙ ap (λ (a : ℕ). datum a n x) h) f
           with-meaning (control mt gid oid x) m h = absurd h
           with-meaning junk m h = absurd h
@@ -235,7 +235,7 @@ module _ (s : State) (aim : ℕ) (l : ℕ → Ledger) where
       open-here x h e false z = absurd (cons≢nil (sym e ∙ f .good 0 .pipes .speech z))
 
       go : (h : List Segment) → s .conns 0 .controller .speech ≡ h
-          → Kept (replying h s .next) (seen reply (eventOf reply (record { answer = taken; effect = replying h s })) (accountOf s aim l))
+          → Kept (replying h s .next) (tallied reply (eventOf reply (record { answer = taken; effect = replying h s })) (accountOf s aim l))
       go [] e = clash (ap isNil e) (need 8 (rules reply s) t)
       go (x ∷ h) e =
           kept

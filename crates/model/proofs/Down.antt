@@ -19,10 +19,10 @@ use Rattle.model.specs.Effects.{Effect, taken, down}
 use Rattle.model.specs.Refusals.{isNil}
 use Rattle.model.specs.calls.Down.{answering, asked, arriving, takingDown, needsTwo}
 use Rattle.model.specs.Bench.{rules}
-use Rattle.model.specs.Observer.{Ledger, Account, arrivedL, arrival, shown, seen, eventOf}
+use Rattle.model.specs.Observer.{Ledger, Account, arrivedL, arrival, putsUp, eventOf}
 use Rattle.model.specs.invariant.Items.{itemsOf, segsIn, segsOf}
 use Rattle.model.specs.invariant.Commands.{named, headsIn, heads, ordersIn, replies, NoDatum, Tidy}
-use Rattle.model.specs.invariant.Bench.{Order, Fine, Kept, Keeps, GoodAt, accountOf}
+use Rattle.model.specs.invariant.Bench.{Order, Fine, Kept, Keeps, GoodAt, accountOf, tallied}
 use Rattle.model.proofs.Cases.{clash, each, right-nil}
 use Rattle.model.proofs.Needs.{need}
 use Rattle.model.proofs.Acts.{deliver-good, drop-good}
@@ -33,7 +33,7 @@ use Rattle.model.proofs.DownAnswer.{Behind, decided-keeps}
 
 -- what is seen of a packet that the controller takes
 abbrev counted : List Octets → State → ℕ → (ℕ → Ledger) → Meaning → List Octets → Account
-counted w s aim l q ps = shown ps (record { down = w; up = s .up; aim = aim; ledger = λ d. arrival d q (l d) })
+counted w s aim l q ps = putsUp ps (record { down = w; up = s .up; aim = aim; ledger = λ d. arrival d q (l d); stray = [] })
 
 module _ (s : State) (aim : ℕ) (l : ℕ → Ledger) (p : Octets) (w : List Octets) (f : Fine (withDown (p ∷ w) s) aim l) where
   -- ---- a packet that is nothing to the controller
@@ -52,6 +52,7 @@ module _ (s : State) (aim : ℕ) (l : ℕ → Ledger) (p : Octets) (w : List Oct
       record {
         same-down = refl;
         same-up = append-nil (s .up);
+        none-astray = refl;
         fine =
             record {
               good = λ d. rw (i .counts d (l d)) (rw (means, i .segs d) at (f .good d));
@@ -107,6 +108,7 @@ module _ (s : State) (aim : ℕ) (l : ℕ → Ledger) (p : Octets) (w : List Oct
         record {
           same-down = refl;
           same-up = append-nil (s .up);
+          none-astray = refl;
           fine =
               record {
                 good =
@@ -131,6 +133,7 @@ module _ (s : State) (aim : ℕ) (l : ℕ → Ledger) (p : Octets) (w : List Oct
         record {
           same-down = refl;
           same-up = append-nil (s .up);
+          none-astray = refl;
           fine =
               record {
                 good =
@@ -166,6 +169,7 @@ module _ (s : State) (aim : ℕ) (l : ℕ → Ledger) (p : Octets) (w : List Oct
         record {
           same-down = refl;
           same-up = append-nil (s .up);
+          none-astray = refl;
           fine =
               record {
                 good = λ d. rw means at (f .good d);
@@ -252,6 +256,6 @@ pub down-keeps : (s : State) (aim : ℕ) (l : ℕ → Ledger) → Keeps down s a
 down-keeps s aim l t f = go (s .down) (need 8 (rules down s) t) f
   where
     go : (w : List Octets) → isNil w ≡ false → Fine (withDown w s) aim l
-        → Kept (takingDown w s .next) (seen down (eventOf down (record { answer = taken; effect = takingDown w s })) (accountOf (withDown w s) aim l))
+        → Kept (takingDown w s .next) (tallied down (eventOf down (record { answer = taken; effect = takingDown w s })) (accountOf (withDown w s) aim l))
     go [] e f = clash refl e
     go (p ∷ w) e f = arriving-keeps s aim l p w f (meaning p) refl

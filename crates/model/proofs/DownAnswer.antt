@@ -32,7 +32,7 @@ use Rattle.model.specs.Refusals.{noConn}
 use Rattle.ends.specs.Changes.{Change, stays, opens, closes, changeBy}
 use Rattle.model.specs.Changes.{atController}
 use Rattle.model.specs.calls.Down.{answers, deciding}
-use Rattle.model.specs.Observer.{Ledger, shown}
+use Rattle.model.specs.Observer.{Ledger, putsUp}
 use Rattle.model.specs.invariant.Items.{putsL, Item, itemsBy, itemsOf, segsOf}
 use Rattle.model.specs.invariant.Commands.{OnItsWay, Name, named, heads, replies, pendingName, NoData}
 use Rattle.model.specs.invariant.Bench.{Aimed, Kept, GoodAt, Sound, Standing, accountOf}
@@ -192,7 +192,7 @@ module _ (s : State) (aim : ℕ) (l : ℕ → Ledger) (gid oid : ℕ) (b : Behin
   verdict-air (verdict.Deactivates type rf) f g = g .1
 
   pub decided-keeps : (v : Verdict) → Fits gid oid aim (s .profile) v → Legal (s .controller .rf) (isOpen s) v
-      → Kept (deciding gid oid v s .next) (shown (answers gid oid (s .profile) v) (accountOf s aim l))
+      → Kept (deciding gid oid v s .next) (putsUp (answers gid oid (s .profile) v) (accountOf s aim l))
   decided-keeps v f g =
       kept
       record {

@@ -35,7 +35,7 @@ use Rattle.state.specs.Profile.{ProfileWithin}
 
 -- where the wires are the same by computation
 pub kept : {s : State} {aim : ℕ} {l : ℕ → Ledger} → Fine s aim l → Kept s (accountOf s aim l)
-kept f = record { same-down = refl; same-up = refl; fine = f }
+kept f = record { same-down = refl; same-up = refl; none-astray = refl; fine = f }
 
 -- ---- changes and items
 

@@ -23,10 +23,10 @@ use Rattle.model.specs.Refusals.{isNil, noConn}
 use Rattle.dh.specs.Host.{isClosing}
 use Rattle.model.specs.calls.Push.{pushing}
 use Rattle.model.specs.Bench.{rules}
-use Rattle.model.specs.Observer.{Ledger, sentL, pushedL, seen, eventOf}
+use Rattle.model.specs.Observer.{Ledger, sentL, pushedL, eventOf}
 use Rattle.model.specs.invariant.Items.{itemsOf, segsOf}
 use Rattle.model.specs.invariant.Commands.{heads, replies}
-use Rattle.model.specs.invariant.Bench.{accountOf, Kept, Keeps, GoodAt}
+use Rattle.model.specs.invariant.Bench.{accountOf, Kept, Keeps, GoodAt, tallied}
 use Rattle.model.proofs.Cases.{clash, each, nil-of, left-nil, right-nil}
 use Rattle.model.proofs.Needs.{need}
 use Rattle.model.proofs.Link.{credit-left}
@@ -138,7 +138,7 @@ module _ (s : State) (aim : ℕ) (l : ℕ → Ledger) where
           (rw (held-open, e) at (f .good c .numbers .phase))
 
       go : (h : List Segment) → s .conns c .host .hand ≡ h
-          → Kept (pushing c h s .next) (seen (push c) (eventOf (push c) (record { answer = taken; effect = pushing c h s })) (accountOf s aim l))
+          → Kept (pushing c h s .next) (tallied (push c) (eventOf (push c) (record { answer = taken; effect = pushing c h s })) (accountOf s aim l))
       go [] e = clash (ap isNil e) (need 8 (rules (push c) s) t)
       go (x ∷ h) e =
           kept

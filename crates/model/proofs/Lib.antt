@@ -18,6 +18,7 @@ pub mod DownAnswer
 pub mod Down
 pub mod Air
 pub mod Up
+pub mod Seen
 pub mod Trace
 pub mod Always
 pub mod Never

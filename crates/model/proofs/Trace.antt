@@ -25,6 +25,7 @@ use Rattle.model.specs.invariant.Items.{itemsOf, segsOf}
 use Rattle.model.specs.invariant.Link.{figures, Balance}
 use Rattle.model.specs.invariant.Bench.{Fine, Kept, Keeps, accountOf}
 use Rattle.model.proofs.Cases.{clash}
+use Rattle.model.proofs.Seen.{seen-tallied}
 use Rattle.model.proofs.Link.{held-counted, held-shown, stored-counted, owed-counted}
 use Rattle.model.proofs.Meanings.{dataCount-segs, creditsUp-items}
 use Rattle.state.proofs.Limits.{profile-limits}
@@ -53,7 +54,7 @@ call-keeps (report c) s aim l = report-keeps s aim l c
 
 -- an account whose wires are the bench's is that of the bench
 pub same-account : (s : State) (o : Account) → Kept s o → o ≡ accountOf s (o .aim) (o .ledger)
-same-account s o k = λ i. record { down = k .same-down i; up = k .same-up i; aim = o .aim; ledger = o .ledger }
+same-account s o k = λ i. record { down = k .same-down i; up = k .same-up i; aim = o .aim; ledger = o .ledger; stray = k .none-astray i }
 
 pub step-keeps : (c : Call) (s : State) (o : Account) → Kept s o → Kept (step c s .effect .next) (observe (eventOf c (step c s)) o)
 unfolding step
@@ -62,7 +63,7 @@ step-keeps c s o k = go (first (rules c s)) refl
     go : (r : Result) → first (rules c s) ≡ r → Kept (judged r c s .effect .next) (observe (eventOf c (judged r c s)) o)
     go taken e =
         subst (λ (x : Account). Kept (act c s .next) (seen c (eventOf c (judged taken c s)) x)) (sym (same-account s o k))
-        (call-keeps c s (o .aim) (o .ledger) e (k .fine))
+        (subst (Kept (act c s .next)) (sym (seen-tallied s (o .aim) (o .ledger) c)) (call-keeps c s (o .aim) (o .ledger) e (k .fine)))
     go (refused n) e = k
 
 calls-keep : (cs : List Call) (s : State) (o : Account) → Kept s o → Kept (after cs s) (observed (events cs s) o)
@@ -173,6 +174,7 @@ module _ (c : ℕ) (s : State) (aim : ℕ) (l : ℕ → Ledger) (f : Fine s aim 
               at-controller = λ e. flow-prefix (f .good c .pipes .toController (open-there e));
               at-host = λ e h. to-host (open-there e) true h;
               at-host-static = λ e h. to-host (open-there e) false h;
+              none-astray = refl;
             };
       }
 

@@ -32,10 +32,10 @@ use Rattle.model.specs.Runs.{runFor, sameRun}
 use Rattle.ends.specs.Changes.{Change, stays, opens, closes, gives, changeHeard}
 use Rattle.model.specs.calls.Up.{understanding, hearing, heard, coming, takingUp}
 use Rattle.model.specs.Bench.{rules}
-use Rattle.model.specs.Observer.{Ledger, Account, givenL, readBy, changeIn, heardAs, seen, eventOf}
+use Rattle.model.specs.Observer.{Ledger, Account, givenL, readBy, changeIn, heardAs, eventOf}
 use Rattle.model.specs.invariant.Items.{loaded, itemsBy, itemsOf, segsOf, readsK}
 use Rattle.model.specs.invariant.Commands.{Name, named, pendingName, replies, heads}
-use Rattle.model.specs.invariant.Bench.{Order, Fine, Kept, Keeps, GoodAt, Aimed, Sound, SoundIn, accountOf}
+use Rattle.model.specs.invariant.Bench.{Order, Fine, Kept, Keeps, GoodAt, Aimed, Sound, SoundIn, accountOf, tallied}
 use Rattle.model.proofs.Cases.{clash, each}
 use Rattle.model.proofs.Needs.{need}
 use Rattle.model.proofs.Phases.{carry-first}
@@ -47,7 +47,7 @@ use Rattle.model.proofs.Fine.{reads-change, readsL-change, standing-sam
 
 -- what is seen of a packet that the host takes
 abbrev counted : List Octets → State → ℕ → (ℕ → Ledger) → Meaning → List Octets → Account
-counted w s aim l q ms = record { down = s .down; up = w; aim = aim; ledger = λ d. heardAs aim d q ms (l d) }
+counted w s aim l q ms = record { down = s .down; up = w; aim = aim; ledger = λ d. heardAs aim d q ms (l d); stray = [] }
 
 module _ (s : State) (aim : ℕ) (l : ℕ → Ledger) (p : Octets) (w : List Octets) (f : Fine (withUp (p ∷ w) s) aim l) where
   abbrev Comes : Meaning → Effect → Type 0
@@ -65,6 +65,7 @@ module _ (s : State) (aim : ℕ) (l : ℕ → Ledger) (p : Octets) (w : List Oct
       record {
         same-down = refl;
         same-up = refl;
+        none-astray = refl;
         fine =
             record {
               good = λ d. rw means at (f .good d);
@@ -99,6 +100,7 @@ module _ (s : State) (aim : ℕ) (l : ℕ → Ledger) (p : Octets) (w : List Oct
         record {
           same-down = refl;
           same-up = refl;
+          none-astray = refl;
           fine =
               record {
                 good =
@@ -141,6 +143,7 @@ module _ (s : State) (aim : ℕ) (l : ℕ → Ledger) (p : Octets) (w : List Oct
       record {
         same-down = refl;
         same-up = refl;
+        none-astray = refl;
         fine =
             record {
               good =
@@ -279,6 +282,6 @@ pub up-keeps : (s : State) (aim : ℕ) (l : ℕ → Ledger) → Keeps up s aim l
 up-keeps s aim l t f = go (s .up) (need 8 (rules up s) t) f
   where
     go : (w : List Octets) → isNil w ≡ false → Fine (withUp w s) aim l
-        → Kept (takingUp w s .next) (seen up (eventOf up (record { answer = taken; effect = takingUp w s })) (accountOf (withUp w s) aim l))
+        → Kept (takingUp w s .next) (tallied up (eventOf up (record { answer = taken; effect = takingUp w s })) (accountOf (withUp w s) aim l))
     go [] e f = clash refl e
     go (p ∷ w) e f = coming-keeps s aim l p w f (meaning p) refl (f .sound .0)

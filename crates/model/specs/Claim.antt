@@ -58,6 +58,8 @@ pub record Conserved (c : ℕ) (o : Account) : Type 0 where
   -- at the host on a loopback those of send, and on connection 0 those of the endpoint
   pub at-host : o .ledger c .controller .opened ≡ true → isLoop c ≡ true → Prefix (o .ledger c .talk .outHost) (o .ledger c .talk .sent)
   pub at-host-static : o .ledger c .controller .opened ≡ true → isLoop c ≡ false → Prefix (o .ledger c .talk .outHost) (o .ledger c .talk .spoken)
+  -- and nothing but consume, an up of data and report has handed anything out
+  pub none-astray : o .stray ≡ []
 
 -- of the number c, with s the bench after the calls and o the account of them
 pub record Claim (c : ℕ) (s : State) (o : Account) : Type 0 where

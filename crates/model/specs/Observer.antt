@@ -118,16 +118,21 @@ spokenL m l = let t = l .talk in withTalk (record { sent = t .sent; outControlle
 abbrev pub givenL : List Octets → Ledger → Ledger
 givenL ms l = let t = l .talk in withTalk (record { sent = t .sent; outController = t .outController; spoken = t .spoken; outHost = t .outHost ++ ms }) l
 
--- ---- the account: what each wire holds, the connection that the last command named, and a ledger for each Conn ID
+-- ---- the account: what each wire holds, the connection that the last command named, a ledger for each Conn ID, and the messages handed out by a call that has none
+-- to hand out
 
 pub record Account : Type 0 where
   pub down : List Octets
   pub up : List Octets
   pub aim : ℕ
   pub ledger : ℕ → Ledger
+  pub stray : List Octets
 
 abbrev pub opening : Account
-opening = record { down = []; up = []; aim = 0; ledger = λ d. blank }
+opening = record { down = []; up = []; aim = 0; ledger = λ d. blank; stray = [] }
+
+abbrev pub withLedger : (ℕ → Ledger) → Account → Account
+withLedger g o = record { down = o .down; up = o .up; aim = o .aim; ledger = g; stray = o .stray }
 
 -- all but the first
 abbrev pub rest : List Octets → List Octets
@@ -141,13 +146,17 @@ changeIn aim d (datum c n x) = pick (eqb c d) (gives n) stays
 changeIn aim d (control mt gid oid x) = changeHeard (saysIn aim (control mt gid oid x)) (contents (control mt gid oid x)) d
 changeIn aim d junk = stays
 
--- packets that the controller puts up
+-- packets that are put on the down wire
+abbrev pub putsDown : List Octets → Account → Account
+putsDown ps o = record { down = o .down ++ ps; up = o .up; aim = o .aim; ledger = o .ledger; stray = o .stray }
+
+-- packets that are put on the up wire: each does to the controller's counts what it says
 abbrev pub putAll : ℕ → ℕ → List Octets → Ledger → Ledger
 putAll aim d [] l = l
 putAll aim d (p ∷ ps) l = putAll aim d ps (putBy (changeIn aim d (meaning p)) l)
 
-abbrev pub shown : List Octets → Account → Account
-shown ps o = record { down = o .down; up = o .up ++ ps; aim = o .aim; ledger = λ d. putAll (o .aim) d ps (o .ledger d) }
+abbrev pub putsUp : List Octets → Account → Account
+putsUp ps o = record { down = o .down; up = o .up ++ ps; aim = o .aim; ledger = λ d. putAll (o .aim) d ps (o .ledger d); stray = o .stray }
 
 -- the packet that the controller takes: data of a connection that is open there
 abbrev pub arrival : ℕ → Meaning → Ledger → Ledger
@@ -173,24 +182,55 @@ heardOf aim d (p ∷ w) ms l = heardAs aim d (meaning p) ms l
 abbrev pub airedL : Octets → (ℕ → Ledger) → ℕ → Ledger
 airedL m g = pick (eqb (getD m 0 0) 8) (at 0 (spokenL (drop 1 m)) g) g
 
+-- ---- a message handed out: consume hands out those of its connection, up those of a data packet, and report its numbers. Any other is astray
+
+abbrev pub strayHeard : Meaning → List Octets → List Octets
+strayHeard (datum c n x) ms = []
+strayHeard (control mt gid oid x) ms = ms
+strayHeard junk ms = ms
+
+-- w: the up wire before the call
+abbrev pub strayRead : List Octets → List Octets → List Octets
+strayRead [] ms = ms
+strayRead (p ∷ w) ms = strayHeard (meaning p) ms
+
+abbrev pub strayOf : Call → List Octets → List Octets → List Octets
+strayOf (fresh m) w ms = ms
+strayOf power w ms = ms
+strayOf (command gid oid m) w ms = ms
+strayOf (send c m) w ms = ms
+strayOf (push c) w ms = ms
+strayOf down w ms = ms
+strayOf (consume c) w ms = []
+strayOf credit w ms = ms
+strayOf (air m) w ms = ms
+strayOf reply w ms = ms
+strayOf up w ms = strayRead w ms
+strayOf (report c) w ms = []
+
+abbrev pub astray : List Octets → Account → Account
+astray ms o = record { down = o .down; up = o .up; aim = o .aim; ledger = o .ledger; stray = o .stray ++ ms }
+
 -- ---- a call that is taken
 
+-- what it takes, and from whom
+abbrev pub acted : Call → Event → Account → Account
+acted (fresh m) e o = opening
+acted power e o = opening
+acted (command gid oid m) e o = record { down = o .down; up = o .up; aim = aimIn m; ledger = o .ledger; stray = o .stray }
+acted (send c m) e o = withLedger (at c (sentL m) (o .ledger)) o
+acted (push c) e o = withLedger (at c pushedL (o .ledger)) o
+acted down e o = record { down = rest (o .down); up = o .up; aim = o .aim; ledger = λ d. arrivalOf d (o .down) (o .ledger d); stray = o .stray }
+acted (consume c) e o = withLedger (at c (consumedL (e .message)) (o .ledger)) o
+acted credit e o = o
+acted (air m) e o = withLedger (airedL m (o .ledger)) o
+acted reply e o = o
+acted up e o = record { down = o .down; up = rest (o .up); aim = o .aim; ledger = λ d. heardOf (o .aim) d (o .up) (e .message) (o .ledger d); stray = o .stray }
+acted (report c) e o = o
+
+-- and what it puts on the wires and hands out, whatever the call
 abbrev pub seen : Call → Event → Account → Account
-seen (fresh m) e o = opening
-seen power e o = opening
-seen (command gid oid m) e o = record { down = o .down ++ e .toDown; up = o .up; aim = aimIn m; ledger = o .ledger }
-seen (send c m) e o = record { down = o .down; up = o .up; aim = o .aim; ledger = at c (sentL m) (o .ledger) }
-seen (push c) e o = record { down = o .down ++ e .toDown; up = o .up; aim = o .aim; ledger = at c pushedL (o .ledger) }
-seen down e o =
-    shown (e .toUp) (record { down = rest (o .down); up = o .up; aim = o .aim; ledger = λ d. arrivalOf d (o .down) (o .ledger d) })
-seen (consume c) e o =
-    shown (e .toUp) (record { down = o .down; up = o .up; aim = o .aim; ledger = at c (consumedL (e .message)) (o .ledger) })
-seen credit e o = shown (e .toUp) o
-seen (air m) e o = shown (e .toUp) (record { down = o .down; up = o .up; aim = o .aim; ledger = airedL m (o .ledger) })
-seen reply e o = shown (e .toUp) o
-seen up e o =
-    record { down = o .down; up = rest (o .up); aim = o .aim; ledger = λ d. heardOf (o .aim) d (o .up) (e .message) (o .ledger d) }
-seen (report c) e o = o
+seen c e o = putsUp (e .toUp) (putsDown (e .toDown) (astray (strayOf c (o .up) (e .message)) (acted c e o)))
 
 abbrev pub counted : Result → Event → Account → Account
 counted taken e o = seen (e .call) e o

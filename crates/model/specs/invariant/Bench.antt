@@ -22,11 +22,11 @@ use Rattle.dh.specs.Host.{isClosing}
 use Rattle.wires.specs.Meaning.{Meaning, datum, control, junk, meaning}
 use Rattle.model.specs.Connection.{Connection}
 use Rattle.model.specs.State.{State}
-use Rattle.model.specs.Effects.{Call, taken}
+use Rattle.model.specs.Effects.{Call, fresh, power, command, send, push, down, consume, credit, air, reply, up, report, taken}
 use Rattle.model.specs.Refusals.{noConn, first}
 use Rattle.model.specs.calls.Consume.{isLoop}
 use Rattle.model.specs.Bench.{rules, act, judged}
-use Rattle.model.specs.Observer.{Ledger, Account, seen, eventOf}
+use Rattle.model.specs.Observer.{Ledger, Account, Event, putsDown, putsUp, acted, eventOf}
 use Rattle.model.specs.Reachable.{Each}
 use Rattle.model.specs.invariant.Items.{Item, itemsOf, segsOf}
 use Rattle.model.specs.invariant.Link.{Good}
@@ -105,13 +105,29 @@ pub record Fine (s : State) (aim : ℕ) (l : ℕ → Ledger) : Type 0 where
 pub record Kept (s : State) (o : Account) : Type 0 where
   pub same-down : o .down ≡ s .down
   pub same-up : o .up ≡ s .up
+  pub none-astray : o .stray ≡ []
   pub fine : Fine s (o .aim) (o .ledger)
 
 abbrev pub accountOf : State → ℕ → (ℕ → Ledger) → Account
-accountOf s aim l = record { down = s .down; up = s .up; aim = aim; ledger = l }
+accountOf s aim l = record { down = s .down; up = s .up; aim = aim; ledger = l; stray = [] }
+
+-- what the observer counts of a call that puts packets on one wire at most and hands out no message that is astray: each of the bench's calls (`seen-tallied`)
+abbrev pub tallied : Call → Event → Account → Account
+tallied (fresh m) e o = acted (fresh m) e o
+tallied power e o = acted power e o
+tallied (command gid oid m) e o = putsDown (e .toDown) (acted (command gid oid m) e o)
+tallied (send c m) e o = acted (send c m) e o
+tallied (push c) e o = putsDown (e .toDown) (acted (push c) e o)
+tallied down e o = putsUp (e .toUp) (acted down e o)
+tallied (consume c) e o = putsUp (e .toUp) (acted (consume c) e o)
+tallied credit e o = putsUp (e .toUp) (acted credit e o)
+tallied (air m) e o = putsUp (e .toUp) (acted (air m) e o)
+tallied reply e o = putsUp (e .toUp) (acted reply e o)
+tallied up e o = acted up e o
+tallied (report c) e o = acted (report c) e o
 
 -- the statement for one call: taken on a fine bench, it leaves a fine bench, of which the observer has the account
 abbrev pub Keeps : Call → State → ℕ → (ℕ → Ledger) → Type 0
 Keeps c s aim l =
     first (rules c s) ≡ taken → Fine s aim l
-    → Kept (act c s .next) (seen c (eventOf c (judged taken c s)) (accountOf s aim l))
+    → Kept (act c s .next) (tallied c (eventOf c (judged taken c s)) (accountOf s aim l))
