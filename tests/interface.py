@@ -44,6 +44,8 @@ PAST_GRANT = 500
 PAST_255 = 100
 # and at least so many packets with reserved bits at 1 are taken, of each kind and each way
 RESERVED = 250
+# groups of cases on benches made by hand
+GROUPS = 26
 # octets of stack that suffice for every call
 STACK = 12_288
 
@@ -157,8 +159,9 @@ def valgrind_of_reports(folder):
 # ---- beside the second implementation
 
 
-def cargo(*words):
-    return run("cargo", *words, "--release", "--locked", "--quiet", cwd=COMPARE, env=os.environ | {"CARGO_NET_OFFLINE": "true"})
+def cargo(*words, more=()):
+    command = ["cargo", *words, "--release", "--locked", "--quiet", *more]
+    return run(*command, cwd=COMPARE, env=os.environ | {"CARGO_NET_OFFLINE": "true"})
 
 
 def program(name, *words):
@@ -166,6 +169,14 @@ def program(name, *words):
     said = run(COMPARE / "target" / "release" / name, *words)
     print(said, end="")
     return dict(field.split("=", 1) for field in said.split())
+
+
+def compare_tests():
+    """The tests hold how many cases each group has and what they came to; the groups are told."""
+    said = cargo("test", "--all-targets", "--no-fail-fast", more=["--", "--nocapture"])
+    groups = re.findall(r'cases=(\d+) group="([^"]+)"', said)
+    print(f"cases={sum(int(cases) for cases, _ in groups)}", *(f"{name.replace(' ', '-')}={cases}" for cases, name in groups))
+    same(len(groups), GROUPS)
 
 
 def lists():
@@ -232,7 +243,7 @@ def tests(folder):
         yield "valgrind", lambda: valgrind(folder)
         if has_header("valgrind/memcheck.h"):
             yield "valgrind of reports", lambda: valgrind_of_reports(folder)
-    yield "tests of compare", lambda: cargo("test", "--all-targets", "--no-fail-fast")
+    yield "tests of compare", compare_tests
     yield "reports", reports
     yield "every octet of the record", every_octet
     yield "lists", lists

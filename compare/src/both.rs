@@ -31,6 +31,8 @@ pub struct Both {
     /// None while the record is damaged: then every call but fresh answers 1.
     pub second: Option<Bench>,
     pub tally: Tally,
+    /// What the last call came to, where the record was not damaged.
+    pub outcome: Option<Outcome>,
     /// Calls refused for 1 and 2, and calls that only look.
     pub damaged: u64,
     pub short: u64,
@@ -112,6 +114,7 @@ impl Default for Both {
             lent: Lent::default(),
             second: None,
             tally: Tally::default(),
+            outcome: None,
             damaged: 0,
             short: 0,
             looks: 0,
@@ -168,6 +171,7 @@ impl Both {
 
     /// Makes a call on both.
     pub fn step(&mut self, call: &Call) -> Result<(), String> {
+        self.outcome = None;
         if let Call::Read(octets) = call {
             return self.read(call, octets);
         }
@@ -198,7 +202,9 @@ impl Both {
         check(seen.message == outcome.message, || {
             format!("{}: message {:02X?} for {:02X?}", call.name(), seen.message, outcome.message)
         })?;
-        self.look(&outcome)
+        self.look(&outcome)?;
+        self.outcome = Some(outcome);
+        Ok(())
     }
 
     /// Reading alone: whatever the record is, and the area stays.
@@ -208,6 +214,7 @@ impl Both {
         self.tally.count(call, &outcome);
         let due = word::of(&outcome);
         check(seen.word == due, || format!("read of {octets:02X?}: word {:#x} for {due:#x}", seen.word))?;
+        self.outcome = Some(outcome);
         self.lent.unchanged()
     }
 

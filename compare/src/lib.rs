@@ -6,15 +6,18 @@
 //! in octets as one of the second implementation. `both` makes each call on both and
 //! compares; `lists` plays the second implementation's random lists, `damage` changes
 //! octets of benches and makes all calls on them. `reports` changes payloads on the wires
-//! and asks report on both, also of wires with the packets of `forged`. `speed` times both.
+//! and asks report on both, also of wires with the packets of `forged`. `made` makes benches
+//! by hand, and `group` makes a call on each of many. `speed` times both.
 
 pub mod both;
 pub mod damage;
 pub mod exports;
 pub mod fence;
 pub mod forged;
+pub mod group;
 pub mod lent;
 pub mod lists;
+pub mod made;
 pub mod record;
 pub mod reports;
 pub mod speed;

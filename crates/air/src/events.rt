@@ -12,6 +12,7 @@ use state::kinds::Pairs;
 use state::kinds::Profile;
 use state::kinds::Rf;
 use state::kinds::Selection;
+use state::names;
 use state::radio::id_ok;
 use state::radio::is_active;
 use state::radio::is_asleep;
@@ -26,6 +27,7 @@ ghost use mathlib.Core.Path.{_≡_};
 ghost use Prim.Native.Nat.{_+_, _≤_};
 ghost use lib.ListN.{length, drop};
 ghost use Rattle.octets.specs.Octets.{pick};
+ghost use Rattle.state.specs.Names.{gidRf, oidDiscover, oidActivated};
 ghost use Rattle.state.specs.Conn.{termsOf};
 ghost use Rattle.state.specs.Runs.{controlLimit};
 ghost use Rattle.messages.specs.Layout.{Put, discoverNtf, activatedNtf};
@@ -91,7 +93,7 @@ fn found_in(m: &[u8]) -> Event
     let named = id_ok(a.id);
     let polling = polls(a.mode);
     within(
-        (5 <= n) & (n <= 37) & named & polling & (kind <= 2),
+        (5 <= n) & (n <= 37) & named & polling & (kind <= names::MORE_FOLLOW),
         Event::Found(a, kind),
     )
 }
@@ -167,14 +169,14 @@ fn no_room(ps: Pairs, p: Pair, kind: u8) -> bool
 {
     let count = ps.count;
     let repeated = is_listed(ps, p);
-    repeated | (8 <= count) | ((kind == 2) & (7 <= count))
+    repeated | (8 <= count) | ((kind == names::MORE_FOLLOW) & (7 <= count))
 }
 
 // The state after a target was found: type 2 says that more follow.
 fn found_to(kind: u8) -> Rf
     ensures { λ r. ⌜ r ≡ foundTo kind ⌝ }
 {
-    if kind == 2 {
+    if kind == names::MORE_FOLLOW {
         Rf::W4AllDiscoveries
     } else {
         Rf::W4HostSelect(Selection::Nothing)
@@ -202,7 +204,7 @@ fn found_by(rf: Rf, ps: Pairs, a: Activation, kind: u8) -> Aired
     match rf {
         Rf::Idle => Aired::Refused,
         Rf::Discovery => {
-            if kind == 2 {
+            if kind == names::MORE_FOLLOW {
                 Aired::Goes(Rf::W4AllDiscoveries, Listing::Starts(p))
             } else {
                 Aired::Refused
@@ -307,7 +309,7 @@ pub fn is_refused(a: Aired) -> bool
 // RF_DISCOVER_NTF for a target that was found; its parameters are a part of the event's octets.
 fn found_message(out: &mut [u8; CONTROL_LIMIT], a: Activation, kind: u8, m: &[u8]) -> Note
     requires { ⌜ 5 + length (drop 5 (now m)) ≤ controlLimit ⌝ }
-    ensures { λ r. ⌜ Put (now (out .entry)) (record { gid = 1; oid = 3; payload = discoverNtf a kind (drop 5 (now (m .entry))) }) r (now (out .exit)) ⌝ }
+    ensures { λ r. ⌜ Put (now (out .entry)) (record { gid = gidRf; oid = oidDiscover; payload = discoverNtf a kind (drop 5 (now (m .entry))) }) r (now (out .exit)) ⌝ }
 {
     discover_ntf(out, a, kind, octets::window(m, 5, m.len()))
 }
@@ -315,7 +317,7 @@ fn found_message(out: &mut [u8; CONTROL_LIMIT], a: Activation, kind: u8, m: &[u8
 // RF_INTF_ACTIVATED_NTF for an activation.
 fn active_message(out: &mut [u8; CONTROL_LIMIT], p: Profile, a: Activation, m: &[u8]) -> Note
     requires { ⌜ 11 + length (drop 4 (now m)) ≤ controlLimit ⌝ }
-    ensures { λ r. ⌜ Put (now (out .entry)) (record { gid = 1; oid = 5; payload = activatedNtf a (termsOf p 0) (drop 4 (now (m .entry))) }) r (now (out .exit)) ⌝ }
+    ensures { λ r. ⌜ Put (now (out .entry)) (record { gid = gidRf; oid = oidActivated; payload = activatedNtf a (termsOf p 0) (drop 4 (now (m .entry))) }) r (now (out .exit)) ⌝ }
 {
     let t = terms_of(p, 0);
     activated_ntf(out, a, t, octets::window(m, 4, m.len()))
@@ -333,9 +335,9 @@ pub fn air_message(out: &mut [u8; CONTROL_LIMIT], p: Profile, e: Event, m: &[u8]
         Event::Poll(a) => active_message(out, p, a, m),
         Event::Listen(a) => active_message(out, p, a, m),
         Event::Failed => generic_error_ntf(out),
-        Event::Sleeps => deactivate_ntf(out, 0x01, 0x01),
-        Event::LinkLost => deactivate_ntf(out, 0x03, 0x02),
-        Event::Releases => deactivate_ntf(out, 0x03, 0x01),
+        Event::Sleeps => deactivate_ntf(out, names::TO_SLEEP, names::ENDPOINT_REQUEST),
+        Event::LinkLost => deactivate_ntf(out, names::TO_DISCOVERY, names::LINK_LOSS),
+        Event::Releases => deactivate_ntf(out, names::TO_DISCOVERY, names::ENDPOINT_REQUEST),
         Event::Endpoint => no_message(),
     }
 }

@@ -5,7 +5,7 @@ use mathlib.Core.Path.{_≡_, refl, ap}
 use mathlib.Core.Bool.{Bool, true, false, _&&_, false≢true}
 use mathlib.Core.List.{[], _∷_, _++_}
 use native.Mathlib.Omega.{arith}
-use borrow.Author.Tests.{ne-eqb, eqb-true}
+use borrow.Author.Tests.{eq-eqb, ne-eqb, eqb-true}
 use lib.ListN.{length, take, drop, getD, drop-of-length-le}
 use lib.Seq.{drop-cons}
 use lib.Dec.{eqb}
@@ -82,6 +82,28 @@ up-to-front c (x ∷ l) = go (eqb x c) (up-to-front c l)
     go : (t : Bool) → take (length (upTo c l)) l ≡ upTo c l → take (length (pick t [] (x ∷ upTo c l))) (x ∷ l) ≡ pick t [] (x ∷ upTo c l)
     go true ih = refl
     go false ih = ap (λ (m : Octets). x ∷ m) ih
+
+-- what it leaves starts with c
+pub up-to-rest : (c : ℕ) (l : Octets) → length (upTo c l) < length l → l ≡ upTo c l ++ (c ∷ drop (suc (length (upTo c l))) l)
+unfolding upTo
+up-to-rest c [] h = absurd (omega arith)
+up-to-rest c (x ∷ l) h = go (eqb x c) refl (λ k. up-to-rest c l k) h
+  where
+    go : (t : Bool) → eqb x c ≡ t → (length (upTo c l) < length l → l ≡ upTo c l ++ (c ∷ drop (suc (length (upTo c l))) l)) → length (pick t [] (x ∷ upTo c l)) < suc (length l)
+        → (x ∷ l) ≡ pick t [] (x ∷ upTo c l) ++ (c ∷ drop (suc (length (pick t [] (x ∷ upTo c l)))) (x ∷ l))
+    go true e ih k = ap (λ (y : ℕ). y ∷ l) (eqb-true x c e)
+    go false e ih k = ap (λ (m : Octets). x ∷ m) (ih (omega arith))
+
+-- a text without c, then c: it is that text
+pub up-to-append : (c : ℕ) (a l : Octets) → upTo c a ≡ a → upTo c (a ++ (c ∷ l)) ≡ a
+unfolding upTo
+up-to-append c [] l e = ap (λ (t : Bool). pick t [] (c ∷ upTo c l)) (eq-eqb c c refl)
+up-to-append c (x ∷ a) l e = go (eqb x c) (λ k. up-to-append c a l k) e
+  where
+    go : (t : Bool) → (upTo c a ≡ a → upTo c (a ++ (c ∷ l)) ≡ a) → pick t [] (x ∷ upTo c a) ≡ x ∷ a
+        → pick t [] (x ∷ upTo c (a ++ (c ∷ l))) ≡ x ∷ a
+    go true ih k = absurd (omega (arith, ap length k))
+    go false ih k = ap (λ (m : Octets). x ∷ m) (ih (ap (drop 1) k))
 
 -- ---- words
 

@@ -1,13 +1,11 @@
 // command: all segments of a command go on the down wire.
 use area::map;
 use area::movers;
-use dh::host::asked_of;
 use dh::host::is_busy;
+use dh::sending;
 use octets::choose;
 use packets::Header;
 use record::write;
-use state::kinds::Host;
-use state::kinds::Pending;
 use state::kinds::Record;
 use state::kinds::Ring;
 ghost use mathlib.Core.Path.{_≡_};
@@ -19,7 +17,7 @@ ghost use Rattle.record.specs.Claims.{saved};
 ghost use Rattle.views.specs.View.{view};
 ghost use Rattle.model.specs.calls.Command.{commandRules};
 ghost use Rattle.calls.specs.Outcome.{Lowest};
-ghost use Rattle.calls.specs.calls.Command.{commandedCount, commandedHost, commandedRecord, commandedSlots, commandedWord, Commandable};
+ghost use Rattle.calls.specs.calls.Command.{commandedCount, commandedRecord, commandedSlots, commandedWord, Commandable};
 
 // What a packet put on the down wire counts for in the word.
 const DOWN_UNIT: u64 = 4294967296;
@@ -56,18 +54,6 @@ pub fn refusal(r: Record, gid: u8, oid: u8, payload: &[u8]) -> u8
     )
 }
 
-// The host with the command unanswered.
-fn asking(h: Host, gid: u8, oid: u8, payload: &[u8]) -> Host
-    ensures { λ x. ⌜ x ≡ commandedHost h gid oid (now (payload .entry)) ⌝ }
-{
-    let size = h.size;
-    let asked = asked_of(gid, oid, payload);
-    Host {
-        size: size,
-        pending: Pending::Command(asked),
-    }
-}
-
 // The record after a command of n segments.
 fn plan(r: Record, gid: u8, oid: u8, payload: &[u8], n: usize) -> Record
     requires { ⌜ (n ≡ commandedCount r (now payload)) × (r .down .count + n ≤ wireSlots) ⌝ }
@@ -77,7 +63,7 @@ fn plan(r: Record, gid: u8, oid: u8, payload: &[u8], n: usize) -> Record
     let up = r.up;
     let head = r.down.head;
     let count = r.down.count;
-    let host = asking(ends.host, gid, oid, payload);
+    let host = sending::commanded(ends.host, gid, oid, payload);
     ends.host = host;
     Record {
         ends: ends,

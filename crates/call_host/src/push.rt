@@ -3,23 +3,21 @@ use area::map;
 use area::movers;
 use area::ring;
 use dh::host::is_closing;
+use dh::sending;
 use octets::choose;
 use packets::Header;
 use record::write;
 use state::conn;
-use state::kinds::HostSide;
 use state::kinds::Record;
 ghost use mathlib.Core.Path.{_≡_};
-ghost use Prim.Native.Nat.{_-_, _≤_};
+ghost use Prim.Native.Nat.{_≤_};
 ghost use lib.ListN.{length};
-ghost use Rattle.octets.specs.Octets.{pick};
-ghost use Rattle.state.specs.Conn.{flows};
 ghost use Rattle.area.specs.Map.{areaSize};
 ghost use Rattle.record.specs.Claims.{saved};
 ghost use Rattle.views.specs.View.{view};
 ghost use Rattle.model.specs.calls.Push.{pushRules};
 ghost use Rattle.calls.specs.Outcome.{Lowest};
-ghost use Rattle.calls.specs.calls.Push.{pushedSide, pushedRecord, pushedSlot, pushedWord, Pushable};
+ghost use Rattle.calls.specs.calls.Push.{pushedRecord, pushedSlot, pushedWord, Pushable};
 
 // The number for which a push is not taken, 0 for none: the first of the model's rules, whatever the area's octets are.
 pub fn refusal(r: Record, conn: u8) -> u8
@@ -42,38 +40,6 @@ pub fn refusal(r: Record, conn: u8) -> u8
     choose(map::PLACES <= place, 3, four)
 }
 
-// The credits held after a packet is pushed.
-fn spent(grant: u8, held: u8) -> u8
-    ensures { λ x. ⌜ x ≡ pick (flows grant) (held - 1) held ⌝ }
-{
-    if grant == conn::UNMETERED {
-        return held;
-    }
-    if held == 0 {
-        return 0;
-    }
-    held - 1
-}
-
-// The host's side of the connection after a push.
-fn pushed_side(h: HostSide) -> HostSide
-    ensures { λ x. ⌜ x ≡ pushedSide h ⌝ }
-{
-    let size = h.payload as usize;
-    let hand = h.hand;
-    let run = h.run;
-    let held = spent(h.grant, h.held);
-    let next = conn::hand_after(size, hand);
-    HostSide {
-        opened: h.opened,
-        payload: h.payload,
-        grant: h.grant,
-        held: held,
-        hand: next,
-        run: run,
-    }
-}
-
 // The record after a push.
 fn plan(r: Record, conn: u8) -> Record
     requires { ⌜ Pushable r conn ⌝ }
@@ -84,7 +50,7 @@ fn plan(r: Record, conn: u8) -> Record
     let down = r.down;
     let up = r.up;
     let k = conn::counts_of(conns, conn);
-    let side = pushed_side(k.host);
+    let side = sending::pushed(k.host);
     let next = conn::with_host(conns, conn, side);
     let ring = ring::put_into(down);
     ends.conns = next;

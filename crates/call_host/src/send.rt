@@ -2,6 +2,7 @@
 use area::map;
 use area::movers;
 use dh::host::is_closing;
+use dh::sending;
 use octets::choose;
 use record::write;
 use state::conn;
@@ -47,9 +48,7 @@ fn plan(r: Record, conn: u8, message: &[u8]) -> Record
     let down = r.down;
     let up = r.up;
     let k = conn::counts_of(conns, conn);
-    let mut side = k.host;
-    let hand = conn::hand_with(message.len());
-    side.hand = hand;
+    let side = sending::sent(k.host, message.len());
     let next = conn::with_host(conns, conn, side);
     ends.conns = next;
     Record {

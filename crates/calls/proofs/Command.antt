@@ -16,6 +16,7 @@ use Rattle.calls.specs.Kinds.{Record}
 use Rattle.state.specs.Commands.{aimIn}
 use Rattle.state.proofs.Chains.{or-left, or-right, on}
 use Rattle.dh.specs.Host.{askedOf, isBusy}
+use Rattle.dh.specs.Sending.{commandedHost}
 use Rattle.area.specs.Map.{messageSize, payloadSize, wireSlots, downAt}
 use Rattle.area.proofs.Puts.{length-puts, octal-puts}
 use Rattle.record.specs.Reading.{decodeOf}
@@ -36,7 +37,7 @@ use Rattle.model.specs.Bench.{act}
 use Rattle.model.proofs.Order.{need}
 use Rattle.calls.specs.Seen.{Puts}
 use Rattle.calls.specs.Refines.{Good, Follows, Along, Refines}
-use Rattle.calls.specs.calls.Command.{commandedCount, commandedHost, commandedRecord, commandedPackets, commandedSlots, commanded, commandCall, Commandable}
+use Rattle.calls.specs.calls.Command.{commandedCount, commandedRecord, commandedPackets, commandedSlots, commanded, commandCall, Commandable}
 use Rattle.calls.proofs.Called.{sound-area}
 use Rattle.calls.proofs.Refine.{called-refines}
 use Rattle.calls.proofs.Taken.{added-none, Took, took-refines}

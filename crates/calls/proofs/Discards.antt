@@ -93,4 +93,5 @@ octet-discarded =
       reset-read = plays _ (discarded .reset-read);
       late = plays _ (discarded .late);
       refused-close = plays _ (discarded .refused-close);
+      beside-create = plays _ (discarded .beside-create);
     }

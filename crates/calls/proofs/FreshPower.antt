@@ -47,7 +47,7 @@ use Rattle.calls.proofs.Refine.{saved-good, called-refines, decided-ref
 
 -- ---- the cold record, for a profile within its limits
 
-closed-all : (P : Counts → Type 0) (p : Profile) → P closedCounts → Each P (coldRecord p .ends .conns)
+pub closed-all : (P : Counts → Type 0) (p : Profile) → P closedCounts → Each P (coldRecord p .ends .conns)
 closed-all P p c zero h = c
 closed-all P p c (suc zero) h = c
 closed-all P p c (suc (suc zero)) h = c
@@ -55,7 +55,7 @@ closed-all P p c (suc (suc (suc zero))) h = c
 closed-all P p c (suc (suc (suc (suc zero)))) h = c
 closed-all P p c (suc (suc (suc (suc (suc q))))) h = absurd (omega arith)
 
-zero-octets : (n : ℕ) → Octal (zeros n)
+pub zero-octets : (n : ℕ) → Octal (zeros n)
 unfolding zeros
 zero-octets zero = octal-nil
 zero-octets (suc n) = octal-cons {x = 0} (omega arith) (zero-octets n)

@@ -308,24 +308,42 @@ called-by P rs o a out w p q = decided-by P (entryRules a (length out) ++ rs) o 
 pub below : (n : ℕ) → small n ≡ true → n < 256
 below n s = ltb-true n 256 (and-right (ltb 0 n) (ltb n 256) s)
 
+pub taken-refused : {n : ℕ} → taken ≡ refused n → ⊥
+taken-refused z = let y : _≡_ {A = ℕ} 0 1 = cc in omega arith
+
 -- where none of all applies, none of the call's own does
 own-taken : (es rs : List Rule) → first (es ++ rs) ≡ taken → first rs ≡ taken
 own-taken es rs t = go (first es) (sym (first-append es rs) ∙ t)
   where
     go : (x : Result) → orElse x (first rs) ≡ taken → first rs ≡ taken
     go taken e = e
-    go (refused n) e = absurd (let z : _≡_ {A = ℕ} 0 1 = cc in omega arith)
+    go (refused n) e = absurd (taken-refused (sym e))
 
 record Keeps (a out : Octets) (o : Outcome) : Type 0 where
   inside : Within a out o
   refusal : (n : ℕ) → answerIn (o .word) ≡ refused n → o ≡ outcome n a out
 
-number : Result → ℕ
+-- the number of a refusal
+abbrev pub number : Result → ℕ
 number taken = 0
 number (refused n) = n
 
+abbrev pub isFresh : Call → Bool
+isFresh (fresh m) = true
+isFresh power = false
+isFresh (command gid oid m) = false
+isFresh (send c m) = false
+isFresh (push c) = false
+isFresh down = false
+isFresh (consume c) = false
+isFresh credit = false
+isFresh (air m) = false
+isFresh reply = false
+isFresh up = false
+isFresh (report c) = false
+
 refused-keeps : (a out : Octets) (n : ℕ) → small n ≡ true → Keeps a out (outcome n a out)
-unfolding lengthIn number
+unfolding lengthIn
 refused-keeps a out n s =
     record {
       inside = record { size = refl; beyond = refl; room = refl; rest = refl; unhanded = λ _. refl; most = omega (arith, below n s) };
@@ -334,7 +352,7 @@ refused-keeps a out n s =
 
 taken-keeps : (a out : Octets) (o : Outcome) → Leaves a out o → Keeps a out o
 taken-keeps a out o l =
-    record { inside = l .inside; refusal = λ n e. absurd (let z = sym (l .answers) ∙ e in let y : _≡_ {A = ℕ} 0 1 = cc in omega arith) }
+    record { inside = l .inside; refusal = λ n e. absurd (taken-refused (sym (l .answers) ∙ e)) }
 
 module _ (rs : List Rule) (o : Outcome) (a out : Octets) where
   called-keeps : numbered rs ≡ true → (first (entryRules a (length out) ++ rs) ≡ taken → Leaves a out o) → Keeps a out (called rs o a out)
@@ -376,6 +394,33 @@ perform-keeps (air m) a out = called-keeps _ _ a out refl (λ _. air-leaves (dec
 perform-keeps reply a out = called-keeps _ _ a out refl (λ _. reply-leaves (decodeOf a) a out)
 perform-keeps up a out = called-keeps _ _ a out refl (λ _. telling _ (up-leaves (decodeOf a) (upRead (decodeOf a) a) a out))
 perform-keeps (report c) a out = called-keeps _ _ a out refl (λ _. report-leaves (decodeOf a) c a out)
+
+-- ---- what is taken
+
+-- any call but fresh is taken only on an area that is long enough, with a record that row 1 lets pass
+module _ (rs : List Rule) (o : Outcome) (a out : Octets) where
+  called-entered : numbered rs ≡ true → answerIn (called rs o a out .word) ≡ taken → (areaSize ≤ length a) × (judgeOf a ≡ true)
+  called-entered w =
+      called-by (λ (x : Outcome). answerIn (x .word) ≡ taken → (areaSize ≤ length a) × (judgeOf a ≡ true)) rs o a out w
+      (λ t _.
+      let all = entryRules a (length out) ++ rs in
+      (ltb-false (length a) areaSize (need 2 all t), not-false (judgeOf a) (need 1 all t)))
+      (λ n s e. absurd (taken-refused (sym e ∙ refusal-answer n s)))
+
+pub entered-if-taken : (c : Call) (a out : Octets) → isFresh c ≡ false → answerIn (perform c a out .word) ≡ taken → (areaSize ≤ length a) × (judgeOf a ≡ true)
+unfolding powerCall commandCall sendCall pushCall downCall consumeCall creditCall airCall replyCall upCall reportCall
+entered-if-taken (fresh m) a out f e = absurd (false≢true (sym f))
+entered-if-taken power a out f e = called-entered _ _ a out refl e
+entered-if-taken (command gid oid m) a out f e = called-entered _ _ a out refl e
+entered-if-taken (send c m) a out f e = called-entered _ _ a out refl e
+entered-if-taken (push c) a out f e = called-entered _ _ a out refl e
+entered-if-taken down a out f e = called-entered _ _ a out refl e
+entered-if-taken (consume c) a out f e = called-entered _ _ a out refl e
+entered-if-taken credit a out f e = called-entered _ _ a out refl e
+entered-if-taken (air m) a out f e = called-entered _ _ a out refl e
+entered-if-taken reply a out f e = called-entered _ _ a out refl e
+entered-if-taken up a out f e = called-entered _ _ a out refl e
+entered-if-taken (report c) a out f e = called-entered _ _ a out refl e
 
 -- ---- the statements
 

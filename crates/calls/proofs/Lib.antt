@@ -2,6 +2,7 @@ pub mod Rules
 pub mod Called
 pub mod Words
 pub mod Read
+pub mod Kept
 pub mod Reserved
 pub mod Refine
 pub mod Taken
@@ -38,7 +39,7 @@ pub mod Checked
 pub mod EveryRun
 pub mod Displayed
 pub mod Played
+pub mod Owing
 pub mod Discards
 pub mod Profiles
 pub mod Headers
-pub mod Kept

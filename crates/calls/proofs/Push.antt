@@ -21,6 +21,7 @@ use Rattle.state.specs.Conn as conn
 use Rattle.state.specs.Conn.{placeOf, countsOf, flows, handAfter}
 use Rattle.state.proofs.Chains.{on}
 use Rattle.dh.specs.Host.{isClosing}
+use Rattle.dh.specs.Sending.{pushedSide}
 use Rattle.area.specs.Map.{areaSize, messageSize, wireSlots, places, downAt, handAt}
 use Rattle.area.specs.Ring.{freeAt}
 use Rattle.area.proofs.Moves.{segment-short}
@@ -45,7 +46,7 @@ use Rattle.model.proofs.Needs.{need}
 use Rattle.calls.specs.Outcome.{lowest}
 use Rattle.calls.specs.Seen.{Puts}
 use Rattle.calls.specs.Refines.{Good, Follows, Along, RefinesTo, Refines}
-use Rattle.calls.specs.calls.Push.{hostSide, pushedSide, pushedRecord, pushedSegment, pushedPacket, pushedSlot, pushed, pushCall, Pushable}
+use Rattle.calls.specs.calls.Push.{hostSide, pushedRecord, pushedSegment, pushedPacket, pushedSlot, pushed, pushCall, Pushable}
 use Rattle.calls.proofs.Rules.{first-taken}
 use Rattle.calls.proofs.Called.{sound-area}
 use Rattle.calls.proofs.Refine.{at-const, called-refines}

@@ -68,7 +68,7 @@ module _ (n : ℕ) (s : small n ≡ true) where
   unfolding upIn
   refusal-up = omega (arith, below)
 
-  refusal-rfu : rfuIn n ≡ 0
+  pub refusal-rfu : rfuIn n ≡ 0
   unfolding rfuIn
   refusal-rfu = omega (arith, below)
 

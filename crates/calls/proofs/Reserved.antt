@@ -1,12 +1,13 @@
 -- Which reserved bits the calls tell: `RfuExact` and `AlwaysClear` of `specs/Reserved.antt`.
 -- Assumes nothing.
-use Prim.Native.Nat.{ℕ, _+_, _≤_, _<_}
+use Prim.Native.Nat.{ℕ, _+_, _%_, _≤_, _<_}
 use mathlib.Core.Path.{_≡_, refl, sym, ap, _∙_, subst}
-use mathlib.Core.Bool.{Bool, true, false, _&&_, not}
-use mathlib.Core.List.{List, [], _∷_}
+use mathlib.Core.Bool.{Bool, true, false, _&&_, not, false≢true}
+use mathlib.Core.List.{List, [], _∷_, _++_}
 use lib.ListN.{length}
-use lib.Dec.{ltb}
-use borrow.Author.Tests.{ltb-true, ltb-false}
+use lib.Dec.{ltb, eqb}
+use native.Mathlib.Omega.{arith}
+use borrow.Author.Tests.{ltb-true, ltb-false, lt-ltb, eqb-false}
 use Rattle.octets.specs.Octets.{Octets, pick}
 use Rattle.octets.specs.Octal.{Octal}
 use Rattle.packets.specs.Packet.{readOf}
@@ -31,13 +32,17 @@ use Rattle.model.specs.Observer.{Event}
 use Rattle.model.specs.Reachable.{Each, Wires}
 use Rattle.model.proofs.WellFormed.{SmallShaped, shaped-stays, shaped-start, wires}
 use Rattle.calls.specs.Word.{answerIn, droppedIn, rfuIn}
-use Rattle.calls.specs.Outcome.{Outcome}
+use Rattle.calls.specs.Outcome.{Outcome, outcome}
 use Rattle.calls.specs.Seen.{Puts, isTaken}
 use Rattle.calls.specs.Refines.{Good}
-use Rattle.calls.specs.calls.Fresh.{freshCall}
-use Rattle.calls.specs.Demand.{Key, pressed, slice, areaAfter}
+use Rattle.calls.specs.calls.Fresh.{quietWord, roomRules, freshed, freshCall}
+use Rattle.calls.specs.Demand.{Key, perform, pressed, slice, areaAfter}
 use Rattle.calls.specs.Reserved.{tellable, RfuExact, AlwaysClear}
+use Rattle.calls.proofs.Rules.{small}
 use Rattle.calls.proofs.Called.{sound-area}
+use Rattle.calls.proofs.Words.{word-rfu}
+use Rattle.calls.proofs.Refine.{refusal-answer, refusal-rfu}
+use Rattle.calls.proofs.Kept.{number, taken-refused, decided-by, isFresh, entered-if-taken, refusals-keep}
 use Rattle.calls.proofs.Down as downing
 use Rattle.calls.proofs.UpPacket as upping
 use Rattle.calls.proofs.Demand.{all-refine, short-buffer, run-stands}
@@ -104,13 +109,13 @@ step-rfu c s = go (first (rules c s))
 abbrev counts : Octets → Puts
 counts a = record { down = decodeOf a .down .head + decodeOf a .down .count; up = decodeOf a .up .head + decodeOf a .up .count }
 
+-- n is told exactly where the call is taken and the drop flag is not set
+abbrev Tells : ℕ → Outcome → Type 0
+Tells n o = rfuIn (o .word) ≡ pick (isTaken (answerIn (o .word)) && not (droppedIn (o .word))) n 0
+
 module _ (k : Key) (v : Octal (slice (k .call))) (a : Octets) (g : Good a) where
   abbrev s : State
   s = viewOf a
-
-  -- n is told exactly where the call is taken and the drop flag is down
-  abbrev Tells : ℕ → Outcome → Type 0
-  Tells n o = rfuIn (o .word) ≡ pick (isTaken (answerIn (o .word)) && not (droppedIn (o .word))) n 0
 
   -- a buffer too short is refused
   short : (n : ℕ) → length (k .out) < messageSize → Tells n (pressed k a)
@@ -165,8 +170,64 @@ module _ (a : Octets) (g : Good a) where
       ap (λ (x : State). firstRfu way.Up (x .up)) (moves a r sound .took-up (p .some)) ∙ upping.packet-rfu a r
   first-slot-rfu (report c) t = refl
 
+-- ---- on any area
+
+-- a refusal tells none
+refused-tells : (n m : ℕ) (a out : Octets) → small m ≡ true → Tells n (outcome m a out)
+refused-tells n m a out s = refusal-rfu m s ∙ (λ i. pick (isTaken (sym (refusal-answer m s) i) && not (droppedIn m)) n 0)
+
+-- the number in a word's answer
+answer-small : (w n : ℕ) → answerIn w ≡ refused n → small n ≡ true
+unfolding answerIn
+answer-small w n e = go (eqb (w % 256) 0) refl e
+  where
+    go : (b : Bool) → eqb (w % 256) 0 ≡ b → pick b taken (refused (w % 256)) ≡ refused n → small n ≡ true
+    go true z h = absurd (taken-refused h)
+    go false z h =
+        let q : w % 256 ≡ n = ap number h in
+        let some : w % 256 ≡ 0 → ⊥ = eqb-false (w % 256) 0 z in
+        subst (λ (x : ℕ). small x ≡ true) q (rw (lt-ltb 0 (w % 256) (omega (arith, some)), lt-ltb (w % 256) 256 (omega arith)))
+
+-- fresh, which takes any area, tells none
+fresh-tells : (m a out : Octets) → Tells 0 (freshCall a out m)
+unfolding freshCall
+fresh-tells m a out =
+    decided-by (Tells 0) (roomRules (length a) (length out) ++ rules (fresh m) (viewOf a)) (freshed m a out) a out refl
+    (λ _. word-rfu false false 0 0 0 (omega arith) (omega arith) (omega arith) ∙ sym (pick-same (isTaken (answerIn quietWord) && not (droppedIn quietWord)) 0)) (λ n s. refused-tells 0 n a out s)
+
+-- a call that is taken: fresh, or one on an area with a good record
+taken-tells : (c : Call) (a out : Octets) → Octal (slice c) → Octal a → answerIn (perform c a out .word) ≡ taken → Tells (tellable c a) (perform c a out)
+taken-tells c a out v o e = go (isFresh c) refl
+  where
+    by-fresh : (c : Call) → isFresh c ≡ true → Tells (tellable c a) (perform c a out)
+    by-fresh (fresh m) f = fresh-tells m a out
+    by-fresh power f = absurd (false≢true f)
+    by-fresh (command gid oid m) f = absurd (false≢true f)
+    by-fresh (send c m) f = absurd (false≢true f)
+    by-fresh (push c) f = absurd (false≢true f)
+    by-fresh down f = absurd (false≢true f)
+    by-fresh (consume c) f = absurd (false≢true f)
+    by-fresh credit f = absurd (false≢true f)
+    by-fresh (air m) f = absurd (false≢true f)
+    by-fresh reply f = absurd (false≢true f)
+    by-fresh up f = absurd (false≢true f)
+    by-fresh (report c) f = absurd (false≢true f)
+
+    go : (b : Bool) → isFresh c ≡ b → Tells (tellable c a) (perform c a out)
+    go true f = by-fresh c f
+    go false f =
+        let entry = entered-if-taken c a out f e in
+        let g : Good a = record { long = entry .0; judged = entry .1; octal = o } in
+        tells (record { call = c; out = out }) v a g (tellable c a) (first-slot-rfu a g c)
+
 pub rfu-exact : RfuExact
-rfu-exact k a v g = tells k v a g (tellable (k .call) a) (first-slot-rfu a g (k .call))
+rfu-exact k a v o = go (answerIn (pressed k a .word)) refl
+  where
+    go : (r : Result) → answerIn (pressed k a .word) ≡ r → Tells (tellable (k .call) a) (pressed k a)
+    go taken e = taken-tells (k .call) a (k .out) v o e
+    go (refused n) e =
+        subst (Tells (tellable (k .call) a)) (sym (refusals-keep k a n e))
+        (refused-tells (tellable (k .call) a) n a (k .out) (answer-small (pressed k a .word) n e))
 
 -- ---- every run
 

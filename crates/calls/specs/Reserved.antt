@@ -11,7 +11,6 @@ use Rattle.record.specs.Reading.{decodeOf}
 use Rattle.model.specs.Effects.{Call, fresh, power, command, send, push, down, consume, credit, air, reply, up, report}
 use Rattle.calls.specs.Word.{answerIn, droppedIn, rfuIn}
 use Rattle.calls.specs.Seen.{isTaken}
-use Rattle.calls.specs.Refines.{Good}
 use Rattle.calls.specs.calls.Down.{downRead}
 use Rattle.calls.specs.calls.Up.{upRead}
 use Rattle.calls.specs.Demand.{Key, pressed, slice, EveryRun}
@@ -31,10 +30,10 @@ tellable reply a = 0
 tellable up a = rfuBy way.Up (upRead (decodeOf a) a)
 tellable (report c) a = 0
 
--- on any area with a good record, whether calls made it or not: they are told exactly where the call is taken and the drop flag is down
+-- on any area of octets, whatever its length and its record: they are told exactly where the call is taken and the drop flag is not set
 abbrev pub RfuExact : Type 0
 RfuExact =
-    (k : Key) (a : Octets) → Octal (slice (k .call)) → Good a
+    (k : Key) (a : Octets) → Octal (slice (k .call)) → Octal a
     → rfuIn (pressed k a .word) ≡ pick (isTaken (answerIn (pressed k a .word)) && not (droppedIn (pressed k a .word))) (tellable (k .call) a) 0
 
 -- in every run from a fresh bench there are none: neither end leaves a reserved bit at 1

@@ -23,7 +23,7 @@ use Rattle.state.specs.Commands.{commandOf}
 use Rattle.state.specs.Profile.{leastSize, creditsOk, TermsWithin}
 use Rattle.state.proofs.Chains.{on, every-at}
 use Rattle.dh.specs.Contents.{noticeOf, statusAlone, zeros, initWritten, createWritten, okWritten, entryId, entryCredits, entryOk, entriesOk, creditsWritten, activatedWritten, noticeWritten, written}
-use Rattle.dh.specs.Host.{okAnswer, answerOf, aimOf, noticed, heardAlone, expected, hearOf, hostAfter}
+use Rattle.dh.specs.Host.{okAnswer, answerOf, aimOf, noticed, heardWritten, expected, hearOf, hostAfter}
 
 -- ---- the limits
 
@@ -192,9 +192,9 @@ module _ (m : Octets) (octal : Octal m) where
   noticed-fits notice.Deactivate w = tt
   noticed-fits notice.Unknown w = tt
 
-  alone-fits : (p : Pending) (mt gid oid : ℕ) → written mt gid oid m ≡ true → HeardFits m (heardAlone p mt gid oid m)
-  unfolding heardAlone written
-  alone-fits p mt gid oid w = go (eqb mt 2) w
+  written-fits : (p : Pending) (mt gid oid : ℕ) → written mt gid oid m ≡ true → HeardFits m (heardWritten p mt gid oid m)
+  unfolding heardWritten written
+  written-fits p mt gid oid w = go (eqb mt 2) w
     where
       go : (b : Bool) → pick b (statusAlone m || okWritten (commandOf gid oid) m) (noticeWritten (noticeOf gid oid) m) ≡ true
           → HeardFits m (pick b (Answered (answerOf (commandOf gid oid) (aimOf p) m)) (noticed (noticeOf gid oid) m))
@@ -205,7 +205,7 @@ module _ (m : Octets) (octal : Octal m) where
   pub hear-fits : (p : Pending) (mt gid oid : ℕ) → HeardFits m (hearOf p mt gid oid m)
   unfolding hearOf
   hear-fits p mt gid oid =
-      on (HeardFits m) (expected p mt gid oid) (λ e. on (HeardFits m) (written mt gid oid m) (λ w. alone-fits p mt gid oid w) (λ e. tt)) (λ e. tt)
+      on (HeardFits m) (expected p mt gid oid) (λ e. on (HeardFits m) (written mt gid oid m) (λ w. written-fits p mt gid oid w) (λ e. tt)) (λ e. tt)
 
 -- ---- the host's own number
 

@@ -1,5 +1,5 @@
--- The host's reading of a whole control message (document 01, up under "Calls"): what a host that stands alone makes of it, behind
--- one guard, `written` of Contents: could the bench's controller have written these contents?
+-- The host's reading of a whole control message (document 01, up under "Calls"): what is heard in it, behind one guard, `written` of
+-- Contents: could the bench's controller have written these contents?
 -- Assumes nothing.
 use Prim.Native.Nat.{ℕ, zero, suc, _+_}
 use mathlib.Core.Bool.{Bool, true, false, _&&_, _||_, not}
@@ -74,9 +74,10 @@ noticed notice.Activated m = Activated (record { payload = getD m 4 0; credits =
 noticed notice.Deactivate m = Deactivated
 noticed notice.Unknown m = Nothing
 
--- what a host that stands alone hears
-unfoldable pub heardAlone : Pending → ℕ → ℕ → ℕ → Octets → Heard
-heardAlone p mt gid oid m =
+-- what is heard in contents that are known to be written here. It stands behind `written`: it tests no length and no value, so a create
+-- response that is cut short would open connection 0. A host before a bought controller needs limits of its own
+unfoldable pub heardWritten : Pending → ℕ → ℕ → ℕ → Octets → Heard
+heardWritten p mt gid oid m =
     pick (eqb mt mtResponse) (Answered (answerOf (commandOf gid oid) (aimOf p) m)) (noticed (noticeOf gid oid) m)
 
 -- notifications are always heard, a response where its command is unanswered, commands never
@@ -84,7 +85,7 @@ abbrev pub expected : Pending → ℕ → ℕ → ℕ → Bool
 expected p mt gid oid = pick (eqb mt mtResponse) (awaits p gid oid) (eqb mt mtNotification)
 
 unfoldable pub hearOf : Pending → ℕ → ℕ → ℕ → Octets → Heard
-hearOf p mt gid oid m = pick (expected p mt gid oid) (pick (written mt gid oid m) (heardAlone p mt gid oid m) Nothing) Dropped
+hearOf p mt gid oid m = pick (expected p mt gid oid) (pick (written mt gid oid m) (heardWritten p mt gid oid m) Nothing) Dropped
 
 -- ---- a credit notice
 

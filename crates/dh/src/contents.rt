@@ -3,6 +3,8 @@
 use state::commands;
 use state::commands::Command;
 use state::conn;
+use state::fields;
+use state::names;
 use state::profile::LEAST_SIZE;
 use state::profile::credits_ok;
 use state::radio;
@@ -27,16 +29,16 @@ pub fn notice_of(gid: u8, oid: u8) -> Notice
     ensures { λ r. ⌜ r ≡ noticeOf gid oid ⌝ }
 {
     match gid {
-        0 => match oid {
-            0 => Notice::Reset,
-            6 => Notice::Credits,
-            7 => Notice::GenericError,
+        names::GID_CORE => match oid {
+            names::OID_RESET => Notice::Reset,
+            names::OID_CONN_CREDITS => Notice::Credits,
+            names::OID_GENERIC_ERROR => Notice::GenericError,
             _ => Notice::Unknown,
         },
-        1 => match oid {
-            3 => Notice::Discover,
-            5 => Notice::Activated,
-            6 => Notice::Deactivate,
+        names::GID_RF => match oid {
+            names::OID_DISCOVER => Notice::Discover,
+            names::OID_ACTIVATED => Notice::Activated,
+            names::OID_DEACTIVATE => Notice::Deactivate,
             _ => Notice::Unknown,
         },
         _ => Notice::Unknown,
@@ -47,16 +49,16 @@ pub fn notice_of(gid: u8, oid: u8) -> Notice
 fn status_alone(m: &[u8]) -> bool
     ensures { λ r. ⌜ r ≡ statusAlone (now (m .entry)) ⌝ }
 {
-    let status = octets::octet_at(m, 0);
-    (m.len() == 1) & (status != 0x00)
+    let status = octets::octet_at(m, fields::STATUS);
+    (m.len() == fields::STATUS_LENGTH) & (status != names::STATUS_OK)
 }
 
 // A response of one octet, STATUS_OK.
 fn ok_alone(m: &[u8]) -> bool
     ensures { λ r. ⌜ r ≡ okAlone (now (m .entry)) ⌝ }
 {
-    let status = octets::octet_at(m, 0);
-    (m.len() == 1) & (status == 0x00)
+    let status = octets::octet_at(m, fields::STATUS);
+    (m.len() == fields::STATUS_LENGTH) & (status == names::STATUS_OK)
 }
 
 // Whether the n octets from index i on are all 00: fields that the bench's controller has nothing to say in.
@@ -78,10 +80,10 @@ fn zeros(m: &[u8], i: usize, n: usize) -> bool
 fn init_front(m: &[u8]) -> bool
     ensures { λ r. ⌜ r ≡ initFront (now (m .entry)) ⌝ }
 {
-    let status = zeros(m, 0, 5);
-    let most = octets::octet_at(m, 5);
-    let routes = zeros(m, 6, 2);
-    (m.len() == 16) & status & (most == 0x04) & routes
+    let status = zeros(m, fields::STATUS, 5);
+    let most = octets::octet_at(m, fields::INIT_CONNS);
+    let routes = zeros(m, fields::INIT_ROUTES, 2);
+    (m.len() == fields::INIT_LENGTH) & status & (most == 0x04) & routes
 }
 
 // A CORE_INIT_RSP of the bench: 16 octets, of which the control payload alone is free.
@@ -89,24 +91,34 @@ fn init_written(m: &[u8]) -> bool
     ensures { λ r. ⌜ r ≡ initWritten (now (m .entry)) ⌝ }
 {
     let front = init_front(m);
-    let size = octets::octet_at(m, 8);
-    let hci = zeros(m, 9, 4);
-    let count = octets::octet_at(m, 13);
-    let frame = octets::octet_at(m, 14);
-    let extension = zeros(m, 15, 1);
-    front & (LEAST_SIZE <= size) & hci & (count == 0x01) & (frame == 0x01) & extension
+    let size = octets::octet_at(m, fields::INIT_CONTROL);
+    let hci = zeros(m, fields::INIT_HCI, 4);
+    let count = octets::octet_at(m, fields::INIT_INTERFACES);
+    let frame = octets::octet_at(m, fields::INIT_INTERFACE);
+    let extension = zeros(m, fields::INIT_EXTENSIONS, 1);
+    front
+        & (LEAST_SIZE <= size)
+        & hci
+        & (count == 0x01)
+        & (frame == names::FRAME_INTERFACE)
+        & extension
 }
 
 // A CORE_CONN_CREATE_RSP that opens one of the connections 2-5.
 pub fn create_written(m: &[u8]) -> bool
     ensures { λ r. ⌜ r ≡ createWritten (now (m .entry)) ⌝ }
 {
-    let status = octets::octet_at(m, 0);
-    let payload = octets::octet_at(m, 1);
-    let credits = octets::octet_at(m, 2);
-    let id = octets::octet_at(m, 3);
+    let status = octets::octet_at(m, fields::STATUS);
+    let payload = octets::octet_at(m, fields::CREATE_PAYLOAD);
+    let credits = octets::octet_at(m, fields::CREATE_CREDITS);
+    let id = octets::octet_at(m, fields::CREATE_CONN);
     let ok = credits_ok(credits);
-    (m.len() == 4) & (status == 0x00) & (1 <= payload) & ok & (2 <= id) & (id <= 5)
+    (m.len() == fields::CREATE_LENGTH)
+        & (status == names::STATUS_OK)
+        & (1 <= payload)
+        & ok
+        & (2 <= id)
+        & (id <= 5)
 }
 
 // An OK response as the bench's controller writes it.
@@ -129,11 +141,15 @@ fn ok_written(c: Command, m: &[u8]) -> bool
 fn reset_written(m: &[u8]) -> bool
     ensures { λ r. ⌜ r ≡ resetWritten (now (m .entry)) ⌝ }
 {
-    let trigger = octets::octet_at(m, 0);
-    let config = octets::octet_at(m, 1);
-    let version = octets::octet_at(m, 2);
-    let maker = zeros(m, 3, 2);
-    (m.len() == 5) & (trigger == 0x02) & (config <= 1) & (version == 0x20) & maker
+    let trigger = octets::octet_at(m, fields::RESET_TRIGGER);
+    let config = octets::octet_at(m, fields::RESET_CONFIG);
+    let version = octets::octet_at(m, fields::RESET_VERSION);
+    let maker = zeros(m, fields::RESET_MAKER, 2);
+    (m.len() == fields::RESET_LENGTH)
+        & (trigger == 0x02)
+        & (config <= 1)
+        & (version == 0x20)
+        & maker
 }
 
 // Entry i of a CORE_CONN_CREDITS_NTF: a Conn ID that there is, with 1-8 credits.
@@ -141,8 +157,8 @@ fn entry_ok(m: &[u8], i: usize) -> bool
     requires { ⌜ i ≤ 255 ⌝ }
     ensures { λ r. ⌜ r ≡ entryOk (now (m .entry)) i ⌝ }
 {
-    let id = octets::octet_at(m, 1 + 2 * i);
-    let credits = octets::octet_at(m, 2 + 2 * i);
+    let id = octets::octet_at(m, fields::ENTRY_CONN + fields::ENTRY_SIZE * i);
+    let credits = octets::octet_at(m, fields::ENTRY_CREDITS + fields::ENTRY_SIZE * i);
     let place = conn::place_of(id);
     (place < 5) & (1 <= credits) & (credits <= 8)
 }
@@ -155,8 +171,8 @@ fn ascends(m: &[u8], i: usize) -> bool
     if i == 0 {
         return true;
     }
-    let last = octets::octet_at(m, 1 + 2 * (i - 1));
-    let id = octets::octet_at(m, 1 + 2 * i);
+    let last = octets::octet_at(m, fields::ENTRY_CONN + fields::ENTRY_SIZE * (i - 1));
+    let id = octets::octet_at(m, fields::ENTRY_CONN + fields::ENTRY_SIZE * i);
     last < id
 }
 
@@ -180,70 +196,76 @@ fn entries_ok(m: &[u8], n: usize) -> bool
 pub fn credits_written(m: &[u8]) -> bool
     ensures { λ r. ⌜ r ≡ creditsWritten (now (m .entry)) ⌝ }
 {
-    let n = octets::octet_at(m, 0) as usize;
+    let n = octets::octet_at(m, fields::ENTRY_COUNT) as usize;
     let ok = entries_ok(m, n);
-    (1 <= n) & (n <= 5) & (m.len() == 1 + 2 * n) & ok
+    (1 <= n) & (n <= 5) & (m.len() == fields::ENTRY_CONN + fields::ENTRY_SIZE * n) & ok
 }
 
 // An RF_DISCOVER_NTF of the bench.
 fn discover_written(m: &[u8]) -> bool
     ensures { λ r. ⌜ r ≡ discoverWritten (now (m .entry)) ⌝ }
 {
-    let id = octets::octet_at(m, 0);
-    let mode = octets::octet_at(m, 2);
-    let n = octets::octet_at(m, 3) as usize;
-    let kind = octets::octet_at(m, 4 + n);
+    let id = octets::octet_at(m, fields::FOUND_ID);
+    let mode = octets::octet_at(m, fields::FOUND_MODE);
+    let n = octets::octet_at(m, fields::FOUND_PARAMS_LENGTH) as usize;
+    let kind = octets::octet_at(m, fields::FOUND_TYPE + n);
     let named = radio::id_ok(id);
     let polled = radio::polls(mode);
-    named & polled & (n <= 32) & (m.len() == 5 + n) & (kind <= 2)
+    named
+        & polled
+        & (n <= 32)
+        & (m.len() == fields::FOUND_LENGTH + n)
+        & (kind <= names::MORE_FOLLOW)
 }
 
 // The front of an RF_INTF_ACTIVATED_NTF, up to the payload size of connection 0: the Frame interface alone.
 fn activated_front(m: &[u8]) -> bool
     ensures { λ r. ⌜ r ≡ activatedFront (now (m .entry)) ⌝ }
 {
-    let id = octets::octet_at(m, 0);
-    let interface = octets::octet_at(m, 1);
-    let mode = octets::octet_at(m, 3);
-    let payload = octets::octet_at(m, 4);
+    let id = octets::octet_at(m, fields::ACTIVATED_ID);
+    let interface = octets::octet_at(m, fields::ACTIVATED_INTERFACE);
+    let mode = octets::octet_at(m, fields::ACTIVATED_MODE);
+    let payload = octets::octet_at(m, fields::ACTIVATED_PAYLOAD);
     let named = radio::id_ok(id);
     let polled = radio::polls(mode);
     let listened = radio::listens(mode);
-    named & (interface == 0x01) & (polled | listened) & (1 <= payload)
+    named & (interface == names::FRAME_INTERFACE) & (polled | listened) & (1 <= payload)
 }
 
 // An RF_INTF_ACTIVATED_NTF of the bench: its mode stands twice, and it has no activation parameters.
 pub fn activated_written(m: &[u8]) -> bool
     ensures { λ r. ⌜ r ≡ activatedWritten (now (m .entry)) ⌝ }
 {
-    let mode = octets::octet_at(m, 3);
-    let credits = octets::octet_at(m, 5);
-    let n = octets::octet_at(m, 6) as usize;
-    let again = octets::octet_at(m, 7 + n);
-    let rest = zeros(m, 8 + n, 3);
+    let mode = octets::octet_at(m, fields::ACTIVATED_MODE);
+    let credits = octets::octet_at(m, fields::ACTIVATED_CREDITS);
+    let n = octets::octet_at(m, fields::ACTIVATED_PARAMS_LENGTH) as usize;
+    let again = octets::octet_at(m, fields::ACTIVATED_EXCHANGE + n);
+    let rest = zeros(m, fields::ACTIVATED_RATES + n, 3);
     let ok = credits_ok(credits);
     let front = activated_front(m);
-    front & ok & (n <= 32) & (m.len() == 11 + n) & (again == mode) & rest
+    front & ok & (n <= 32) & (m.len() == fields::ACTIVATED_LENGTH + n) & (again == mode) & rest
 }
 
 // An RF_DEACTIVATE_NTF of the bench: of any type where the host asked, or the endpoint's sleep, lost link or release.
 fn deactivate_written(m: &[u8]) -> bool
     ensures { λ r. ⌜ r ≡ deactivateWritten (now (m .entry)) ⌝ }
 {
-    let kind = octets::octet_at(m, 0);
-    let reason = octets::octet_at(m, 1);
-    (m.len() == 2)
-        & (((kind <= 3) & (reason == 0x00))
-            | ((kind == 1) & (reason == 0x01))
-            | ((kind == 3) & (1 <= reason) & (reason <= 2)))
+    let kind = octets::octet_at(m, fields::DEACTIVATE_TYPE);
+    let reason = octets::octet_at(m, fields::DEACTIVATE_REASON);
+    (m.len() == fields::DEACTIVATE_LENGTH)
+        & (((kind <= names::TO_DISCOVERY) & (reason == names::HOST_REQUEST))
+            | ((kind == names::TO_SLEEP) & (reason == names::ENDPOINT_REQUEST))
+            | ((kind == names::TO_DISCOVERY)
+                & (names::ENDPOINT_REQUEST <= reason)
+                & (reason <= names::LINK_LOSS)))
 }
 
 // A CORE_GENERIC_ERROR_NTF of the bench: the activation failed.
 fn error_written(m: &[u8]) -> bool
     ensures { λ r. ⌜ r ≡ noticeWritten Notice.GenericError (now (m .entry)) ⌝ }
 {
-    let status = octets::octet_at(m, 0);
-    (m.len() == 1) & (status == 0xA1)
+    let status = octets::octet_at(m, fields::STATUS);
+    (m.len() == fields::STATUS_LENGTH) & (status == names::ACTIVATION_FAILED)
 }
 
 // A notification as the bench's controller writes it.

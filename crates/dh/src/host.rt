@@ -4,17 +4,19 @@ use crate::contents::Notice;
 use state::commands;
 use state::commands::Command;
 use state::conn;
+use state::fields;
 use state::kinds::Asked;
 use state::kinds::Counts;
 use state::kinds::Host;
 use state::kinds::HostSide;
 use state::kinds::Pending;
 use state::kinds::Terms;
+use state::names;
 use state::profile::LEAST_SIZE;
 ghost use mathlib.Core.Path.{_≡_};
 ghost use Prim.Native.Nat.{_≤_};
 ghost use Rattle.state.specs.Conn.{heldOpen};
-ghost use Rattle.dh.specs.Host.{askedOf, awaits, aimOf, isBusy, isClosing, okAnswer, answerOf, noticed, heardAlone, expected, hearOf, creditsFor, namesClosed, settled, hostAnswered, hostAfter, credited, creditedAt, allCredited, connsAnswered, connsHeard, dropHeard};
+ghost use Rattle.dh.specs.Host.{askedOf, awaits, aimOf, isBusy, isClosing, okAnswer, answerOf, noticed, heardWritten, expected, hearOf, creditsFor, namesClosed, settled, hostAnswered, hostAfter, credited, creditedAt, allCredited, connsAnswered, connsHeard, dropHeard};
 ghost use Rattle.dh.specs.Hearing.{entryFor};
 
 // What the awaited response says.
@@ -86,7 +88,8 @@ pub fn is_closing(p: Pending) -> bool
 {
     match p {
         Pending::Nothing => false,
-        Pending::Command(a) => (a.gid == 0) & ((a.oid == 0) | (a.oid == 5)),
+        Pending::Command(a) => (a.gid == names::GID_CORE)
+            & ((a.oid == names::OID_RESET) | (a.oid == names::OID_CONN_CLOSE)),
     }
 }
 
@@ -97,13 +100,13 @@ fn ok_answer(c: Command, aim: u8, m: &[u8]) -> Answer
     match c {
         Command::Reset => Answer::ClosesAll,
         Command::Init => {
-            let size = octets::octet_at(m, 8);
+            let size = octets::octet_at(m, fields::INIT_CONTROL);
             Answer::Sized(size)
         }
         Command::ConnCreate => {
-            let payload = octets::octet_at(m, 1);
-            let credits = octets::octet_at(m, 2);
-            let id = octets::octet_at(m, 3);
+            let payload = octets::octet_at(m, fields::CREATE_PAYLOAD);
+            let credits = octets::octet_at(m, fields::CREATE_CREDITS);
+            let id = octets::octet_at(m, fields::CREATE_CONN);
             Answer::Opens(
                 id,
                 Terms {
@@ -124,8 +127,8 @@ fn ok_answer(c: Command, aim: u8, m: &[u8]) -> Answer
 fn answer_of(c: Command, aim: u8, m: &[u8]) -> Answer
     ensures { λ r. ⌜ r ≡ answerOf c aim (now (m .entry)) ⌝ }
 {
-    let status = octets::octet_at(m, 0);
-    if status == 0x00 {
+    let status = octets::octet_at(m, fields::STATUS);
+    if status == names::STATUS_OK {
         ok_answer(c, aim, m)
     } else {
         Answer::Done
@@ -142,8 +145,8 @@ fn noticed(n: Notice, m: &[u8]) -> Heard
         Notice::GenericError => Heard::Nothing,
         Notice::Discover => Heard::Nothing,
         Notice::Activated => {
-            let payload = octets::octet_at(m, 4);
-            let credits = octets::octet_at(m, 5);
+            let payload = octets::octet_at(m, fields::ACTIVATED_PAYLOAD);
+            let credits = octets::octet_at(m, fields::ACTIVATED_CREDITS);
             Heard::Activated(Terms {
                 payload: payload,
                 credits: credits,
@@ -154,9 +157,10 @@ fn noticed(n: Notice, m: &[u8]) -> Heard
     }
 }
 
-// What a host that stands alone makes of a response or a notification.
-fn heard_alone(p: Pending, mt: u8, gid: u8, oid: u8, m: &[u8]) -> Heard
-    ensures { λ r. ⌜ r ≡ heardAlone p mt gid oid (now (m .entry)) ⌝ }
+// What is heard in contents that are known to be written here. It must stand behind `contents::written`: it tests no length and no
+// value, so a create response that is cut short would open connection 0. A host before a bought controller needs limits of its own.
+fn heard_written(p: Pending, mt: u8, gid: u8, oid: u8, m: &[u8]) -> Heard
+    ensures { λ r. ⌜ r ≡ heardWritten p mt gid oid (now (m .entry)) ⌝ }
 {
     if mt == packets::RESPONSE {
         let c = commands::command_of(gid, oid);
@@ -188,7 +192,7 @@ pub fn hear(p: Pending, mt: u8, gid: u8, oid: u8, m: &[u8]) -> Heard
     let ours = contents::written(mt, gid, oid, m);
     if mine {
         if ours {
-            heard_alone(p, mt, gid, oid, m)
+            heard_written(p, mt, gid, oid, m)
         } else {
             Heard::Nothing
         }
@@ -202,8 +206,8 @@ fn entry_for(m: &[u8], i: usize, conn: u8) -> u8
     requires { ⌜ i ≤ 255 ⌝ }
     ensures { λ r. ⌜ r ≡ entryFor (now (m .entry)) i conn ⌝ }
 {
-    let id = octets::octet_at(m, 1 + 2 * i);
-    let credits = octets::octet_at(m, 2 + 2 * i);
+    let id = octets::octet_at(m, fields::ENTRY_CONN + fields::ENTRY_SIZE * i);
+    let credits = octets::octet_at(m, fields::ENTRY_CREDITS + fields::ENTRY_SIZE * i);
     if id == conn { credits } else { 0 }
 }
 
@@ -211,7 +215,7 @@ fn entry_for(m: &[u8], i: usize, conn: u8) -> u8
 pub fn credits_for(m: &[u8], conn: u8) -> usize
     ensures { λ r. ⌜ r ≡ creditsFor (now (m .entry)) conn ⌝ }
 {
-    let n = octets::octet_at(m, 0) as usize;
+    let n = octets::octet_at(m, fields::ENTRY_COUNT) as usize;
     let mut sum: usize = 0;
     let mut i: usize = 0;
     while i < n {
@@ -230,7 +234,7 @@ fn names_closed(conns: [Counts; 5], m: &[u8], n: usize) -> bool
     let mut closed = false;
     let mut i: usize = 0;
     while i < n {
-        let id = octets::octet_at(m, 1 + 2 * i);
+        let id = octets::octet_at(m, fields::ENTRY_CONN + fields::ENTRY_SIZE * i);
         let opened = conn::held_open(conns, id);
         closed = closed | !opened;
         i += 1;
@@ -345,7 +349,7 @@ pub fn drop_heard(conns: [Counts; 5], m: &[u8], x: Heard) -> bool
         Heard::Activated(_) => false,
         Heard::Deactivated => false,
         Heard::Credits => {
-            let n = octets::octet_at(m, 0) as usize;
+            let n = octets::octet_at(m, fields::ENTRY_COUNT) as usize;
             names_closed(conns, m, n)
         }
     }

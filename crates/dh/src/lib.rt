@@ -1,4 +1,5 @@
-// The device host: which contents it knows as the controller's, and what follows from a message. No wire and no area is in
-// sight here.
+// The device host: which contents it knows as the controller's, what follows from a message, and what its own steps do to its
+// numbers. No wire and no area is in sight here.
 pub mod contents;
 pub mod host;
+pub mod sending;

@@ -4,11 +4,11 @@ use Prim.Native.Nat.{ℕ}
 use mathlib.Core.Path.{_≡_}
 use mathlib.Core.Bool.{Bool, true, false, _&&_, _||_}
 use mathlib.Core.List.{[], _∷_}
-use lib.ListN.{length, drop, getD}
+use lib.ListN.{length, getD}
 use lib.Dec.{eqb, leb, ltb}
 use Rattle.octets.specs.Octets.{Octets, pick, splice}
 use Rattle.ascii.specs.Letters as letter
-use Rattle.ascii.specs.Words.{startsWith, upTo}
+use Rattle.ascii.specs.Fields.{afterField, hasField, onlyField, valueIn}
 use Rattle.ascii.specs.Digits.{isHex, octetsIn}
 use Rattle.forms.specs.Kinds.{Name, Asked}
 use Rattle.forms.specs.Kinds.name.{Fresh, Power, Command, Send, Push, Down, Consume, Credit, Air, Reply, Up, Report, Read, Bad}
@@ -19,26 +19,22 @@ use Rattle.forms.specs.Names.{nameIn}
 abbrev pub evLabel : Octets
 evLabel = letter.e ∷ letter.v ∷ letter.equals ∷ []
 
-abbrev pub argLabel : Octets
-argLabel = letter.blank ∷ letter.a ∷ letter.r ∷ letter.g ∷ letter.equals ∷ []
+abbrev pub evName : Octets
+evName = letter.e ∷ letter.v ∷ []
 
--- what stands before the first blank, and what stands from there on
-abbrev pub headOf : Octets → Octets
-headOf = upTo letter.blank
-
-abbrev pub tailOf : Octets → Octets
-tailOf l = drop (length (headOf l)) l
+abbrev pub argName : Octets
+argName = letter.a ∷ letter.r ∷ letter.g ∷ []
 
 -- NAME and HEX
 abbrev pub wordIn : Octets → Octets
-wordIn l = drop 3 (headOf l)
+wordIn = valueIn evName
 
 abbrev pub digitsIn : Octets → Octets
-digitsIn l = drop 5 (tailOf l)
+digitsIn l = valueIn argName (afterField l)
 
 -- over 2,100 characters is another form
 unfoldable pub formed : Octets → Bool
-formed l = leb (length l) 2100 && startsWith (headOf l) evLabel && startsWith (tailOf l) argLabel && isHex (digitsIn l)
+formed l = leb (length l) 2100 && hasField evName l && onlyField argName (afterField l) && isHex (digitsIn l)
 
 -- the octets of the arguments
 unfoldable pub argsOf : Octets → Octets

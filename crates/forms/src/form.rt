@@ -2,49 +2,30 @@
 use crate::ARGS;
 use crate::names::Name;
 use crate::names::name_in;
-use ascii::find::before;
-use ascii::find::starts;
+use ascii::fields::after;
+use ascii::fields::has;
+use ascii::fields::only;
+use ascii::fields::value;
 use ascii::hex::decode;
 use ascii::hex::is_hex;
 use octets::window;
 ghost use mathlib.Core.Path.{_≡_};
-ghost use Rattle.forms.specs.Form.{headOf, tailOf, wordIn, digitsIn, kindFits, Reads};
+ghost use Rattle.forms.specs.Form.{digitsIn, kindFits, Reads};
 ghost use Rattle.forms.specs.Form.{formed as Form·formed, fits as Form·fits};
 
-// What stands before the first blank.
-fn head<'a>(line: &'a [u8]) -> &'a [u8]
-    ensures { λ r. ⌜ now r ≡ headOf (now (line .entry)) ⌝ }
-{
-    window(line, 0, before(line, b' '))
-}
-
-// The first blank, and what follows.
-fn tail<'a>(line: &'a [u8]) -> &'a [u8]
-    ensures { λ r. ⌜ now r ≡ tailOf (now (line .entry)) ⌝ }
-{
-    window(line, before(line, b' '), line.len())
-}
-
-// NAME, where the line starts as it should.
-fn word<'a>(line: &'a [u8]) -> &'a [u8]
-    ensures { λ r. ⌜ now r ≡ wordIn (now (line .entry)) ⌝ }
-{
-    window(head(line), 3, line.len())
-}
-
-// HEX, where a field arg follows.
+// HEX.
 fn digits<'a>(line: &'a [u8]) -> &'a [u8]
     ensures { λ r. ⌜ now r ≡ digitsIn (now (line .entry)) ⌝ }
 {
-    window(tail(line), 5, line.len())
+    value(after(line), b"arg")
 }
 
 // Whether a line has the form, whatever its name.
 fn formed(line: &[u8]) -> bool
     ensures { λ r. ⌜ r ≡ Form·formed (now (line .entry)) ⌝ }
 {
-    let event = starts(head(line), b"ev=");
-    let argument = starts(tail(line), b" arg=");
+    let event = has(line, b"ev");
+    let argument = only(after(line), b"arg");
     let octets = is_hex(digits(line));
     (line.len() <= 2100) & event & argument & octets
 }
@@ -109,7 +90,7 @@ pub fn read_line(line: &[u8], args: &mut [u8; ARGS]) -> Asked
     }
     let count = digits(line).len() / 2;
     decode(digits(line), args);
-    let name = name_in(word(line));
+    let name = name_in(value(line, b"ev"));
     if fits(name, window(args, 0, count)) {
         return Asked { name, count };
     }

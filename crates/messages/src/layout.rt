@@ -2,10 +2,12 @@
 // longest payload of a control message.
 use state::conn::conn_of;
 use state::conn::owing;
+use state::fields;
 use state::kinds::Activation;
 use state::kinds::Counts;
 use state::kinds::Profile;
 use state::kinds::Terms;
+use state::names;
 use state::runs::CONTROL_LIMIT;
 use state::verdict::Verdict;
 ghost use mathlib.Core.Path.{_≡_};
@@ -14,6 +16,7 @@ ghost use Prim.Native.Nat.{_+_, _≤_};
 ghost use lib.ListN.{length};
 ghost use lib.Dec.{eqb};
 ghost use Rattle.octets.specs.Octets.{pick, splice};
+ghost use Rattle.state.specs.Names.{gidCore, gidRf, oidReset, oidGenericError, oidDiscover, oidActivated, oidDeactivate};
 ghost use Rattle.state.specs.Runs.{controlLimit};
 ghost use Rattle.messages.specs.Layout.{Put, resetNtf, initRsp, createRsp, genericErrorNtf, discoverNtf, activatedNtf, deactivateNtf, creditsMessage, responseMessage, noticeMessage};
 
@@ -66,24 +69,11 @@ fn status(out: &mut [u8; CONTROL_LIMIT], gid: u8, oid: u8, s: u8) -> Note
 fn init_rsp(out: &mut [u8; CONTROL_LIMIT], gid: u8, oid: u8, control: u8) -> Note
     ensures { λ r. ⌜ Put (now (out .entry)) (record { gid = gid; oid = oid; payload = initRsp control }) r (now (out .exit)) ⌝ }
 {
-    let o = [
-        0x00,
-        0x00,
-        0x00,
-        0x00,
-        0x00,
-        0x04,
-        0x00,
-        0x00,
-        control,
-        0x00,
-        0x00,
-        0x00,
-        0x00,
-        0x01,
-        0x01,
-        0x00,
-    ];
+    let mut o = [0x00; fields::INIT_LENGTH];
+    o[fields::INIT_CONNS] = 0x04;
+    o[fields::INIT_CONTROL] = control;
+    o[fields::INIT_INTERFACES] = 0x01;
+    o[fields::INIT_INTERFACE] = names::FRAME_INTERFACE;
     emit(out, gid, oid, &o)
 }
 
@@ -91,7 +81,11 @@ fn init_rsp(out: &mut [u8; CONTROL_LIMIT], gid: u8, oid: u8, control: u8) -> Not
 fn create_rsp(out: &mut [u8; CONTROL_LIMIT], gid: u8, oid: u8, t: Terms, id: u8) -> Note
     ensures { λ r. ⌜ Put (now (out .entry)) (record { gid = gid; oid = oid; payload = createRsp t id }) r (now (out .exit)) ⌝ }
 {
-    let o = [0x00, t.payload, t.credits, id];
+    let mut o = [0x00; fields::CREATE_LENGTH];
+    o[fields::STATUS] = names::STATUS_OK;
+    o[fields::CREATE_PAYLOAD] = t.payload;
+    o[fields::CREATE_CREDITS] = t.credits;
+    o[fields::CREATE_CONN] = id;
     emit(out, gid, oid, &o)
 }
 
@@ -101,13 +95,13 @@ pub fn response(out: &mut [u8; CONTROL_LIMIT], gid: u8, oid: u8, p: Profile, v: 
 {
     match v {
         Verdict::Refuses(s) => status(out, gid, oid, s),
-        Verdict::Resets(_) => status(out, gid, oid, 0x00),
+        Verdict::Resets(_) => status(out, gid, oid, names::STATUS_OK),
         Verdict::Initialises => init_rsp(out, gid, oid, p.control),
         Verdict::Opens(id, t) => create_rsp(out, gid, oid, t, id),
-        Verdict::Closes(_) => status(out, gid, oid, 0x00),
-        Verdict::Turns(_) => status(out, gid, oid, 0x00),
-        Verdict::Selects(_) => status(out, gid, oid, 0x00),
-        Verdict::Deactivates(_, _) => status(out, gid, oid, 0x00),
+        Verdict::Closes(_) => status(out, gid, oid, names::STATUS_OK),
+        Verdict::Turns(_) => status(out, gid, oid, names::STATUS_OK),
+        Verdict::Selects(_) => status(out, gid, oid, names::STATUS_OK),
+        Verdict::Deactivates(_, _) => status(out, gid, oid, names::STATUS_OK),
     }
 }
 
@@ -124,18 +118,23 @@ pub fn no_message() -> Note
 
 // CORE_RESET_NTF (003, Table 5).
 fn reset_ntf(out: &mut [u8; CONTROL_LIMIT], kind: u8) -> Note
-    ensures { λ r. ⌜ Put (now (out .entry)) (record { gid = 0; oid = 0; payload = resetNtf kind }) r (now (out .exit)) ⌝ }
+    ensures { λ r. ⌜ Put (now (out .entry)) (record { gid = gidCore; oid = oidReset; payload = resetNtf kind }) r (now (out .exit)) ⌝ }
 {
-    let o = [0x02, kind, 0x20, 0x00, 0x00];
-    emit(out, 0, 0, &o)
+    let mut o = [0x00; fields::RESET_LENGTH];
+    o[fields::RESET_TRIGGER] = 0x02;
+    o[fields::RESET_CONFIG] = kind;
+    o[fields::RESET_VERSION] = 0x20;
+    emit(out, names::GID_CORE, names::OID_RESET, &o)
 }
 
 // RF_DEACTIVATE_NTF (003, Tables 79 to 81).
 pub fn deactivate_ntf(out: &mut [u8; CONTROL_LIMIT], kind: u8, reason: u8) -> Note
-    ensures { λ r. ⌜ Put (now (out .entry)) (record { gid = 1; oid = 6; payload = deactivateNtf kind reason }) r (now (out .exit)) ⌝ }
+    ensures { λ r. ⌜ Put (now (out .entry)) (record { gid = gidRf; oid = oidDeactivate; payload = deactivateNtf kind reason }) r (now (out .exit)) ⌝ }
 {
-    let o = [kind, reason];
-    emit(out, 1, 6, &o)
+    let mut o = [0x00; fields::DEACTIVATE_LENGTH];
+    o[fields::DEACTIVATE_TYPE] = kind;
+    o[fields::DEACTIVATE_REASON] = reason;
+    emit(out, names::GID_RF, names::OID_DEACTIVATE, &o)
 }
 
 // The notification that follows a verdict's response, where there is one.
@@ -150,7 +149,7 @@ pub fn notice(out: &mut [u8; CONTROL_LIMIT], v: Verdict) -> Note
         Verdict::Closes(_) => no_message(),
         Verdict::Turns(_) => no_message(),
         Verdict::Selects(_) => no_message(),
-        Verdict::Deactivates(kind, _) => deactivate_ntf(out, kind, 0x00),
+        Verdict::Deactivates(kind, _) => deactivate_ntf(out, kind, names::HOST_REQUEST),
     }
 }
 
@@ -165,24 +164,24 @@ fn entry(out: &mut [u8], at: usize, conn: u8, n: u8) -> usize
     }
     let o = [conn, n];
     octets::put(out, at, &o);
-    at + 2
+    at + fields::ENTRY_SIZE
 }
 
 // CORE_CONN_CREDITS_NTF (003, Table 18): all that is owed, in ascending order of the Conn IDs.
 pub fn credits_ntf(out: &mut [u8; CONTROL_LIMIT], conns: [Counts; 5]) -> Note
     ensures { λ r. ⌜ Put (now (out .entry)) (creditsMessage conns) r (now (out .exit)) ⌝ }
 {
-    let mut at: usize = 1;
+    let mut at: usize = fields::ENTRY_CONN;
     let mut i: usize = 0;
     while i < 5 {
         let c = conns[i];
         at = entry(out, at, conn_of(i), owing(c.controller));
         i += 1;
     }
-    out[0] = (at / 2) as u8;
+    out[fields::ENTRY_COUNT] = (at / fields::ENTRY_SIZE) as u8;
     Note {
-        gid: 0,
-        oid: 6,
+        gid: names::GID_CORE,
+        oid: names::OID_CONN_CREDITS,
         len: at,
     }
 }
@@ -190,35 +189,52 @@ pub fn credits_ntf(out: &mut [u8; CONTROL_LIMIT], conns: [Counts; 5]) -> Note
 // RF_DISCOVER_NTF (003, Table 66).
 pub fn discover_ntf(out: &mut [u8; CONTROL_LIMIT], a: Activation, kind: u8, params: &[u8]) -> Note
     requires { ⌜ 5 + length (now params) ≤ controlLimit ⌝ }
-    ensures { λ r. ⌜ Put (now (out .entry)) (record { gid = 1; oid = 3; payload = discoverNtf a kind (now (params .entry)) }) r (now (out .exit)) ⌝ }
+    ensures { λ r. ⌜ Put (now (out .entry)) (record { gid = gidRf; oid = oidDiscover; payload = discoverNtf a kind (now (params .entry)) }) r (now (out .exit)) ⌝ }
 {
-    let head = [a.id, a.protocol, a.mode, params.len() as u8];
+    let mut head = [0x00; fields::FOUND_TYPE];
+    head[fields::FOUND_ID] = a.id;
+    head[fields::FOUND_PROTOCOL] = a.protocol;
+    head[fields::FOUND_MODE] = a.mode;
+    head[fields::FOUND_PARAMS_LENGTH] = params.len() as u8;
     let tail = [kind];
-    emit_around(out, 1, 3, &head, params, &tail)
+    emit_around(
+        out,
+        names::GID_RF,
+        names::OID_DISCOVER,
+        &head,
+        params,
+        &tail,
+    )
 }
 
 // RF_INTF_ACTIVATED_NTF (003, Table 78).
 pub fn activated_ntf(out: &mut [u8; CONTROL_LIMIT], a: Activation, t: Terms, params: &[u8]) -> Note
     requires { ⌜ 11 + length (now params) ≤ controlLimit ⌝ }
-    ensures { λ r. ⌜ Put (now (out .entry)) (record { gid = 1; oid = 5; payload = activatedNtf a t (now (params .entry)) }) r (now (out .exit)) ⌝ }
+    ensures { λ r. ⌜ Put (now (out .entry)) (record { gid = gidRf; oid = oidActivated; payload = activatedNtf a t (now (params .entry)) }) r (now (out .exit)) ⌝ }
 {
-    let head = [
-        a.id,
-        0x01,
-        a.protocol,
-        a.mode,
-        t.payload,
-        t.credits,
-        params.len() as u8,
-    ];
+    let mut head = [0x00; fields::ACTIVATED_EXCHANGE];
+    head[fields::ACTIVATED_ID] = a.id;
+    head[fields::ACTIVATED_INTERFACE] = names::FRAME_INTERFACE;
+    head[fields::ACTIVATED_PROTOCOL] = a.protocol;
+    head[fields::ACTIVATED_MODE] = a.mode;
+    head[fields::ACTIVATED_PAYLOAD] = t.payload;
+    head[fields::ACTIVATED_CREDITS] = t.credits;
+    head[fields::ACTIVATED_PARAMS_LENGTH] = params.len() as u8;
     let tail = [a.mode, 0x00, 0x00, 0x00];
-    emit_around(out, 1, 5, &head, params, &tail)
+    emit_around(
+        out,
+        names::GID_RF,
+        names::OID_ACTIVATED,
+        &head,
+        params,
+        &tail,
+    )
 }
 
 // CORE_GENERIC_ERROR_NTF (003, Table 19): the target's activation failed.
 pub fn generic_error_ntf(out: &mut [u8; CONTROL_LIMIT]) -> Note
-    ensures { λ r. ⌜ Put (now (out .entry)) (record { gid = 0; oid = 7; payload = genericErrorNtf }) r (now (out .exit)) ⌝ }
+    ensures { λ r. ⌜ Put (now (out .entry)) (record { gid = gidCore; oid = oidGenericError; payload = genericErrorNtf }) r (now (out .exit)) ⌝ }
 {
-    let o = [0xA1];
-    emit(out, 0, 7, &o)
+    let o = [names::ACTIVATION_FAILED];
+    emit(out, names::GID_CORE, names::OID_GENERIC_ERROR, &o)
 }

@@ -17,7 +17,7 @@ use Rattle.model.specs.Kinds.answer.{Done}
 use Rattle.model.specs.Kinds.heard.{Nothing, Answered}
 use Rattle.state.specs.Commands.{commandOf}
 use Rattle.dh.specs.Contents.{noticeOf, written}
-use Rattle.dh.specs.Host.{okAnswer, answerOf, noticed, heardAlone, creditsFor, isCloser, isClosing}
+use Rattle.dh.specs.Host.{okAnswer, answerOf, noticed, heardWritten, creditsFor, isCloser, isClosing}
 use Rattle.state.proofs.Chains.{on}
 use Rattle.wires.specs.Meaning.{Meaning, datum, control, junk, meaning}
 use Rattle.wires.specs.Tally.{says}
@@ -116,7 +116,7 @@ module _ (d : ℕ) where
 
   -- so a response that closes a connection answers one of these two
   pub closed-by : (aim gid oid : ℕ) (x : Segment) → changeIn aim d (control 2 gid oid x) ≡ closes → closing (named gid oid) ≡ true
-  unfolding heardAlone
+  unfolding heardWritten
   closed-by aim gid oid (more b) e = absurd (subst (λ (c : Change). NoClose (itemsBy c)) e tt)
   closed-by aim gid oid (last m) e = go (closing (named gid oid)) refl
     where
@@ -140,7 +140,7 @@ module _ (d : ℕ) where
     noticed-keeps notice.Unknown m = tt
 
     says-keeps : (aim mt gid oid : ℕ) (m : Octets) → AllFree (pick (eqb mt 2) (named gid oid ∷ []) []) → Keeps m (says aim mt gid oid m)
-    unfolding heardAlone
+    unfolding heardWritten
     says-keeps aim mt gid oid m f =
         on (Keeps m) (written mt gid oid m)
         (λ w. on (Keeps m) (eqb mt 2)
@@ -186,7 +186,7 @@ shut-now false (closed ∷ is) n e = absurd n
 -- ---- which connection a CONN_CLOSE named matters to its response alone
 
 says-aim : (a b mt gid oid : ℕ) (m : Octets) → eqb mt 2 ≡ false → says a mt gid oid m ≡ says b mt gid oid m
-unfolding heardAlone
+unfolding heardWritten
 says-aim a b mt gid oid m e = rw e
 
 items-aim-in : (a b d : ℕ) (q : Meaning) → repliesIn q ≡ [] → itemsIn a d q ≡ itemsIn b d q

@@ -9,7 +9,7 @@ use Rattle.state.specs.Commands.{commandOf}
 use Rattle.nfcc.specs.Controller.{shortest, allowed, resetBy, after, seek, nextId, createBy, closeBy, judgeOf, controllerAfter}
 use Rattle.messages.specs.Layout.{responseOf, noticeMessage}
 use Rattle.dh.specs.Contents.{noticeOf, zeros, initWritten, createWritten, written}
-use Rattle.dh.specs.Host.{answerOf, heardAlone, hearOf, hostAfter, dropHeard}
+use Rattle.dh.specs.Host.{answerOf, heardWritten, hearOf, hostAfter, dropHeard}
 use Rattle.wires.specs.Meaning.{meaning}
 use Rattle.model.specs.Refusals.{first}
 use Rattle.model.specs.Bench.{step}
@@ -19,7 +19,7 @@ use Rattle.model.specs.Discards.{diary}
 use Rattle.model.specs.Discarded.{Discarded}
 
 pub discarded : Discarded Plays
-unfolding cut octet0 octet1 packetOf oidOf carriedOf spareOf headerOf readOf segmentsWithin segments placeOf connOf termsOf commandOf shortest allowed resetBy after seek nextId createBy closeBy judgeOf controllerAfter responseOf noticeMessage noticeOf zeros initWritten createWritten written answerOf heardAlone hearOf hostAfter dropHeard meaning first step events observed diary
+unfolding cut octet0 octet1 packetOf oidOf carriedOf spareOf headerOf readOf segmentsWithin segments placeOf connOf termsOf commandOf shortest allowed resetBy after seek nextId createBy closeBy judgeOf controllerAfter responseOf noticeMessage noticeOf zeros initWritten createWritten written answerOf heardWritten hearOf hostAfter dropHeard meaning first step events observed diary
 discarded =
     record {
       close = record { played = λ s. refl; behind = _; next-read = refl; response = refl; shuts = refl; left = refl; sentAt = refl; commandAt = refl };
@@ -28,4 +28,5 @@ discarded =
       reset-read = λ s. refl;
       late = λ s. refl;
       refused-close = λ s. refl;
+      beside-create = λ s. refl;
     }

@@ -15,7 +15,7 @@ use Rattle.packets.specs.Reassembly.{run}
 use Rattle.model.specs.Kinds.verdict as verdict
 use Rattle.model.specs.Kinds.heard.{Nothing, Answered}
 use Rattle.dh.specs.Contents.{written}
-use Rattle.dh.specs.Host.{heardAlone, isClosing}
+use Rattle.dh.specs.Host.{heardWritten, isClosing}
 use Rattle.state.specs.Conn.{placeOf}
 use Rattle.state.specs.Radio.{isActive}
 use Rattle.state.specs.Runs.{controlLimit}
@@ -93,7 +93,7 @@ verdict-sound (verdict.Deactivates type rf) = notice-sound 1 6 (deactivateNtf ty
 answered-written : (aim gid oid : ℕ) (m : Octets) (a : Answer) → says aim 2 gid oid m ≡ Answered a → written 2 gid oid m ≡ true
 answered-written aim gid oid m a e = go (written 2 gid oid m) refl e
   where
-    go : (b : Bool) → written 2 gid oid m ≡ b → pick b (heardAlone (aimedAt aim) 2 gid oid m) Nothing ≡ Answered a → written 2 gid oid m ≡ true
+    go : (b : Bool) → written 2 gid oid m ≡ b → pick b (heardWritten (aimedAt aim) 2 gid oid m) Nothing ≡ Answered a → written 2 gid oid m ≡ true
     go true w h = w
     go false w h = absurd (let z : _≡_ {A = ℕ} 0 1 = cc in omega arith)
 

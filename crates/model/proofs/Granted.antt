@@ -16,7 +16,7 @@ use Rattle.state.proofs.Chains.{on}
 use Rattle.state.specs.Profile.{creditsOk}
 use Rattle.state.proofs.Limits.{credits-small}
 use Rattle.dh.specs.Contents.{statusAlone, okWritten, noticeWritten, noticeOf, written}
-use Rattle.dh.specs.Host.{heardAlone, answerOf, okAnswer, noticed, creditsFor}
+use Rattle.dh.specs.Host.{heardWritten, answerOf, okAnswer, noticed, creditsFor}
 use Rattle.dh.proofs.Limits.{create-tests, activated-tests}
 use Rattle.wires.specs.Tally.{aimedAt, says}
 use Rattle.ends.specs.Changes.{Change, stays, opens, closes, gives, changeHeard}
@@ -65,7 +65,7 @@ module _ (m : Octets) (d : ℕ) where
   notice-octet notice.Unknown h = tt
 
   says-it : (aim mt gid oid : ℕ) → GrantsOctet (changeHeard (says aim mt gid oid m) m d)
-  unfolding written heardAlone
+  unfolding written heardWritten
   says-it aim mt gid oid = go (written mt gid oid m) refl
     where
       alone : (b : Bool) → pick b (statusAlone m || okWritten (commandOf gid oid) m) (noticeWritten (noticeOf gid oid) m) ≡ true
@@ -73,7 +73,7 @@ module _ (m : Octets) (d : ℕ) where
       alone true h = response-octet (commandOf gid oid) aim h
       alone false h = notice-octet (noticeOf gid oid) h
 
-      go : (b : Bool) → written mt gid oid m ≡ b → GrantsOctet (changeHeard (pick b (heardAlone (aimedAt aim) mt gid oid m) Nothing) m d)
+      go : (b : Bool) → written mt gid oid m ≡ b → GrantsOctet (changeHeard (pick b (heardWritten (aimedAt aim) mt gid oid m) Nothing) m d)
       go true e = alone (eqb mt 2) e
       go false e = tt
 

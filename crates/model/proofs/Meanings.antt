@@ -21,7 +21,7 @@ use Rattle.model.specs.Kinds.heard.{Nothing, Dropped, Answered, Activate
 use Rattle.state.specs.Conn.{metered}
 use Rattle.state.specs.Commands.{commandOf}
 use Rattle.dh.specs.Contents.{written, noticeOf}
-use Rattle.dh.specs.Host.{heardAlone, hearOf, answerOf, okAnswer, noticed, creditsFor}
+use Rattle.dh.specs.Host.{heardWritten, hearOf, answerOf, okAnswer, noticed, creditsFor}
 use Rattle.packets.specs.Headers.{dataHeader, controlHeader}
 use Rattle.messages.specs.Packets.{responsePacket, noticePacket}
 use Rattle.wires.specs.Meaning.{Meaning, datum, control, junk, meant, meaning}
@@ -141,8 +141,8 @@ ok-aimless Deactivate aim d m n = refl
 ok-aimless Unknown aim d m n = refl
 
 heard-aimless : (aim mt gid oid d : ℕ) (m n : Octets)
-    → creditsSaid d m (heardAlone (aimedAt aim) mt gid oid n) ≡ creditsSaid d m (heardAlone (aimedAt 0) mt gid oid n)
-unfolding heardAlone answerOf
+    → creditsSaid d m (heardWritten (aimedAt aim) mt gid oid n) ≡ creditsSaid d m (heardWritten (aimedAt 0) mt gid oid n)
+unfolding heardWritten answerOf
 heard-aimless aim mt gid oid d m n =
     elim (eqb mt 2) as (λ b. creditsSaid d m (pick b (Answered (answerOf (commandOf gid oid) aim n)) (noticed (noticeOf gid oid) n))
     ≡ creditsSaid d m (pick b (Answered (answerOf (commandOf gid oid) 0 n)) (noticed (noticeOf gid oid) n))) [
@@ -153,8 +153,8 @@ heard-aimless aim mt gid oid d m n =
 
 says-aimless : (aim mt gid oid d : ℕ) (m n : Octets) → creditsSaid d m (says aim mt gid oid n) ≡ creditsSaid d m (says 0 mt gid oid n)
 says-aimless aim mt gid oid d m n =
-    elim (written mt gid oid n) as (λ b. creditsSaid d m (pick b (heardAlone (aimedAt aim) mt gid oid n) Nothing)
-    ≡ creditsSaid d m (pick b (heardAlone (aimedAt 0) mt gid oid n) Nothing)) [ true ↦ heard-aimless aim mt gid oid d m n | false ↦ refl ]
+    elim (written mt gid oid n) as (λ b. creditsSaid d m (pick b (heardWritten (aimedAt aim) mt gid oid n) Nothing)
+    ≡ creditsSaid d m (pick b (heardWritten (aimedAt 0) mt gid oid n) Nothing)) [ true ↦ heard-aimless aim mt gid oid d m n | false ↦ refl ]
 
 credits-one : (aim d : ℕ) (q : Meaning) → creditsMeant d q ≡ upCredits (itemsIn aim d q)
 credits-one aim d (datum c n x) = elim (eqb c d) as (λ b. pick b n 0 ≡ upCredits (pick b (loaded n x ∷ []) [])) [ true ↦ omega arith | false ↦ refl ]
@@ -204,7 +204,7 @@ module _ (gid oid : ℕ) (low : gid < 16) (small : oid < 64) where
 -- which connection the last command named makes a difference to responses alone
 pub items-aimless : (a b d mt gid oid : ℕ) (x : Segment) → eqb mt 2 ≡ false
     → itemsIn a d (control mt gid oid x) ≡ itemsIn b d (control mt gid oid x)
-unfolding heardAlone
+unfolding heardWritten
 items-aimless a b d mt gid oid (more o) e = refl
 items-aimless a b d mt gid oid (last m) e = rw e
 
@@ -213,10 +213,10 @@ items-aimless a b d mt gid oid (last m) e = rw e
 -- a response to the unanswered command
 pub hear-response : (a : Asked) (gid oid : ℕ) (m : Octets) → a .gid ≡ gid → a .oid ≡ oid
     → hearOf (pending.Command a) 2 gid oid m ≡ says (a .aim) 2 gid oid m
-unfolding hearOf heardAlone
+unfolding hearOf heardWritten
 hear-response a gid oid m g o = rw (eq-eqb (a .gid) gid g, eq-eqb (a .oid) oid o)
 
 -- a notification, whatever is unanswered
 pub hear-notice : (p : Pending) (aim gid oid : ℕ) (m : Octets) → hearOf p 3 gid oid m ≡ says aim 3 gid oid m
-unfolding hearOf heardAlone
+unfolding hearOf heardWritten
 hear-notice p aim gid oid m = refl

@@ -24,7 +24,7 @@ use Rattle.messages.specs.Layout.{Message, resetNtf, creditsNtf, entriesFrom, g
 use Rattle.state.specs.Radio.{isActive, isListening, isAsleep, polls}
 use Rattle.state.specs.Profile.{ProfileWithin}
 use Rattle.dh.specs.Contents.{written, noticeOf, entryId, entryCredits, entryOk, entriesOk, creditsWritten}
-use Rattle.dh.specs.Host.{answerOf, heardAlone, creditsFor, creditsIn}
+use Rattle.dh.specs.Host.{answerOf, heardWritten, creditsFor, creditsIn}
 use Rattle.air.specs.Air.{airMessage, airedBy, isRefused}
 use Rattle.ends.specs.RoundTrips.{TermsOk, TargetOk}
 use Rattle.state.proofs.Chains.{every-at, on}
@@ -63,12 +63,12 @@ answeredBy p (verdict.Deactivates type rf) = Done
 -- the host makes of a response what the verdict was
 module _ (p : Profile) (limits : ProfileWithin p) (aim : ℕ) where
   says-turn : (oid : ℕ) → (oid ≡ 3) ⊎ (oid ≡ 6) → says aim 2 1 oid (0x00 ∷ []) ≡ Answered Done
-  unfolding heardAlone answerOf commandOf
+  unfolding heardWritten answerOf commandOf
   says-turn oid (inl e) = rw (e, round-trips .rf-written .0)
   says-turn oid (inr e) = rw (e, round-trips .rf-written .2)
 
   pub says-response : (gid oid : ℕ) (v : Verdict) → Fits gid oid aim p v → says aim 2 gid oid (responseOf p v) ≡ Answered (answeredBy p v)
-  unfolding responseOf heardAlone answerOf commandOf
+  unfolding responseOf heardWritten answerOf commandOf
   says-response gid oid (verdict.Refuses status) f = rw (round-trips .status-written gid oid status f, ne-eqb status 0 f)
   says-response gid oid (verdict.Resets type) f = rw (f .0, f .1, round-trips .reset-written)
   says-response gid oid verdict.Initialises f = rw (f .0, f .1, round-trips .init-written (p .control) (limits .control-least))
@@ -84,26 +84,26 @@ module _ (p : Profile) (limits : ProfileWithin p) (aim : ℕ) where
 
 module _ (aim : ℕ) where
   says-reset : (type : ℕ) → type ≤ 1 → says aim 3 0 0 (resetNtf type) ≡ Nothing
-  unfolding heardAlone noticeOf
+  unfolding heardWritten noticeOf
   says-reset type h = rw (round-trips .reset-noted type h)
 
   says-error : says aim 3 0 7 genericErrorNtf ≡ Nothing
-  unfolding heardAlone noticeOf
+  unfolding heardWritten noticeOf
   says-error = rw (round-trips .error-noted)
 
   says-found : (a : Activation) (type : ℕ) (params : Octets) → written 3 1 3 (discoverNtf a type params) ≡ true
       → says aim 3 1 3 (discoverNtf a type params) ≡ Nothing
-  unfolding heardAlone noticeOf
+  unfolding heardWritten noticeOf
   says-found a type params w = rw w
 
   says-activated : (a : Activation) (t : Terms) (params : Octets) → written 3 1 5 (activatedNtf a t params) ≡ true
       → says aim 3 1 5 (activatedNtf a t params) ≡ Activated t
-  unfolding heardAlone noticeOf
+  unfolding heardWritten noticeOf
   says-activated a t params w = rw w
 
   says-deactivated : (type reason : ℕ) → written 3 1 6 (deactivateNtf type reason) ≡ true
       → says aim 3 1 6 (deactivateNtf type reason) ≡ Deactivated
-  unfolding heardAlone noticeOf
+  unfolding heardWritten noticeOf
   says-deactivated type reason w = rw w
 
 -- the items of one notification, by what it says, and of a response
@@ -331,7 +331,7 @@ module _ (owed : ℕ → ℕ) (few : (d : ℕ) → noConn d ≡ false → owed d
       other-id m d out k (at 3)
 
   pub says-credits : (aim : ℕ) → says aim 3 0 6 (creditsNtf (map owed ids)) ≡ Credits
-  unfolding heardAlone noticeOf
+  unfolding heardWritten noticeOf
   says-credits aim = rw notice-written
 
   credit-items : (aim d n : ℕ) → creditsFor (creditsNtf (map owed ids)) d ≡ n

@@ -21,7 +21,7 @@ use Rattle.state.specs.Conn.{flows}
 use Rattle.state.specs.Runs.{controlLimit}
 use Rattle.state.specs.Commands.{commandOf}
 use Rattle.dh.specs.Contents.{written}
-use Rattle.dh.specs.Host.{answerOf, heardAlone, aimOf, expected, hearOf}
+use Rattle.dh.specs.Host.{answerOf, heardWritten, aimOf, expected, hearOf}
 use Rattle.state.proofs.Chains.{on, or-left, or-right}
 use Rattle.wires.specs.Meaning.{Meaning, datum, control, junk, meaning}
 use Rattle.wires.specs.Tally.{says}
@@ -107,7 +107,7 @@ answered-none (Opens c t) m d = on (λ (x : Change). creditsOf x ≡ 0) (eqb c d
 answered-none (Closes c) m d = on (λ (x : Change). creditsOf x ≡ 0) (eqb c d) (λ e. refl) (λ e. refl)
 
 response-none : (p : Pending) (gid oid : ℕ) (m : Octets) (d : ℕ) → creditsOf (changeHeard (hearOf p 2 gid oid m) m d) ≡ 0
-unfolding hearOf heardAlone
+unfolding hearOf heardWritten
 response-none p gid oid m d =
     on (λ (h : Heard). creditsOf (changeHeard h m d) ≡ 0) (expected p 2 gid oid)
     (λ e. on (λ (h : Heard). creditsOf (changeHeard h m d) ≡ 0) (written 2 gid oid m) (λ w. answered-none (answerOf (commandOf gid oid) (aimOf p) m) m d) (λ w. refl))

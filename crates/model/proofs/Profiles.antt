@@ -10,7 +10,7 @@ use Rattle.nfcc.specs.Controller.{shortest, allowed, resetBy, after, seek, next
 use Rattle.messages.specs.Layout.{responseOf, noticeMessage}
 use Rattle.air.specs.Air.{pollIn, eventOf, pollBy, airedBy, airMessage, controllerAired}
 use Rattle.dh.specs.Contents.{noticeOf, zeros, initWritten, createWritten, activatedWritten, written}
-use Rattle.dh.specs.Host.{answerOf, heardAlone, hearOf, hostAfter, dropHeard}
+use Rattle.dh.specs.Host.{answerOf, heardWritten, hearOf, hostAfter, dropHeard}
 use Rattle.wires.specs.Meaning.{meaning}
 use Rattle.wires.specs.Tally.{dataCount}
 use Rattle.wires.specs.Counted.{insideOf, countedUp}
@@ -21,7 +21,7 @@ use Rattle.model.specs.Table.{Plays}
 use Rattle.model.specs.Profiles.{Profiles}
 
 pub profiles : Profiles Plays
-unfolding cut octet0 octet1 packetOf oidOf carriedOf spareOf headerOf readOf segmentsWithin segments placeOf termsOf commandOf shortest allowed resetBy after seek nextId createBy closeBy configsOk discoverBy judgeOf controllerAfter responseOf noticeMessage pollIn eventOf pollBy airedBy airMessage controllerAired noticeOf zeros initWritten createWritten activatedWritten written answerOf heardAlone hearOf hostAfter dropHeard meaning dataCount insideOf countedUp first step events
+unfolding cut octet0 octet1 packetOf oidOf carriedOf spareOf headerOf readOf segmentsWithin segments placeOf termsOf commandOf shortest allowed resetBy after seek nextId createBy closeBy configsOk discoverBy judgeOf controllerAfter responseOf noticeMessage pollIn eventOf pollBy airedBy airMessage controllerAired noticeOf zeros initWritten createWritten activatedWritten written answerOf heardWritten hearOf hostAfter dropHeard meaning dataCount insideOf countedUp first step events
 profiles =
     record {
       each = λ s. refl;

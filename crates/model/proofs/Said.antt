@@ -21,7 +21,7 @@ use Rattle.state.specs.Commands.{commandOf}
 use Rattle.state.specs.Profile.{ProfileWithin}
 use Rattle.messages.specs.Layout.{resetNtf, creditsNtf, genericErrorNtf, discoverNtf, activatedNtf, deactivateNtf, responseOf, noticeMessage}
 use Rattle.dh.specs.Contents.{written, noticeOf}
-use Rattle.dh.specs.Host.{answerOf, okAnswer, aimOf, noticed, heardAlone, expected, hearOf, creditsFor}
+use Rattle.dh.specs.Host.{answerOf, okAnswer, aimOf, noticed, heardWritten, expected, hearOf, creditsFor}
 use Rattle.air.specs.Air.{airMessage}
 use Rattle.state.proofs.Chains.{on}
 use Rattle.wires.specs.Meaning.{Meaning, datum, control, junk, meaning}
@@ -81,9 +81,9 @@ ok-due r Select a b m h = h
 ok-due r Deactivate a b m h = h
 ok-due r Unknown a b m h = h
 
-alone-due : (r : Profile) (p q : Pending) (mt gid oid : ℕ) (m : Octets) → Due r (heardAlone p mt gid oid m) → Due r (heardAlone q mt gid oid m)
-unfolding heardAlone answerOf
-alone-due r p q mt gid oid m =
+written-due : (r : Profile) (p q : Pending) (mt gid oid : ℕ) (m : Octets) → Due r (heardWritten p mt gid oid m) → Due r (heardWritten q mt gid oid m)
+unfolding heardWritten answerOf
+written-due r p q mt gid oid m =
     elim (eqb mt 2) as (λ b. Due r (pick b (Answered (answerOf (commandOf gid oid) (aimOf p) m)) (noticed (noticeOf gid oid) m))
     → Due r (pick b (Answered (answerOf (commandOf gid oid) (aimOf q) m)) (noticed (noticeOf gid oid) m))) [
       | true ↦ elim (eqb (getD m 0 0) 0) as (λ b. DueAnswer r (pick b (okAnswer (commandOf gid oid) (aimOf p) m) Done)
@@ -91,11 +91,11 @@ alone-due r p q mt gid oid m =
       | false ↦ λ h. h
     ]
 
-understood-due : (r : Profile) (p q : Pending) (mt gid oid : ℕ) (m : Octets) → Due r (pick (written mt gid oid m) (heardAlone p mt gid oid m) Nothing)
-    → Due r (pick (written mt gid oid m) (heardAlone q mt gid oid m) Nothing)
+understood-due : (r : Profile) (p q : Pending) (mt gid oid : ℕ) (m : Octets) → Due r (pick (written mt gid oid m) (heardWritten p mt gid oid m) Nothing)
+    → Due r (pick (written mt gid oid m) (heardWritten q mt gid oid m) Nothing)
 understood-due r p q mt gid oid m =
-    elim (written mt gid oid m) as (λ b. Due r (pick b (heardAlone p mt gid oid m) Nothing) → Due r (pick b (heardAlone q mt gid oid m) Nothing))
-    [ true ↦ alone-due r p q mt gid oid m | false ↦ λ h. h ]
+    elim (written mt gid oid m) as (λ b. Due r (pick b (heardWritten p mt gid oid m) Nothing) → Due r (pick b (heardWritten q mt gid oid m) Nothing))
+    [ true ↦ written-due r p q mt gid oid m | false ↦ λ h. h ]
 
 -- what the host hears is what the packet says
 pub hear-due : (r : Profile) (p : Pending) (mt gid oid : ℕ) (m : Octets) → Due r (says 0 mt gid oid m) → Due r (hearOf p mt gid oid m)
@@ -116,7 +116,7 @@ verdict-due p gid oid aim (verdict.Deactivates type rf) l f = tt
 
 notice-said : (p : Profile) (gid oid : ℕ) (m : Octets) → gid < 16 → oid < 64 → Due p (noticed (noticeOf gid oid) m)
     → Said p (noticePacket (record { gid = gid; oid = oid; payload = m }) ∷ [])
-unfolding Said heardAlone
+unfolding Said heardWritten
 notice-said p gid oid m low small h =
     rw (meaning-notice gid oid low small m) (on (Due p) (written 3 gid oid m) (λ e. h) (λ e. tt), tt)
 

@@ -18,7 +18,7 @@ use Rattle.model.specs.Kinds.heard.{Nothing, Answered, Activated, Credit
 use Rattle.state.specs.Runs.{dataLimit, controlLimit}
 use Rattle.state.specs.Commands.{commandOf}
 use Rattle.dh.specs.Contents.{written, noticeOf}
-use Rattle.dh.specs.Host.{noticed, answerOf, heardAlone, hearOf, hostAfter}
+use Rattle.dh.specs.Host.{noticed, answerOf, heardWritten, hearOf, hostAfter}
 use Rattle.model.specs.Kinds.notice as notice
 use Rattle.packets.proofs.Reassembly.{within}
 use Rattle.state.proofs.Chains.{on}
@@ -179,7 +179,7 @@ module _ (s : State) (aim : ℕ) (l : ℕ → Ledger) (p : Octets) (w : List Oct
     answer = answerOf (commandOf gid oid) aim m
 
     pub says-answer : says aim 2 gid oid m ≡ Answered answer
-    unfolding heardAlone answer
+    unfolding heardWritten answer
     says-answer = rw understood
 
     -- the unanswered command awaits it, and named `aim`
@@ -223,7 +223,7 @@ module _ (s : State) (aim : ℕ) (l : ℕ → Ledger) (p : Octets) (w : List Oct
     keeps-host h notice.Unknown = refl
 
     pub said-host : hostAfter (s .host) (says aim 3 gid oid m) ≡ s .host
-    unfolding heardAlone hostAfter
+    unfolding heardWritten hostAfter
     said-host = on (λ (h : Heard). hostAfter (s .host) h ≡ s .host) (written 3 gid oid m) (λ e. keeps-host (s .host) (noticeOf gid oid)) (λ e. refl)
 
     notice-order : Order (s .conns) (s .down) (replies w) (s .host .pending)

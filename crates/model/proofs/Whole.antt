@@ -13,7 +13,7 @@ use Rattle.messages.specs.Layout.{entriesFrom, entryCount, creditsNtf, response
 use Rattle.messages.specs.Packets.{noticePacket}
 use Rattle.air.specs.Air.{pollIn, eventOf, pollBy, airedBy, airMessage, controllerAired}
 use Rattle.dh.specs.Contents.{noticeOf, zeros, initWritten, createWritten, entriesOk, creditsWritten, activatedWritten, written}
-use Rattle.dh.specs.Host.{answerOf, heardAlone, hearOf, creditsIn, namesClosed, hostAfter, dropHeard}
+use Rattle.dh.specs.Host.{answerOf, heardWritten, hearOf, creditsIn, namesClosed, hostAfter, dropHeard}
 use Rattle.wires.specs.Meaning.{meaning}
 use Rattle.wires.specs.Tally.{dataCount}
 use Rattle.wires.specs.Counted.{insideOf, countedUp}
@@ -24,7 +24,7 @@ use Rattle.model.specs.calls.Credit.{owedBy, allZero}
 use Rattle.model.specs.Bench.{judged, step}
 use Rattle.model.specs.Observer.{events}
 use Rattle.model.specs.Observer as observer
-use Rattle.model.specs.Table.{goesUp, Plays, Table}
+use Rattle.model.specs.Table.{goesUp, onModel, Table}
 
 -- what is owed decides the notice, whatever else the bench holds
 two-credits : (s : State) → owedBy s ≡ 0 ∷ 2 ∷ 0 ∷ 0 ∷ 0 ∷ [] → full 1 (s .up) ≡ false
@@ -34,8 +34,8 @@ two-credits s e room =
     ap (λ (r : Result). observer.eventOf credit (judged r credit s)) (λ i. first (rule 4 (room i) ∷ rule 8 (allZero (e i)) ∷ []))
     ∙ (λ i. goesUp credit (noticePacket (record { gid = 0; oid = 6; payload = creditsNtf (e i) })))
 
-pub table : Table Plays
-unfolding cut octet0 octet1 packetOf oidOf carriedOf spareOf headerOf readOf carrying segmentsWithin segments placeOf connOf termsOf carriable commandOf shortest allowed resetBy after seek nextId createBy closeBy configsOk discoverBy deactivateBy judgeOf controllerAfter entriesFrom entryCount responseOf noticeMessage pollIn eventOf pollBy airedBy airMessage controllerAired noticeOf zeros initWritten createWritten entriesOk creditsWritten activatedWritten written answerOf heardAlone hearOf creditsIn namesClosed hostAfter dropHeard meaning dataCount insideOf countedUp first allZero step events observer.after
+pub table : Table onModel
+unfolding cut octet0 octet1 packetOf oidOf carriedOf spareOf headerOf readOf carrying segmentsWithin segments placeOf connOf termsOf carriable commandOf shortest allowed resetBy after seek nextId createBy closeBy configsOk discoverBy deactivateBy judgeOf controllerAfter entriesFrom entryCount responseOf noticeMessage pollIn eventOf pollBy airedBy airMessage controllerAired noticeOf zeros initWritten createWritten entriesOk creditsWritten activatedWritten written answerOf heardWritten hearOf creditsIn namesClosed hostAfter dropHeard meaning dataCount insideOf countedUp first allZero step events observer.after
 table =
     record {
       start = λ s. refl;

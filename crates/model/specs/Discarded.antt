@@ -89,3 +89,10 @@ pub record Discarded (P : List Event → Type 0) : Type 0 where
       ∷ quietly up
       ∷ quietly (send 2 (0xAA ∷ []))
       ∷ [])
+  -- any other command lets a send through: CONN_CREATE, unanswered
+  pub beside-create : P
+      (onTwo
+      ++ goesDown (command 0x0 0x04 (0x01 ∷ 0x00 ∷ [])) (0x20 ∷ 0x04 ∷ 0x02 ∷ 0x01 ∷ 0x00 ∷ [])
+      ∷ quietly (send 2 (0xAA ∷ []))
+      ∷ goesDown (push 2) (0x02 ∷ 0x00 ∷ 0x01 ∷ 0xAA ∷ [])
+      ∷ [])

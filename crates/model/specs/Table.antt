@@ -1,6 +1,6 @@
 -- Document 01's proved table, whole: payload 4, credits 2. Each row is played on the bench by its own calls, and shows for every call
 -- what it answers and puts on the wires. The first call is fresh, so a row holds whatever the bench was before. The rows are those of the
--- model and of the calls on octets alike: P says what it is to play them.
+-- model and of the calls on octets alike: `Playing` says what it is to play them.
 -- Assumes nothing.
 use Prim.Native.Nat.{ℕ}
 use mathlib.Core.Path.{_≡_}
@@ -42,12 +42,32 @@ callsOf es = map (λ (e : Event). e .call) es
 abbrev pub Plays : List Event → Type 0
 Plays es = (s : State) → events (callsOf es) s ≡ es
 
+-- fresh with this profile makes any bench this one
+abbrev pub Starts : Octets → State → Type 0
+Starts m t = (s : State) → after (fresh m ∷ []) s ≡ t
+
+-- on any bench after the calls of es, with p first on the down wire, whatever lies behind it, down puts q on the up wire and nothing else
+abbrev pub Answers : List Event → Octets → Octets → Type 0
+Answers es p q = (s : State) (w : List Octets) → eventOf down (step down (withDown (p ∷ w) (after (callsOf es) s))) ≡ goesUp down q
+
+-- on any bench that owes this to 0, 2, 3, 4 and 5, with a free slot on the up wire, credit puts q on it
+abbrev pub Notices : List ℕ → Octets → Type 0
+Notices owed q = (s : State) → owedBy s ≡ owed → full 1 (s .up) ≡ false → eventOf credit (step credit s) ≡ goesUp credit q
+
+-- what it is to play a row
+pub record Playing : Type 1 where
+  pub Plays : List Event → Type 0
+  pub Starts : Octets → State → Type 0
+  pub Answers : List Event → Octets → Octets → Type 0
+  pub Notices : List ℕ → Octets → Type 0
+
+abbrev pub onModel : Playing
+onModel = record { Plays = Plays; Starts = Starts; Answers = Answers; Notices = Notices }
+
 -- on a bench after these calls, the command is the packet p on the down wire, and p gives the packet q on the up wire, nothing else
-pub record Gives (P : List Event → Type 0) (before : List Event) (gid oid : ℕ) (payload p q : Octets) : Type 0 where
-  -- by the calls
-  pub called : P (before ++ goesDown (command gid oid payload) p ∷ goesUp down q ∷ [])
-  -- with p first on the down wire, whatever lies behind it
-  pub taken-first : (s : State) (w : List Octets) → eventOf down (step down (withDown (p ∷ w) (after (callsOf before) s))) ≡ goesUp down q
+pub record Gives (P : Playing) (before : List Event) (gid oid : ℕ) (payload p q : Octets) : Type 0 where
+  pub called : P .Plays (before ++ goesDown (command gid oid payload) p ∷ goesUp down q ∷ [])
+  pub taken-first : P .Answers before p q
 
 -- ---- what comes before the rows
 
@@ -142,17 +162,16 @@ twoOwed =
 abbrev pub fourTwo : Terms
 fourTwo = record { payload = 4; credits = 2 }
 
-pub record Table (P : List Event → Type 0) : Type 0 where
+pub record Table (P : Playing) : Type 0 where
   -- fresh makes any bench a cold one with these on each of 2 to 5
-  pub start : (s : State)
-      → after (fresh profile ∷ []) s
-      ≡ cold (record { control = 32; two = fourTwo; three = fourTwo; four = fourTwo; five = fourTwo; fixed = record { payload = 4; credits = 1 } })
+  pub start : P .Starts profile
+      (cold (record { control = 32; two = fourTwo; three = fourTwo; four = fourTwo; five = fourTwo; fixed = record { payload = 4; credits = 1 } }))
   -- "empty message on 2: 02 00 00"; then nothing is left to move
-  pub empty : P (onTwo ++ quietly (send 2 []) ∷ goesDown (push 2) (0x02 ∷ 0x00 ∷ 0x00 ∷ []) ∷ refusal (push 2) 8 ∷ [])
+  pub empty : P .Plays (onTwo ++ quietly (send 2 []) ∷ goesDown (push 2) (0x02 ∷ 0x00 ∷ 0x00 ∷ []) ∷ refusal (push 2) 8 ∷ [])
   -- "Octets 01-09: 12 00 04 01 02 03 04, 12 00 04 05 06 07 08, 02 00 01 09"; the third goes with a credit that came back
-  pub nine : P (twoConsumed ++ quietly up ∷ goesDown (push 2) (0x02 ∷ 0x00 ∷ 0x01 ∷ 0x09 ∷ []) ∷ refusal (push 2) 8 ∷ [])
+  pub nine : P .Plays (twoConsumed ++ quietly up ∷ goesDown (push 2) (0x02 ∷ 0x00 ∷ 0x01 ∷ 0x09 ∷ []) ∷ refusal (push 2) 8 ∷ [])
   -- "Eight octets: two packets, the second with PBF 0"
-  pub eight : P
+  pub eight : P .Plays
       (onTwo
       ++ quietly (send 2 (0x01 ∷ 0x02 ∷ 0x03 ∷ 0x04 ∷ 0x05 ∷ 0x06 ∷ 0x07 ∷ 0x08 ∷ []))
       ∷ goesDown (push 2) (0x12 ∷ 0x00 ∷ 0x04 ∷ 0x01 ∷ 0x02 ∷ 0x03 ∷ 0x04 ∷ [])
@@ -163,9 +182,8 @@ pub record Table (P : List Event → Type 0) : Type 0 where
   pub create : Gives P ready 0x0 0x04 (0x01 ∷ 0x00 ∷ []) (0x20 ∷ 0x04 ∷ 0x02 ∷ 0x01 ∷ 0x00 ∷ []) (0x40 ∷ 0x04 ∷ 0x04 ∷ 0x00 ∷ 0x04 ∷ 0x02 ∷ 0x02 ∷ [])
   -- "Two credits to 2: 60 06 03 01 02 02", wherever 2 owes two and no other any. From fresh on a loopback owes nothing (`LoopbacksPaid`),
   -- so by calls alone it is two credits to 0
-  pub credits : (s : State) → owedBy s ≡ 0 ∷ 2 ∷ 0 ∷ 0 ∷ 0 ∷ [] → full 1 (s .up) ≡ false
-      → eventOf credit (step credit s) ≡ goesUp credit (0x60 ∷ 0x06 ∷ 0x03 ∷ 0x01 ∷ 0x02 ∷ 0x02 ∷ [])
-  pub credits-zero : P (twoOwed ++ goesUp credit (0x60 ∷ 0x06 ∷ 0x03 ∷ 0x01 ∷ 0x00 ∷ 0x02 ∷ []) ∷ [])
+  pub credits : P .Notices (0 ∷ 2 ∷ 0 ∷ 0 ∷ 0 ∷ []) (0x60 ∷ 0x06 ∷ 0x03 ∷ 0x01 ∷ 0x02 ∷ 0x02 ∷ [])
+  pub credits-zero : P .Plays (twoOwed ++ goesUp credit (0x60 ∷ 0x06 ∷ 0x03 ∷ 0x01 ∷ 0x00 ∷ 0x02 ∷ []) ∷ [])
   -- "20 3F 00 gives 40 3F 01 05"
   pub unknown : Gives P ready 0x0 0x3F [] (0x20 ∷ 0x3F ∷ 0x00 ∷ []) (0x40 ∷ 0x3F ∷ 0x01 ∷ 0x05 ∷ [])
   -- "Deactivate in IDLE 41 06 01 06", whatever the type

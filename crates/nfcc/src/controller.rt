@@ -3,6 +3,7 @@ use state::commands;
 use state::commands::Command;
 use state::conn::open_at;
 use state::conn::terms_of;
+use state::fields;
 use state::kinds::Activation;
 use state::kinds::Controller;
 use state::kinds::Counts;
@@ -12,6 +13,18 @@ use state::kinds::Phase;
 use state::kinds::Profile;
 use state::kinds::Rf;
 use state::kinds::Selection;
+use state::names::ALREADY_STARTED;
+use state::names::FRAME_INTERFACE;
+use state::names::LISTEN_B;
+use state::names::LISTEN_F;
+use state::names::LOOPBACK;
+use state::names::REJECTED;
+use state::names::SEMANTIC_ERROR;
+use state::names::SYNTAX_ERROR;
+use state::names::TO_DISCOVERY;
+use state::names::TO_IDLE;
+use state::names::TO_SLEEP;
+use state::names::TO_SLEEP_AF;
 use state::radio::is_idle;
 use state::radio::is_listed;
 use state::radio::listens;
@@ -22,15 +35,6 @@ ghost use Rattle.nfcc.specs.Kinds.rf.{ListenActive, ListenSleep};
 ghost use Rattle.state.specs.Conn.{openAt};
 ghost use Rattle.nfcc.specs.Controller.{shortest, isReset, isReady, allowed, resetBy, after, nextId, opensAs, createBy, closeBy, configOk, configsOk, discoverBy, selectBy, sleepRejected, restState, ended, deactivateBy, valuesOf, judgeOf};
 
-// The statuses of a refusal (003, Table 129).
-pub const REJECTED: u8 = 0x01;
-
-pub const SYNTAX_ERROR: u8 = 0x05;
-
-pub const SEMANTIC_ERROR: u8 = 0x06;
-
-pub const DISCOVERY_ALREADY_STARTED: u8 = 0xA0;
-
 // The octets that a command must have; an unknown one is judged whatever its payload.
 fn shortest(c: Command, m: &[u8]) -> usize
     ensures { λ r. ⌜ r ≡ shortest c (now (m .entry)) ⌝ }
@@ -40,7 +44,8 @@ fn shortest(c: Command, m: &[u8]) -> usize
         Command::Init => 2,
         Command::ConnCreate => 2,
         Command::ConnClose => 1,
-        Command::Discover => 1 + 2 * (octets::octet_at(m, 0) as usize),
+        Command::Discover => fields::CONFIG_MODE
+            + fields::CONFIG_SIZE * (octets::octet_at(m, fields::CONFIG_COUNT) as usize),
         Command::Select => 3,
         Command::Deactivate => 1,
         Command::Unknown => 0,
@@ -143,9 +148,9 @@ fn opens_as(p: Profile, id: u8) -> Verdict
 fn create_by(p: Profile, conns: [Counts; 5], given: u8, m: &[u8]) -> Verdict
     ensures { λ r. ⌜ r ≡ createBy p (openAt conns) given (now (m .entry)) ⌝ }
 {
-    let destination = octets::octet_at(m, 0);
-    let parameters = octets::octet_at(m, 1);
-    if (destination == 0x01) & (parameters == 0x00) {
+    let destination = octets::octet_at(m, fields::CREATE_DESTINATION);
+    let parameters = octets::octet_at(m, fields::CREATE_PARAMETERS);
+    if (destination == LOOPBACK) & (parameters == 0x00) {
         let id = next_id(conns, given);
         opens_as(p, id)
     } else {
@@ -184,8 +189,8 @@ fn configs_ok(m: &[u8], n: u8) -> bool
     let mut ok = true;
     let mut i: usize = 0;
     while i < count {
-        let mode = octets::octet_at(m, 1 + 2 * i);
-        let frequency = octets::octet_at(m, 2 + 2 * i);
+        let mode = octets::octet_at(m, fields::CONFIG_MODE + fields::CONFIG_SIZE * i);
+        let frequency = octets::octet_at(m, fields::CONFIG_FREQUENCY + fields::CONFIG_SIZE * i);
         ok = ok & config_ok(mode, frequency);
         i += 1;
     }
@@ -197,10 +202,10 @@ fn discover_by(rf: Rf, m: &[u8]) -> Verdict
     ensures { λ r. ⌜ r ≡ discoverBy rf (now (m .entry)) ⌝ }
 {
     let idle = is_idle(rf);
-    let n = octets::octet_at(m, 0);
+    let n = octets::octet_at(m, fields::CONFIG_COUNT);
     let ok = configs_ok(m, n);
     if !idle {
-        Verdict::Refuses(DISCOVERY_ALREADY_STARTED)
+        Verdict::Refuses(ALREADY_STARTED)
     } else if (n <= 8) & ok {
         Verdict::Turns(Rf::Discovery)
     } else {
@@ -215,7 +220,7 @@ fn select_by(rf: Rf, ps: Pairs, p: Pair, interface: u8) -> Verdict
     match rf {
         Rf::W4HostSelect(_) => {
             let found = is_listed(ps, p);
-            if found & (interface == 0x01) {
+            if found & (interface == FRAME_INTERFACE) {
                 Verdict::Selects(p)
             } else {
                 Verdict::Refuses(REJECTED)
@@ -235,7 +240,7 @@ fn select_by(rf: Rf, ps: Pairs, p: Pair, interface: u8) -> Verdict
 fn sleep_rejected(a: Activation, kind: u8) -> bool
     ensures { λ r. ⌜ r ≡ sleepRejected a kind ⌝ }
 {
-    ((kind == 1) & (a.mode == 0x82)) | ((kind == 2) & (a.mode == 0x81))
+    ((kind == TO_SLEEP) & (a.mode == LISTEN_F)) | ((kind == TO_SLEEP_AF) & (a.mode == LISTEN_B))
 }
 
 // The state after a deactivation of type 0, 3, and 1 or 2.
@@ -243,8 +248,8 @@ fn rest_state(kind: u8, asleep: Rf) -> Rf
     ensures { λ r. ⌜ r ≡ restState kind asleep ⌝ }
 {
     match kind {
-        0 => Rf::Idle,
-        3 => Rf::Discovery,
+        TO_IDLE => Rf::Idle,
+        TO_DISCOVERY => Rf::Discovery,
         _ => asleep,
     }
 }
@@ -262,7 +267,7 @@ fn listen_ended(a: Activation, kind: u8) -> Verdict
     ensures { λ r. ⌜ r ≡ deactivateBy (ListenActive a) kind ⌝ }
 {
     let kept = sleep_rejected(a, kind);
-    if 3 < kind {
+    if TO_DISCOVERY < kind {
         Verdict::Refuses(SYNTAX_ERROR)
     } else if kept {
         Verdict::Refuses(REJECTED)
@@ -275,9 +280,9 @@ fn listen_ended(a: Activation, kind: u8) -> Verdict
 fn rested(kind: u8) -> Verdict
     ensures { λ r. ⌜ r ≡ deactivateBy ListenSleep kind ⌝ }
 {
-    if 3 < kind {
+    if TO_DISCOVERY < kind {
         Verdict::Refuses(SYNTAX_ERROR)
-    } else if kind == 0 {
+    } else if kind == TO_IDLE {
         Verdict::Turns(Rf::Idle)
     } else {
         Verdict::Refuses(SEMANTIC_ERROR)
@@ -291,12 +296,12 @@ fn deactivate_by(rf: Rf, kind: u8) -> Verdict
 {
     match rf {
         Rf::Idle => Verdict::Refuses(SEMANTIC_ERROR),
-        Rf::Discovery => rested(0),
-        Rf::W4AllDiscoveries => rested(0),
-        Rf::W4HostSelect(_) => rested(0),
+        Rf::Discovery => rested(TO_IDLE),
+        Rf::W4AllDiscoveries => rested(TO_IDLE),
+        Rf::W4HostSelect(_) => rested(TO_IDLE),
         Rf::ListenSleep => rested(kind),
         Rf::PollActive(_) => {
-            if 3 < kind {
+            if TO_DISCOVERY < kind {
                 Verdict::Refuses(SYNTAX_ERROR)
             } else {
                 ended(kind, Rf::W4HostSelect(Selection::Nothing))
@@ -320,8 +325,8 @@ fn values_of(p: Profile, k: Controller, conns: [Counts; 5], c: Command, m: &[u8]
         Command::Discover => discover_by(rf, m),
         Command::Select => {
             let ps = k.pairs;
-            let protocol = octets::octet_at(m, 1);
-            let interface = octets::octet_at(m, 2);
+            let protocol = octets::octet_at(m, fields::SELECT_PROTOCOL);
+            let interface = octets::octet_at(m, fields::SELECT_INTERFACE);
             select_by(
                 rf,
                 ps,

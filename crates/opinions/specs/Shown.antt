@@ -14,7 +14,7 @@ use Rattle.nfcc.specs.Controller.{shortest, allowed, resetBy, after, seek, next
 use Rattle.messages.specs.Layout.{entriesFrom, entryCount, responseOf, noticeMessage}
 use Rattle.air.specs.Air.{foundIn, pollIn, listenIn, eventOf, foundBy, pollBy, listenBy, failedBy, airedBy, airMessage, controllerAired}
 use Rattle.dh.specs.Contents.{noticeOf, zeros, initWritten, createWritten, entriesOk, creditsWritten, discoverWritten, activatedWritten, deactivateWritten, written}
-use Rattle.dh.specs.Host.{answerOf, heardAlone, hearOf, creditsIn, namesClosed, hostAfter, dropHeard}
+use Rattle.dh.specs.Host.{answerOf, heardWritten, hearOf, creditsIn, namesClosed, hostAfter, dropHeard}
 use Rattle.wires.specs.Meaning.{meaning}
 use Rattle.wires.specs.Tally.{dataCount}
 use Rattle.wires.specs.Counted.{insideOf, countedUp}
@@ -86,6 +86,6 @@ start = cold (profileIn profile)
 
 -- each call's line. What is named below unfolds wherever `lines` does, so that a list of calls computes.
 unfoldable pub lines : List Call → State → List Line
-unfolding cut octet0 octet1 packetOf oidOf carriedOf spareOf headerOf readOf carrying segmentsWithin segments placeOf connOf termsOf carriable listedIn addedTo commandOf shortest allowed resetBy after seek nextId createBy closeBy configsOk discoverBy deactivateBy judgeOf controllerAfter entriesFrom entryCount responseOf noticeMessage foundIn pollIn listenIn eventOf foundBy pollBy listenBy failedBy airedBy airMessage controllerAired noticeOf zeros initWritten createWritten entriesOk creditsWritten discoverWritten activatedWritten deactivateWritten written answerOf heardAlone hearOf creditsIn namesClosed hostAfter dropHeard meaning dataCount insideOf countedUp first allZero step
+unfolding cut octet0 octet1 packetOf oidOf carriedOf spareOf headerOf readOf carrying segmentsWithin segments placeOf connOf termsOf carriable listedIn addedTo commandOf shortest allowed resetBy after seek nextId createBy closeBy configsOk discoverBy deactivateBy judgeOf controllerAfter entriesFrom entryCount responseOf noticeMessage foundIn pollIn listenIn eventOf foundBy pollBy listenBy failedBy airedBy airMessage controllerAired noticeOf zeros initWritten createWritten entriesOk creditsWritten discoverWritten activatedWritten deactivateWritten written answerOf heardWritten hearOf creditsIn namesClosed hostAfter dropHeard meaning dataCount insideOf countedUp first allZero step
 lines [] s = []
 lines (c ∷ cs) s = lineOf (step c s) ∷ lines cs (step c s .effect .next)

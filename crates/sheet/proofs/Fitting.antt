@@ -7,44 +7,30 @@ use mathlib.Core.Bool.{Bool, true, false}
 use mathlib.Core.List.{List, [], _∷_, _++_}
 use native.Mathlib.Omega.{arith}
 use native.Mathlib.Decide.{decLt}
-use borrow.Author.Tests.{ltb-true, ltb-false, leb-false, ne-eqb, not-false}
-use lib.ListN.{length, getD, length-append, length-take}
-use lib.Dec.{ltb, eqb}
+use borrow.Author.Tests.{ltb-false, leb-false, ne-eqb, not-false}
+use lib.ListN.{length, getD, drop, length-append, length-take}
+use lib.Dec.{ltb}
 use Rattle.octets.specs.Octets.{Octets, pick, cut}
 use Rattle.packets.specs.Packet.{readOf}
-use Rattle.state.specs.Conn.{openAt}
-use Rattle.state.proofs.Chains.{and-right, on}
-use Rattle.state.proofs.Progress.{done-room}
+use Rattle.state.proofs.Chains.{on}
 use Rattle.area.specs.Map.{slotSize, wireSlots, areaSize, messageSize}
 use Rattle.record.specs.Layout.{bit}
 use Rattle.record.specs.Judge.{judgeOf}
 use Rattle.record.specs.Reading.{decodeOf}
-use Rattle.views.specs.View.{viewOf}
-use Rattle.model.specs.Effects.{Result, taken, refused, fresh, power}
-use Rattle.model.specs.Refusals.{Rule, first}
-use Rattle.model.specs.Bench.{rules}
+use Rattle.model.specs.Effects.{Call, fresh, power, command, send, push, down, consume, credit, air, reply, up, report}
 use Rattle.model.proofs.Needs.{need}
-use Rattle.calls.specs.Kinds.{Record, Reading}
+use Rattle.calls.specs.Kinds.{Reading}
 use Rattle.calls.specs.Kinds.reading.{Packet, Drop}
 use Rattle.calls.specs.Word.{wordOf, wordTelling, answerIn, droppedIn, handedIn, lengthIn, downIn, upIn, rfuIn}
-use Rattle.calls.specs.Outcome.{Outcome, outcome, decided, entryRules, called}
+use Rattle.calls.specs.Outcome.{Outcome, outcome, entryRules}
 use Rattle.calls.specs.Packet.{wireRing, packetBack, packetRules, shownPacket, packetCall, handedBy, lastPackets}
 use Rattle.calls.specs.Read.{Found, foundIn, foundOf, foundWord}
-use Rattle.calls.specs.calls.Fresh.{roomRules, freshCall}
-use Rattle.calls.specs.calls.Power.{powerCall}
-use Rattle.calls.specs.calls.Command.{commandCall}
-use Rattle.calls.specs.calls.Send.{sendCall}
-use Rattle.calls.specs.calls.Push.{hostSide, pushCall}
-use Rattle.calls.specs.calls.Down.{tookDown, downSlot, downRead, askedRun, dataDown, commandDown, arrived, downCall}
-use Rattle.calls.specs.calls.Consume.{oldestRead, controllerSide, joinedBy, consumedBy, consumeCall}
-use Rattle.calls.specs.calls.Credit.{creditCall}
-use Rattle.calls.specs.calls.Reply.{replyCall}
-use Rattle.calls.specs.calls.Up.{upRead, receivedJoin, receivedUp, comingUp, readUp, upCall}
-use Rattle.calls.specs.calls.Air.{airCall}
-use Rattle.calls.specs.calls.Report.{reportCall}
-use Rattle.calls.proofs.Rules.{small, numbered, refused-small}
+use Rattle.calls.proofs.Rules.{small}
 use Rattle.calls.proofs.Called.{sound-area}
 use Rattle.calls.proofs.Words.{word-length, told-length}
+use Rattle.calls.specs.Demand.{perform}
+use Rattle.calls.specs.Kept.{Within}
+use Rattle.calls.proofs.Kept.{below, called-by, nothing-past}
 use Rattle.calls.proofs.Packet.{wire-fits, length-slot}
 use Rattle.ascii.proofs.Digits.{length-hex, length-decimal}
 use Rattle.sheet.specs.Kinds.{Name}
@@ -57,21 +43,7 @@ use Rattle.sheet.specs.Sheet.{Answer, answerTo}
 use Rattle.forms.proofs.Naming.{name-short}
 use Rattle.sheet.proofs.Showing.{joined-append}
 
--- ---- what a call comes to: its effect, or a refusal's number
-
-pub decided-by : (P : Outcome → Type 0) (rs : List Rule) (o : Outcome) (a out : Octets) → numbered rs ≡ true → (first rs ≡ taken → P o)
-    → ((n : ℕ) → n < 256 → P (outcome n a out)) → P (decided (first rs) o a out)
-decided-by P rs o a out w p q = go (first rs) refl
-  where
-    go : (x : Result) → first rs ≡ x → P (decided x o a out)
-    go taken e = p e
-    go (refused n) e = q n (ltb-true n 256 (and-right (ltb 0 n) (ltb n 256) (refused-small rs n w e)))
-
-pub called-by : (P : Outcome → Type 0) (rs : List Rule) (o : Outcome) (a out : Octets) → numbered rs ≡ true
-    → (first (entryRules a (length out) ++ rs) ≡ taken → P o)
-    → ((n : ℕ) → n < 256 → P (outcome n a out)) → P (called rs o a out)
-unfolding called
-called-by P rs o a out w p q = decided-by P (entryRules a (length out) ++ rs) o a out w p q
+-- ---- refusals
 
 -- a refusal's word says nothing of a message
 pub number-handed : (n : ℕ) → n < 256 → handedIn n ≡ false
@@ -108,7 +80,7 @@ module _ (a out : Octets) (wire back : ℕ) where
       let small : length p ≤ slotSize = length-slot _ a _ in
       called-by (λ (o : Outcome). length (joined (handedBy o)) ≤ slotSize) (packetRules (decodeOf a) wire back) (shownPacket p a out) a out refl
       (λ _. omega (arith, handed-short (shownPacket p a out), word-length false true (length p) 0 0 (omega arith)))
-      (λ n h. omega (arith, ap (λ (ms : List Octets). length (joined ms)) (unhanded (outcome n a out) (number-handed n h))))
+      (λ n s. omega (arith, ap (λ (ms : List Octets). length (joined ms)) (unhanded (outcome n a out) (number-handed n (below n s)))))
 
   -- a wire has sixteen packets at most
   packet-none : wireSlots ≤ back → handedBy (packetCall a out wire back) ≡ []
@@ -123,7 +95,7 @@ module _ (a out : Octets) (wire back : ℕ) where
       let some : back < wireRing r wire .count = leb-false _ _ (need 8 all t) in
       let most : wireRing r wire .count ≤ wireSlots = wire-fits r wire (sound-area a long judged .fit) .count in
       absurd (omega arith))
-      (λ n k. unhanded (outcome n a out) (number-handed n k))
+      (λ n s. unhanded (outcome n a out) (number-handed n (below n s)))
 
 wire-short : (a : Octets) (outs : ℕ → Octets) (wire n : ℕ) → length (joined (lastPackets a outs wire n)) ≤ slotSize * min n wireSlots
 unfolding lastPackets joined
@@ -160,51 +132,28 @@ quietly d down up = worded d false 0 down up (omega arith)
 telling-modest : (n w : ℕ) → lengthIn w ≤ messageSize → lengthIn (wordTelling n w) ≤ messageSize
 telling-modest n w h = omega (arith, told-length n w)
 
-down-modest : (t : Record) (slot : ℕ) (x : Reading) (a out : Octets) → Modest (arrived t slot x a out)
-unfolding arrived dataDown commandDown
-down-modest t slot (Packet h n) a out =
-    on Modest (eqb (h .mt) 0) (λ _. on Modest (openAt (t .ends .conns) (h .id)) (λ _. quietly _ _ _) (λ _. quietly _ _ _))
-    (λ _. on Modest (eqb (h .mt) 1) (λ _. on Modest (askedRun t h n .done) (λ _. quietly _ _ _) (λ _. quietly _ _ _)) (λ _. quietly _ _ _))
-down-modest t slot Drop a out = quietly _ _ _
-
-consume-modest : (r : Record) (c : ℕ) (x : Reading) (a out : Octets) → Modest (consumedBy r c x a out)
-consume-modest r c (Packet h n) a out =
-    worded _ _ _ _ _
-    (on (λ (k : ℕ). k ≤ messageSize) (joinedBy r c (Packet h n) .done) (done-room messageSize (controllerSide r c .run) (h .pbf) n) (λ _. omega arith))
-consume-modest r c Drop a out = quietly _ _ _
-
-up-modest : (r : Record) (x : Reading) (a out : Octets) → Modest (readUp r x a out)
-unfolding comingUp receivedUp
-up-modest r (Packet h n) a out =
-    on Modest (eqb (h .mt) 0)
-    (λ _.
-    on Modest (hostSide r (h .id) .opened)
-    (λ _.
-    worded _ _ _ _ _
-    (on (λ (k : ℕ). k ≤ messageSize) (receivedJoin r h n .done) (done-room messageSize (hostSide r (h .id) .run) (h .pbf) n) (λ _. omega arith)))
-    (λ _. quietly _ _ _))
-    (λ _. on Modest (eqb (h .mt) 1) (λ _. quietly _ _ _) (λ _. quietly _ _ _))
-up-modest r Drop a out = quietly _ _ _
-
 read-modest : (x : Reading) → lengthIn (foundWord (foundIn x)) ≤ messageSize
 read-modest (Packet h n) = telling-modest _ _ (quietly _ _ _)
 read-modest Drop = telling-modest _ _ (quietly _ _ _)
 
+-- what a call leaves alone
+pub kept : (c : Call) (a out : Octets) → Within a out (perform c a out)
+kept c a out = nothing-past (record { call = c; out = out }) a
+
 pub play-modest : (x : Name) (m a out : Octets) → Modest (played x m a out)
-unfolding freshCall powerCall commandCall sendCall pushCall downCall consumeCall creditCall replyCall upCall airCall reportCall foundOf
-play-modest Fresh m a out =
-    decided-by Modest (roomRules (length a) (length out) ++ rules (fresh m) (viewOf a)) _ a out refl (λ _. quietly _ _ _) (λ n h. number-length n h)
-play-modest Power m a out = called-by Modest (rules power (viewOf a)) _ a out refl (λ _. quietly _ _ _) (λ n h. number-length n h)
-play-modest Command m a out = called-by Modest _ _ a out refl (λ _. quietly _ _ _) (λ n h. number-length n h)
-play-modest Send m a out = called-by Modest _ _ a out refl (λ _. quietly _ _ _) (λ n h. number-length n h)
-play-modest Push m a out = called-by Modest _ _ a out refl (λ _. quietly _ _ _) (λ n h. number-length n h)
-play-modest Down m a out = called-by Modest _ _ a out refl (λ _. telling-modest _ _ (down-modest (tookDown (decodeOf a)) (downSlot (decodeOf a)) (downRead (decodeOf a) a) a out)) (λ n h. number-length n h)
-play-modest Consume m a out = called-by Modest _ _ a out refl (λ _. consume-modest (decodeOf a) (getD m 0 0) (oldestRead (decodeOf a) (getD m 0 0) a) a out) (λ n h. number-length n h)
-play-modest Credit m a out = called-by Modest _ _ a out refl (λ _. quietly _ _ _) (λ n h. number-length n h)
-play-modest Air m a out = called-by Modest _ _ a out refl (λ _. quietly _ _ _) (λ n h. number-length n h)
-play-modest Reply m a out = called-by Modest _ _ a out refl (λ _. quietly _ _ _) (λ n h. number-length n h)
-play-modest Up m a out = called-by Modest _ _ a out refl (λ _. telling-modest _ _ (up-modest (decodeOf a) (upRead (decodeOf a) a) a out)) (λ n h. number-length n h)
-play-modest Report m a out = called-by Modest _ _ a out refl (λ _. worded false true 5 0 0 (omega arith)) (λ n h. number-length n h)
+unfolding foundOf
+play-modest Fresh m a out = kept (fresh m) a out .most
+play-modest Power m a out = kept power a out .most
+play-modest Command m a out = kept (command (getD m 0 0) (getD m 1 0) (drop 2 m)) a out .most
+play-modest Send m a out = kept (send (getD m 0 0) (drop 1 m)) a out .most
+play-modest Push m a out = kept (push (getD m 0 0)) a out .most
+play-modest Down m a out = kept down a out .most
+play-modest Consume m a out = kept (consume (getD m 0 0)) a out .most
+play-modest Credit m a out = kept credit a out .most
+play-modest Air m a out = kept (air m) a out .most
+play-modest Reply m a out = kept reply a out .most
+play-modest Up m a out = kept up a out .most
+play-modest Report m a out = kept (report (getD m 0 0)) a out .most
 play-modest Read m a out = on (λ (f : Found). lengthIn (foundWord f) ≤ messageSize) (ltb slotSize (length m)) (λ _. number-length 3 (omega arith)) (λ _. read-modest (readOf m))
 play-modest Bad m a out = number-length 3 (omega arith)
 

@@ -10,7 +10,7 @@ use Rattle.state.specs.Profile.{profileIn}
 use Rattle.nfcc.specs.Controller.{shortest, allowed, resetBy, after, seek, nextId, createBy, judgeOf, controllerAfter}
 use Rattle.messages.specs.Layout.{entriesFrom, entryCount, responseOf, noticeMessage}
 use Rattle.dh.specs.Contents.{noticeOf, zeros, initWritten, createWritten, entriesOk, creditsWritten, written}
-use Rattle.dh.specs.Host.{answerOf, heardAlone, hearOf, creditsIn, namesClosed, hostAfter, dropHeard}
+use Rattle.dh.specs.Host.{answerOf, heardWritten, hearOf, creditsIn, namesClosed, hostAfter, dropHeard}
 use Rattle.record.specs.Layout.{bit}
 use Rattle.wires.specs.Meaning.{meaning}
 use Rattle.wires.specs.Tally.{dataCount}
@@ -38,7 +38,7 @@ unfolding readLines readAnswers modelled asks argsOf formed among joined digitOf
 read-lines = refl
 
 first-paper : modelled firstPaper (cold (profileIn firstProfile)) ≡ firstAnswers
-unfolding firstPaper firstAnswers modelled asks argsOf formed among joined digitOf valueOf hexOf allDigits isHex octetsIn decimalOf sameAs startsWith upTo bit cut octet0 octet1 packetOf oidOf carriedOf spareOf headerOf readOf carrying segmentsWithin segments placeOf connOf termsOf carriable commandOf shortest allowed resetBy after seek nextId createBy judgeOf controllerAfter entriesFrom entryCount responseOf noticeMessage noticeOf zeros initWritten createWritten entriesOk creditsWritten written answerOf heardAlone hearOf creditsIn namesClosed hostAfter dropHeard meaning dataCount insideOf countedUp first allZero step
+unfolding firstPaper firstAnswers modelled asks argsOf formed among joined digitOf valueOf hexOf allDigits isHex octetsIn decimalOf sameAs startsWith upTo bit cut octet0 octet1 packetOf oidOf carriedOf spareOf headerOf readOf carrying segmentsWithin segments placeOf connOf termsOf carriable commandOf shortest allowed resetBy after seek nextId createBy judgeOf controllerAfter entriesFrom entryCount responseOf noticeMessage noticeOf zeros initWritten createWritten entriesOk creditsWritten written answerOf heardWritten hearOf creditsIn namesClosed hostAfter dropHeard meaning dataCount insideOf countedUp first allZero step
 first-paper = refl
 
 pub first-papers : FirstPapers

@@ -31,7 +31,7 @@ use Rattle.forms.specs.Form.{evLabel}
 use Rattle.sheet.specs.Show.{numberOf, zeroBuffer, joined, wireShown, putOn, messageText, eventField, answerField, dropField, rfuField, packetField, messageField, lineOf}
 use Rattle.sheet.specs.Told.{messageIn, toldBy, toTell, Real, Heard}
 use Rattle.sheet.proofs.Showing.{joined-append, number-answer}
-use Rattle.sheet.proofs.Fitting.{called-by}
+use Rattle.calls.proofs.Kept.{called-by}
 
 -- ---- no word has a blank
 

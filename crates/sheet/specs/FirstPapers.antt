@@ -4,7 +4,7 @@
 -- Assumes nothing.
 use Prim.Native.Nat.{ℕ, zero, suc, _/_, _%_, _≤_}
 use mathlib.Core.Path.{_≡_}
-use mathlib.Core.List.{List, [], _∷_}
+use mathlib.Core.List.{List, [], _∷_, _++_}
 use Rattle.octets.specs.Octets.{Octets}
 use Rattle.octets.specs.Octal.{Octal}
 use Rattle.area.specs.Map.{areaSize, messageSize}
@@ -37,7 +37,17 @@ threeAnswers =
     ∷ text 37 0x65763D7075736820616E733D362064726F703D30207266753D303020706B743D206D73673D  -- ev=push ans=6 drop=0 rfu=00 pkt= msg=
     ∷ []
 
--- ---- packets that are read and nothing else: a response, data, a command, a notification; data short of its payload, an RFU message type, nothing
+-- ---- packets that are read and nothing else: a response, data, a command, a notification; data short of its payload, an RFU message type, nothing; the longest packet,
+-- of 258 octets, and one octet more
+
+-- n digits 0
+abbrev pub zeroDigits : ℕ → Octets
+zeroDigits zero = []
+zeroDigits (suc n) = 0x30 ∷ zeroDigits n
+
+-- data of 255 octets on 0 as a line, with n digits behind its header
+abbrev pub longLine : ℕ → Octets
+longLine n = text 18 0x65763D72656164206172673D303030304646 ++ zeroDigits n  -- ev=read arg=0000FF
 
 unfoldable pub readLines : List Octets
 readLines =
@@ -48,6 +58,8 @@ readLines =
     ∷ text 18 0x65763D72656164206172673D303246463031  -- ev=read arg=02FF01
     ∷ text 18 0x65763D72656164206172673D383046463030  -- ev=read arg=80FF00
     ∷ text 12 0x65763D72656164206172673D  -- ev=read arg=
+    ∷ longLine 510
+    ∷ longLine 512
     ∷ []
 
 unfoldable pub readAnswers : List Octets
@@ -59,6 +71,8 @@ readAnswers =
     ∷ text 37 0x65763D7265616420616E733D302064726F703D31207266753D303020706B743D206D73673D  -- ev=read ans=0 drop=1 rfu=00 pkt= msg=
     ∷ text 37 0x65763D7265616420616E733D302064726F703D31207266753D303020706B743D206D73673D  -- ev=read ans=0 drop=1 rfu=00 pkt= msg=
     ∷ text 37 0x65763D7265616420616E733D302064726F703D31207266753D303020706B743D206D73673D  -- ev=read ans=0 drop=1 rfu=00 pkt= msg=
+    ∷ text 37 0x65763D7265616420616E733D302064726F703D30207266753D303020706B743D206D73673D  -- ev=read ans=0 drop=0 rfu=00 pkt= msg=
+    ∷ text 37 0x65763D7265616420616E733D332064726F703D30207266753D303020706B743D206D73673D  -- ev=read ans=3 drop=0 rfu=00 pkt= msg=
     ∷ []
 
 -- ---- the paper

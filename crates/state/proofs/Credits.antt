@@ -7,7 +7,7 @@ use mathlib.Core.Bool.{Bool, true, false, _&&_}
 use lib.Dec.{ltb}
 use borrow.Author.Tests.{lt-ltb, le-ltb}
 use Rattle.octets.specs.Octets.{pick}
-use Rattle.state.specs.Conn.{flows, owing, carriable}
+use Rattle.state.specs.Conn.{flows, owing, carriable, SumsWrap}
 
 module _ (owed : ℕ) where
   carriable-owed : carriable owed ≤ owed
@@ -36,3 +36,8 @@ module _ (opened : Bool) (grant owed : ℕ) where
 
   pub carried-owed : carriable (owing opened grant owed) ≤ owed
   carried-owed = omega (arith, carriable-owed (owing opened grant owed), owing-owed)
+
+-- ---- a sum of credits
+
+pub sums-wrap : SumsWrap
+sums-wrap held n = record { fits = λ h. omega (arith, h); wraps = λ a b h. omega (arith, a, b, h) }

@@ -1,6 +1,7 @@
 -- Conn IDs and their places in the record's array of five; what a connection's counts are when it opens and closes.
 -- Assumes nothing.
-use Prim.Native.Nat.{ℕ, _+_, _-_, _%_}
+use Prim.Native.Nat.{ℕ, _+_, _-_, _%_, _≤_}
+use mathlib.Core.Path.{_≡_}
 use mathlib.Core.Bool.{Bool, true, false, not, _&&_}
 use mathlib.Core.List.{List}
 use lib.ListN.{getD, set}
@@ -47,6 +48,14 @@ metered grant = pick (flows grant) grant 0
 -- credits are an octet, and so is a sum of them
 abbrev pub creditSum : ℕ → ℕ → ℕ
 creditSum held n = (held + n) % 256
+
+-- so the sum of two octets is theirs where it is an octet, and else 256 less
+pub record OctetSum (held n : ℕ) : Type 0 where
+  pub fits : held + n ≤ 255 → creditSum held n ≡ held + n
+  pub wraps : held ≤ 255 → n ≤ 255 → 256 ≤ held + n → creditSum held n + 256 ≡ held + n
+
+abbrev pub SumsWrap : Type 0
+SumsWrap = (held n : ℕ) → OctetSum held n
 
 -- what is owed: "if flow-controlled and open at the controller (else nothing)", whatever the field says
 abbrev pub owing : Bool → ℕ → ℕ → ℕ

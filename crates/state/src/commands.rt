@@ -1,4 +1,5 @@
 // The commands of document 01, by GID and OID.
+use crate::names;
 ghost use mathlib.Core.Path.{_≡_};
 ghost use Rattle.state.specs.Commands.{commandOf};
 
@@ -19,17 +20,17 @@ pub fn command_of(gid: u8, oid: u8) -> Command
     ensures { λ r. ⌜ r ≡ commandOf gid oid ⌝ }
 {
     match gid {
-        0 => match oid {
-            0 => Command::Reset,
-            1 => Command::Init,
-            4 => Command::ConnCreate,
-            5 => Command::ConnClose,
+        names::GID_CORE => match oid {
+            names::OID_RESET => Command::Reset,
+            names::OID_INIT => Command::Init,
+            names::OID_CONN_CREATE => Command::ConnCreate,
+            names::OID_CONN_CLOSE => Command::ConnClose,
             _ => Command::Unknown,
         },
-        1 => match oid {
-            3 => Command::Discover,
-            4 => Command::Select,
-            6 => Command::Deactivate,
+        names::GID_RF => match oid {
+            names::OID_DISCOVER => Command::Discover,
+            names::OID_SELECT => Command::Select,
+            names::OID_DEACTIVATE => Command::Deactivate,
             _ => Command::Unknown,
         },
         _ => Command::Unknown,

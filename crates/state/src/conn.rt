@@ -8,7 +8,7 @@ use crate::kinds::Progress;
 use crate::kinds::Ring;
 use crate::kinds::Terms;
 ghost use mathlib.Core.Path.{_≡_};
-ghost use Rattle.state.specs.Conn.{placeOf, connOf, termsOf, metered, creditSum, owing, countsOf, heldOpen, openAt, start, empty, handWith, handAfter, closedController, openedController, closedHost, openedHost, withController, withHost, controllerClosedAt, controllerOpenedAt, controllerAllClosed, hostClosedAt, hostOpenedAt, hostAllClosed, carriedBy, paidSide, noticedSide, noticedAt, allNoticed};
+ghost use Rattle.state.specs.Conn.{placeOf, connOf, termsOf, metered, creditSum, owing, countsOf, heldOpen, openAt, start, empty, handWith, handAfter, closedController, openedController, closedHost, openedHost, closedCounts, withController, withHost, controllerClosedAt, controllerOpenedAt, controllerAllClosed, hostClosedAt, hostOpenedAt, hostAllClosed, carriedBy, paidSide, noticedSide, noticedAt, allNoticed};
 
 // The credits octet for no flow control.
 pub const UNMETERED: u8 = 255;
@@ -87,12 +87,7 @@ pub fn counts_of(conns: [Counts; 5], conn: u8) -> Counts
         let c = conns[place];
         c
     } else {
-        let host = closed_host();
-        let controller = closed_controller();
-        Counts {
-            host: host,
-            controller: controller,
-        }
+        closed_counts()
     }
 }
 
@@ -230,6 +225,18 @@ pub fn opened_host(t: Terms) -> HostSide
             len: 0,
             lost: false,
         },
+    }
+}
+
+// A connection that is open at neither end.
+pub fn closed_counts() -> Counts
+    ensures { λ r. ⌜ r ≡ closedCounts ⌝ }
+{
+    let host = closed_host();
+    let controller = closed_controller();
+    Counts {
+        host: host,
+        controller: controller,
     }
 }
 

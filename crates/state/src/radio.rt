@@ -3,6 +3,7 @@ use crate::kinds::Activation;
 use crate::kinds::Pair;
 use crate::kinds::Pairs;
 use crate::kinds::Rf;
+use crate::names;
 ghost use mathlib.Core.Path.{_≡_};
 ghost use Rattle.state.specs.Radio.{isIdle, isListening, isAsleep, isActive, polls, listens, idOk, samePair, listed, startedWith, addedTo, pairOf, noPairs};
 
@@ -66,13 +67,13 @@ pub fn is_active(rf: Rf) -> bool
 pub fn polls(mode: u8) -> bool
     ensures { λ r. ⌜ r ≡ polls mode ⌝ }
 {
-    (mode <= 0x03) | (mode == 0x06)
+    (mode <= names::POLL_ACTIVE) | (mode == names::POLL_V)
 }
 
 pub fn listens(mode: u8) -> bool
     ensures { λ r. ⌜ r ≡ listens mode ⌝ }
 {
-    (0x80 <= mode) & (mode <= 0x83)
+    (names::LISTEN_A <= mode) & (mode <= names::LISTEN_ACTIVE)
 }
 
 // An RF discovery ID that is not RFU.

@@ -25,7 +25,7 @@ use Rattle.dh.specs.declared.contents.Notice.the-variants as notice
 use Rattle.dh.specs.declared.host.Answer.the-variants.{Done}
 use Rattle.dh.specs.declared.host.Heard.the-variants.{Nothing, Answered}
 use Rattle.dh.specs.Contents.{noticeOf, createWritten, noticeWritten, statusAlone, okWritten, written}
-use Rattle.dh.specs.Host.{okAnswer, answerOf, noticed, heardAlone}
+use Rattle.dh.specs.Host.{okAnswer, answerOf, noticed, heardWritten}
 use Rattle.dh.proofs.Limits.{create-tests}
 use Rattle.wires.specs.declared.up.Inside.{Inside}
 use Rattle.wires.specs.declared.up.Inside.the-variants.{CreditsNtf, ActivatedNtf, CreateRsp, Other}
@@ -171,7 +171,7 @@ module _ (c : ℕ) (m : Octets) where
       (pick (eqb mt 3 && eqb gid 1 && eqb oid 5) ActivatedNtf
       (pick (eqb mt 2 && eqb gid 0 && eqb oid 4 && eqb n 4) CreateRsp Other)))
       ≡ creditsSaid c m (pick (eqb mt 1) Nothing (says 0 mt gid oid m))
-  unfolding written heardAlone
+  unfolding written heardWritten
   whole-same zero gid oid n l k z = absurd (false≢true (sym z))
   whole-same (suc zero) gid oid n l k z = refl
   whole-same (suc (suc zero)) gid oid n l k z = ap (creditsInside c m) (response-named gid oid n) ∙ response-same (commandOf gid oid) n l

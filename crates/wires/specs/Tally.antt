@@ -16,7 +16,7 @@ use Rattle.dh.specs.declared.host.Answer.the-variants.{Done, ClosesAll, Sized, 
 use Rattle.dh.specs.declared.host.Heard.{Heard}
 use Rattle.dh.specs.declared.host.Heard.the-variants.{Nothing, Dropped, Answered, Activated, Deactivated, Credits}
 use Rattle.dh.specs.Contents.{written}
-use Rattle.dh.specs.Host.{heardAlone, creditsFor}
+use Rattle.dh.specs.Host.{heardWritten, creditsFor}
 use Rattle.wires.specs.Meaning.{Meaning, datum, control, junk, meaning}
 
 -- ---- the down wire
@@ -38,7 +38,7 @@ aimedAt aim = Command (record { gid = gidCore; oid = oidConnClose; aim = aim })
 
 -- contents never written here say nothing
 abbrev pub says : ℕ → ℕ → ℕ → ℕ → Octets → Heard
-says aim mt gid oid m = pick (written mt gid oid m) (heardAlone (aimedAt aim) mt gid oid m) Nothing
+says aim mt gid oid m = pick (written mt gid oid m) (heardWritten (aimedAt aim) mt gid oid m) Nothing
 
 abbrev pub saysIn : ℕ → Meaning → Heard
 saysIn aim (datum c n x) = Nothing

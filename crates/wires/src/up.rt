@@ -7,6 +7,12 @@ use octets::choose;
 use packets::Header;
 use packets::Reading;
 use state::conn;
+use state::fields;
+use state::names::GID_CORE;
+use state::names::GID_RF;
+use state::names::OID_ACTIVATED;
+use state::names::OID_CONN_CREATE;
+use state::names::OID_CONN_CREDITS;
 ghost use mathlib.Core.Path.{_≡_};
 ghost use Prim.Native.Nat.{_+_, _≤_, _<_};
 ghost use lib.ListN.{length};
@@ -39,16 +45,16 @@ fn inside_of(h: Header, n: usize) -> Inside
     if h.pbf {
         return Inside::Other;
     }
-    let credits = is_named(h, packets::NOTIFICATION, 0, 6);
+    let credits = is_named(h, packets::NOTIFICATION, GID_CORE, OID_CONN_CREDITS);
     if credits {
         return Inside::CreditsNtf;
     }
-    let activated = is_named(h, packets::NOTIFICATION, 1, 5);
+    let activated = is_named(h, packets::NOTIFICATION, GID_RF, OID_ACTIVATED);
     if activated {
         return Inside::ActivatedNtf;
     }
-    let created = is_named(h, packets::RESPONSE, 0, 4);
-    if created & (n == 4) {
+    let created = is_named(h, packets::RESPONSE, GID_CORE, OID_CONN_CREATE);
+    if created & (n == fields::CREATE_LENGTH) {
         return Inside::CreateRsp;
     }
     Inside::Other
@@ -82,7 +88,7 @@ fn activated_credits(m: &[u8], conn: u8) -> u8
     ensures { λ r. ⌜ r ≡ creditsInside conn (now (m .entry)) Inside.ActivatedNtf ⌝ }
 {
     let activates = contents::activated_written(m);
-    let credits = octets::octet_at(m, 5);
+    let credits = octets::octet_at(m, fields::ACTIVATED_CREDITS);
     let grant = granted(0, credits, conn);
     choose(activates, grant, 0)
 }
@@ -92,8 +98,8 @@ fn create_credits(m: &[u8], conn: u8) -> u8
     ensures { λ r. ⌜ r ≡ creditsInside conn (now (m .entry)) Inside.CreateRsp ⌝ }
 {
     let opens = contents::create_written(m);
-    let credits = octets::octet_at(m, 2);
-    let id = octets::octet_at(m, 3);
+    let credits = octets::octet_at(m, fields::CREATE_CREDITS);
+    let id = octets::octet_at(m, fields::CREATE_CONN);
     let grant = granted(id, credits, conn);
     choose(opens, grant, 0)
 }

@@ -7,10 +7,9 @@ use lib.ListN.{length}
 use Rattle.octets.specs.Octets.{Octets}
 use Rattle.packets.specs.Segments.{segments, packetsOf}
 use Rattle.packets.specs.Headers.{controlHeader}
-use Rattle.calls.specs.Kinds.{Host, Ring, Record}
-use Rattle.calls.specs.Kinds.pending as pending
+use Rattle.calls.specs.Kinds.{Ring, Record}
 use Rattle.state.specs.Profile.{leastSize}
-use Rattle.dh.specs.Host.{askedOf}
+use Rattle.dh.specs.Sending.{commandedHost}
 use Rattle.area.specs.Map.{payloadSize, wireSlots, downAt}
 use Rattle.area.specs.Movers.{putsAll}
 use Rattle.record.specs.Reading.{decodeOf}
@@ -27,10 +26,6 @@ abbrev pub commandedCount : Record → Octets → ℕ
 commandedCount r m = length (segments (r .ends .host .size) m)
 
 -- ---- the record after it
-
--- the command is unanswered
-abbrev pub commandedHost : Host → ℕ → ℕ → Octets → Host
-commandedHost h gid oid m = record { size = h .size; pending = pending.Command (askedOf gid oid m) }
 
 abbrev pub commandedRing : Ring → ℕ → Ring
 commandedRing k n = record { head = k .head; count = k .count + n }

@@ -1,14 +1,15 @@
 -- push on octets: the next segment of the message in hand goes down, and a credit is spent if flow-controlled.
 -- Assumes nothing.
-use Prim.Native.Nat.{ℕ, _-_, _≤_, _<_}
+use Prim.Native.Nat.{ℕ, _≤_, _<_}
 use mathlib.Core.Path.{_≡_}
 use mathlib.Core.Bool.{true, false}
-use Rattle.octets.specs.Octets.{Octets, pick, cut, splice}
+use Rattle.octets.specs.Octets.{Octets, cut, splice}
 use Rattle.packets.specs.Segments.{Segment, segmentAt, segmentPacket}
 use Rattle.packets.specs.Headers.{dataHeader}
 use Rattle.calls.specs.Kinds.{HostSide, Record}
 use Rattle.state.specs.Conn as conn
-use Rattle.state.specs.Conn.{placeOf, countsOf, flows, handAfter}
+use Rattle.state.specs.Conn.{placeOf, countsOf}
+use Rattle.dh.specs.Sending.{pushedSide}
 use Rattle.area.specs.Map.{wireSlots, places, downAt, handAt}
 use Rattle.area.specs.Ring.{freeAt, putInto}
 use Rattle.record.specs.Reading.{decodeOf}
@@ -25,17 +26,6 @@ abbrev pub hostSide : Record → ℕ → HostSide
 hostSide r c = countsOf (r .ends .conns) c .host
 
 -- ---- the record after it
-
-abbrev pub pushedSide : HostSide → HostSide
-pushedSide h =
-    record {
-      opened = h .opened;
-      payload = h .payload;
-      grant = h .grant;
-      held = pick (flows (h .grant)) (h .held - 1) (h .held);
-      hand = handAfter (h .payload) (h .hand);
-      run = h .run;
-    }
 
 abbrev pub pushedRecord : Record → ℕ → Record
 pushedRecord r c = withDown (putInto (r .down)) (withConns (conn.withHost (r .ends .conns) c (pushedSide (hostSide r c))) r)

@@ -6,11 +6,12 @@ use lib.ListN.{length}
 use Rattle.octets.specs.Octets.{Octets, splice}
 use Rattle.calls.specs.Kinds.{Record}
 use Rattle.state.specs.Conn as conn
-use Rattle.state.specs.Conn.{placeOf, handWith}
+use Rattle.state.specs.Conn.{placeOf}
+use Rattle.dh.specs.Sending.{sentSide}
 use Rattle.area.specs.Map.{messageSize, places, handAt}
 use Rattle.record.specs.Reading.{decodeOf}
 use Rattle.record.specs.Claims.{saved}
-use Rattle.record.specs.Plan.{withConns, withHand}
+use Rattle.record.specs.Plan.{withConns}
 use Rattle.views.specs.View.{viewOf}
 use Rattle.model.specs.calls.Send.{sendRules}
 use Rattle.calls.specs.Word.{wordOf}
@@ -20,7 +21,7 @@ use Rattle.calls.specs.calls.Push.{hostSide}
 -- ---- the record after it
 
 abbrev pub sentRecord : Record → ℕ → Octets → Record
-sentRecord r c m = withConns (conn.withHost (r .ends .conns) c (withHand (handWith (length m)) (hostSide r c))) r
+sentRecord r c m = withConns (conn.withHost (r .ends .conns) c (sentSide (length m) (hostSide r c))) r
 
 -- ---- the area after it
 

@@ -1,46 +1,50 @@
--- `vectors::main` is safe and ends: the turns left fall. Both buffers keep their lengths.
+-- `vectors::main` is safe and ends: the turns left fall.
 -- Assumes nothing.
 use borrow.Author.Needs.{needs}
-use lib.ListN.{length}
+use Prim.Native.Nat.{_≤_}
 use mathlib.Core.Path.{_≡_}
+use lib.ListN.{length}
 use Rattle.vectors.proofs.main.Statement.{statement}
 use Rattle.vectors.proofs.main.Tie as tie
 
 abbrev Inv-loop : tie.InvT-loop
-Inv-loop chunk₀ line₀ input₀ turns₀ chunk line input turns = (4096 ≡ length chunk) × (601 ≡ length line)
+Inv-loop chunk₀ line₀ held₀ turns₀ chunk line held turns = (4096 ≡ length chunk) × (held ≤ 601)
 
 abbrev μ-loop : tie.MeasureT-loop
-μ-loop chunk₀ line₀ input₀ turns₀ chunk line input turns = turns
+μ-loop chunk₀ line₀ held₀ turns₀ chunk line held turns = turns
 
 buffer-requires : tie.Need-buffer-requires Inv-loop μ-loop
 buffer-requires c κs = search needs
 
-start-requires : tie.Need-start-requires Inv-loop μ-loop
-start-requires c κs = search needs
-
 loop-holds : tie.Need-loop-holds Inv-loop μ-loop
 loop-holds c = search needs
 
-slice-aggregate-next : tie.Need-slice-aggregate-next Inv-loop μ-loop
-slice-aggregate-next c = search needs
+slice-aggregate-read : tie.Need-slice-aggregate-read Inv-loop μ-loop
+slice-aggregate-read c = search needs
 
-slice-aggregate-next-2 : tie.Need-slice-aggregate-next-2 Inv-loop μ-loop
-slice-aggregate-next-2 c = search needs
+read-requires : tie.Need-read-requires Inv-loop μ-loop
+read-requires c κs = search needs
 
-next-requires : tie.Need-next-requires Inv-loop μ-loop
-next-requires c κs = search needs
+slice-aggregate-count : tie.Need-slice-aggregate-count Inv-loop μ-loop
+slice-aggregate-count c = search needs
+
+count-requires : tie.Need-count-requires Inv-loop μ-loop
+count-requires c κs = search needs
+
+reply-last-requires : tie.Need-reply-last-requires Inv-loop μ-loop
+reply-last-requires c κs = search needs
 
 returns : tie.Need-returns Inv-loop μ-loop
 returns c = search needs
 
-slice-aggregate-window : tie.Need-slice-aggregate-window Inv-loop μ-loop
-slice-aggregate-window c = search needs
+array-share-prefix-chunk : tie.Need-array-share-prefix-chunk Inv-loop μ-loop
+array-share-prefix-chunk c = search needs
 
-window-requires : tie.Need-window-requires Inv-loop μ-loop
-window-requires c κs = search needs
+slice-aggregate-reply-piece : tie.Need-slice-aggregate-reply-piece Inv-loop μ-loop
+slice-aggregate-reply-piece c = search needs
 
-reply-requires : tie.Need-reply-requires Inv-loop μ-loop
-reply-requires c κs = search needs
+reply-piece-requires : tie.Need-reply-piece-requires Inv-loop μ-loop
+reply-piece-requires c κs = search needs
 
 sub-turns : tie.Need-sub-turns Inv-loop μ-loop
 sub-turns c = search needs
@@ -61,15 +65,16 @@ main-spec =
     Inv-loop
     μ-loop
     buffer-requires
-    start-requires
     loop-holds
-    slice-aggregate-next
-    slice-aggregate-next-2
-    next-requires
+    slice-aggregate-read
+    read-requires
+    slice-aggregate-count
+    count-requires
+    reply-last-requires
     returns
-    slice-aggregate-window
-    window-requires
-    reply-requires
+    array-share-prefix-chunk
+    slice-aggregate-reply-piece
+    reply-piece-requires
     sub-turns
     loop-less
     loop-again

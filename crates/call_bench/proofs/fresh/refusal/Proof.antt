@@ -5,8 +5,8 @@ use borrow.Author.Needs.{needs}
 use Rattle.call_bench.proofs.fresh.refusal.Statement.{statement}
 use Rattle.call_bench.proofs.fresh.refusal.Tie as tie
 
-profile-ok-requires : tie.Need-profile-ok-requires
-profile-ok-requires c κs = search needs
+profile-octets-ok-requires : tie.Need-profile-octets-ok-requires
+profile-octets-ok-requires c κs = search needs
 
 choose-requires : tie.Need-choose-requires
 choose-requires c κs = search needs
@@ -19,9 +19,9 @@ choose-requires-3 c κs = search needs
 
 returns : tie.Need-returns
 unfolding lowest
-returns c = λ a. rw (c .choose3 .ensures, c .before .choose2 .ensures, c .before .before .choose .ensures, c .before .before .before .profile-ok .ensures)
+returns c = λ a. rw (c .choose3 .ensures, c .before .choose2 .ensures, c .before .before .choose .ensures, c .before .before .before .profile-octets-ok .ensures)
 
 pub refusal-spec : {M : Type 1} → statement M
 refusal-spec =
     tie.close
-    (tie.spec profile-ok-requires choose-requires choose-requires-2 choose-requires-3 returns)
+    (tie.spec profile-octets-ok-requires choose-requires choose-requires-2 choose-requires-3 returns)

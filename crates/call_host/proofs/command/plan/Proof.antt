@@ -4,14 +4,14 @@ use borrow.Author.Needs.{needs}
 use Rattle.call_host.proofs.command.plan.Statement.{statement}
 use Rattle.call_host.proofs.command.plan.Tie as tie
 
-asking-requires : tie.Need-asking-requires
-asking-requires c κs = search needs
+commanded-requires : tie.Need-commanded-requires
+commanded-requires c κs = search needs
 
 add-t11 : tie.Need-add-t11
 add-t11 c = search needs
 
 returns : tie.Need-returns
-returns c = rw (c .asking .ensures, c .before .before .before .before .pre .0)
+returns c = rw (c .commanded .ensures, c .before .before .before .before .pre .0)
 
 pub plan-spec : {M : Type 1} → statement M
-plan-spec = tie.close (tie.spec asking-requires add-t11 returns)
+plan-spec = tie.close (tie.spec commanded-requires add-t11 returns)

@@ -7,8 +7,8 @@ use Rattle.call_host.proofs.push.plan.Tie as tie
 counts-of-requires : tie.Need-counts-of-requires
 counts-of-requires c κs = search needs
 
-pushed-side-requires : tie.Need-pushed-side-requires
-pushed-side-requires c κs = search needs
+pushed-requires : tie.Need-pushed-requires
+pushed-requires c κs = search needs
 
 with-host-requires : tie.Need-with-host-requires
 with-host-requires c κs = search needs
@@ -17,9 +17,9 @@ put-into-requires : tie.Need-put-into-requires
 put-into-requires c κs = search needs
 
 returns : tie.Need-returns
-returns c = rw (c .put-into .ensures, c .before .with-host .ensures, c .before .before .pushed-side .ensures, c .before .before .before .counts-of .ensures)
+returns c = rw (c .put-into .ensures, c .before .with-host .ensures, c .before .before .pushed .ensures, c .before .before .before .counts-of .ensures)
 
 pub plan-spec : {M : Type 1} → statement M
 plan-spec =
     tie.close
-    (tie.spec counts-of-requires pushed-side-requires with-host-requires put-into-requires returns)
+    (tie.spec counts-of-requires pushed-requires with-host-requires put-into-requires returns)

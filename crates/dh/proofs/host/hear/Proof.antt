@@ -12,15 +12,15 @@ expected-requires c κs = search needs
 written-requires : tie.Need-written-requires
 written-requires c κs = search needs
 
-heard-alone-requires : tie.Need-heard-alone-requires
-heard-alone-requires c κs = search needs
+heard-written-requires : tie.Need-heard-written-requires
+heard-written-requires c κs = search needs
 
 returns : tie.Need-returns
 unfolding hearOf
 returns c =
     let mine = sym (c .before .before .before .before .expected .ensures) ∙ c .before .before .if1 .taken in
     let ours = sym (c .before .before .before .written .ensures) ∙ c .before .if2 .taken in
-    rw (mine, ours) (c .heard-alone .ensures)
+    rw (mine, ours) (c .heard-written .ensures)
 
 returns-2 : tie.Need-returns-2
 unfolding hearOf
@@ -36,4 +36,4 @@ returns-3 c = let mine = sym (c .before .before .expected .ensures) ∙ c .if1 .
 pub hear-spec : {M : Type 1} → statement M
 hear-spec =
     tie.close
-    (tie.spec expected-requires written-requires heard-alone-requires returns returns-2 returns-3)
+    (tie.spec expected-requires written-requires heard-written-requires returns returns-2 returns-3)

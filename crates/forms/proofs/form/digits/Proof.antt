@@ -1,23 +1,23 @@
 -- `forms::form::digits` meets its contract.
 -- Assumes nothing.
 use mathlib.Core.Path.{_∙_}
-use lib.ListN.{length}
-use Rattle.octets.specs.Octets.{cut}
-use Rattle.forms.proofs.Forming.{tail-rest}
+use Rattle.ascii.specs.Fields.{valueIn}
+use Rattle.forms.specs.Form.{argName}
 use borrow.Author.Needs.{needs}
 use Rattle.forms.proofs.form.digits.Statement.{statement}
 use Rattle.forms.proofs.form.digits.Tie as tie
 
-tail-requires : tie.Need-tail-requires
-tail-requires c κs = search needs
+after-requires : tie.Need-after-requires
+after-requires c κs = search needs
 
-window-requires : tie.Need-window-requires
-window-requires c κs = search needs
+slice-aggregate-value : tie.Need-slice-aggregate-value
+slice-aggregate-value c = search needs
+
+value-requires : tie.Need-value-requires
+value-requires c κs = search needs
 
 returns : tie.Need-returns
-returns c =
-    let line = c .before .before .before .args .line .now in
-    c .window .ensures ∙ (λ i. cut 5 (length line) (c .before .tail .ensures i)) ∙ tail-rest 5 line
+returns c = c .value .ensures ∙ (λ i. valueIn argName (c .before .before .after .ensures i))
 
 pub digits-spec : {M : Type 1} → statement M
-digits-spec = tie.close (tie.spec tail-requires window-requires returns)
+digits-spec = tie.close (tie.spec after-requires slice-aggregate-value value-requires returns)

@@ -45,8 +45,11 @@ decode-requires c κs =
       omega (arith, ap (λ (l : Octets). length (octetsIn l)) digits, args-short line good),
     )
 
-word-requires : tie.Need-word-requires
-word-requires c κs = search needs
+slice-aggregate-value : tie.Need-slice-aggregate-value
+slice-aggregate-value c = search needs
+
+value-requires : tie.Need-value-requires
+value-requires c κs = search needs
 
 name-in-requires : tie.Need-name-in-requires
 name-in-requires c κs = search needs
@@ -59,15 +62,15 @@ fits-requires c κs = search needs
 
 returns-2 : tie.Need-returns-2
 returns-2 c =
-    let a = c .before .before .before .before .before .before .before .before .before .before .before .before .before .before .args in
+    let a = c .before .before .before .before .before .before .before .before .before .before .before .before .before .before .before .args in
     let line = a .line .now in
-    let good = sym (c .before .before .before .before .before .before .before .before .before .before .before .before .formed .ensures) ∙ not-false _ (c .before .before .before .before .before .before .before .before .before .before .before .if1 .left) in
+    let good = sym (c .before .before .before .before .before .before .before .before .before .before .before .before .before .formed .ensures) ∙ not-false _ (c .before .before .before .before .before .before .before .before .before .before .before .before .if1 .left) in
     let count =
-    ap (λ (l : Octets). length l / 2) (c .before .before .before .before .before .before .before .before .before .before .digits .ensures)
+    ap (λ (l : Octets). length l / 2) (c .before .before .before .before .before .before .before .before .before .before .before .digits .ensures)
     ∙ sym (length-octets (digitsIn line))
     ∙ ap length (sym (formed-args line good)) in
-    let octets = c .before .before .before .before .before .before .before .decode .ensures ∙ ap (splice (a .args .now) 0) (ap octetsIn (c .before .before .before .before .before .before .before .before .before .digits2 .ensures) ∙ sym (formed-args line good)) in
-    let named = c .before .before .before .before .before .name-in .ensures ∙ ap nameIn (c .before .before .before .before .before .before .word .ensures) in
+    let octets = c .before .before .before .before .before .before .before .before .decode .ensures ∙ ap (splice (a .args .now) 0) (ap octetsIn (c .before .before .before .before .before .before .before .before .before .before .digits2 .ensures) ∙ sym (formed-args line good)) in
+    let named = c .before .before .before .before .before .name-in .ensures ∙ ap nameIn (c .before .before .before .before .before .before .value .ensures) in
     record {
       name = asked-name line (a .args .now) _ _ _ _ good (omega arith) count octets (c .before .before .window .ensures) named (sym (c .before .fits2 .ensures) ∙ c .if2 .taken);
       count = count;
@@ -76,15 +79,15 @@ returns-2 c =
 
 returns-3 : tie.Need-returns-3
 returns-3 c =
-    let a = c .before .before .before .before .before .before .before .before .before .before .before .before .before .before .args in
+    let a = c .before .before .before .before .before .before .before .before .before .before .before .before .before .before .before .args in
     let line = a .line .now in
-    let good = sym (c .before .before .before .before .before .before .before .before .before .before .before .before .formed .ensures) ∙ not-false _ (c .before .before .before .before .before .before .before .before .before .before .before .if1 .left) in
+    let good = sym (c .before .before .before .before .before .before .before .before .before .before .before .before .before .formed .ensures) ∙ not-false _ (c .before .before .before .before .before .before .before .before .before .before .before .before .if1 .left) in
     let count =
-    ap (λ (l : Octets). length l / 2) (c .before .before .before .before .before .before .before .before .before .before .digits .ensures)
+    ap (λ (l : Octets). length l / 2) (c .before .before .before .before .before .before .before .before .before .before .before .digits .ensures)
     ∙ sym (length-octets (digitsIn line))
     ∙ ap length (sym (formed-args line good)) in
-    let octets = c .before .before .before .before .before .before .before .decode .ensures ∙ ap (splice (a .args .now) 0) (ap octetsIn (c .before .before .before .before .before .before .before .before .before .digits2 .ensures) ∙ sym (formed-args line good)) in
-    let named = c .before .before .before .before .before .name-in .ensures ∙ ap nameIn (c .before .before .before .before .before .before .word .ensures) in
+    let octets = c .before .before .before .before .before .before .before .before .decode .ensures ∙ ap (splice (a .args .now) 0) (ap octetsIn (c .before .before .before .before .before .before .before .before .before .before .digits2 .ensures) ∙ sym (formed-args line good)) in
+    let named = c .before .before .before .before .before .name-in .ensures ∙ ap nameIn (c .before .before .before .before .before .before .value .ensures) in
     record {
       name = asked-bad line (a .args .now) _ _ _ _ good (omega arith) count octets (c .before .before .window .ensures) named (sym (c .before .fits2 .ensures) ∙ c .if2 .left);
       count = count;
@@ -100,7 +103,8 @@ read-line-spec =
     digits-requires
     digits-requires-2
     decode-requires
-    word-requires
+    slice-aggregate-value
+    value-requires
     name-in-requires
     window-requires
     fits-requires

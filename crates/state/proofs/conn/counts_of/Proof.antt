@@ -18,11 +18,8 @@ mul-c c = search needs
 array-copy-out-c : tie.Need-array-copy-out-c
 array-copy-out-c c = search needs
 
-closed-host-requires : tie.Need-closed-host-requires
-closed-host-requires c κs = search needs
-
-closed-controller-requires : tie.Need-closed-controller-requires
-closed-controller-requires c κs = search needs
+closed-counts-requires : tie.Need-closed-counts-requires
+closed-counts-requires c κs = search needs
 
 returns : tie.Need-returns
 returns c =
@@ -31,9 +28,9 @@ returns c =
 
 returns-2 : tie.Need-returns-2
 returns-2 c =
-    let a = c .before .before .before .before .args in
-    let past : length (a .t1) ≤ placeOf (a .conn) = omega (arith, c .before .before .before .place-of .ensures, c .before .before .before .before .fits) in
-    (λ i. record { host = c .before .closed-host .ensures i; controller = c .closed-controller .ensures i })
+    let a = c .before .before .before .args in
+    let past : length (a .t1) ≤ placeOf (a .conn) = omega (arith, c .before .before .place-of .ensures, c .before .before .before .fits) in
+    c .closed-counts .ensures
     ∙ sym (List·getD-eq-default (a .t1) closedCounts past)
 
 pub counts-of-spec : {M : Type 1} → statement M
@@ -43,7 +40,6 @@ counts-of-spec =
     place-of-requires
     mul-c
     array-copy-out-c
-    closed-host-requires
-    closed-controller-requires
+    closed-counts-requires
     returns
     returns-2)

@@ -1,0 +1,109 @@
+//! A group of cases: benches made by hand, and a call on each, made on both. What they came to
+//! is counted, and the counts are known beforehand.
+
+use std::collections::BTreeMap;
+
+use exam_bench::call::{Call, Outcome};
+
+use crate::both::Both;
+use crate::made::{self, Made, ASKED, ENDPOINT, PAIRS, RF};
+
+pub struct Group {
+    name: &'static str,
+    both: Both,
+    cases: u64,
+    /// How many calls came to what.
+    met: BTreeMap<String, u64>,
+}
+
+impl Group {
+    pub fn new(name: &'static str) -> Group {
+        Group { name, both: Both::default(), cases: 0, met: BTreeMap::new() }
+    }
+
+    /// One case: the call on this bench, on both. None is a damaged record.
+    pub fn case(&mut self, bench: &Made, call: &Call) -> Option<Outcome> {
+        self.both.put(bench.octets());
+        if let Err(fault) = self.both.step(call) {
+            panic!("{}, case {}: {fault}\n{call:02X?} on {:02X?}", self.name, self.cases, bench.record());
+        }
+        let outcome = self.both.outcome.clone();
+        let writes = !matches!(call, Call::Report(_) | Call::Read(_));
+        if writes && outcome.as_ref().is_some_and(Outcome::taken) {
+            check_unused(bench.record(), made::record(self.both.lent.octets()));
+        }
+        self.cases += 1;
+        *self.met.entry(came_to(call, outcome.as_ref())).or_default() += 1;
+        outcome
+    }
+
+    /// A command that is first on the down wire, taken off it.
+    pub fn command(&mut self, bench: &Made) -> Outcome {
+        self.case(bench, &Call::Down).expect("a sound record")
+    }
+
+    pub fn air(&mut self, bench: &Made, event: &[u8]) -> Outcome {
+        self.case(bench, &Call::Air(event.to_vec())).expect("a sound record")
+    }
+
+    /// A packet that is first on the up wire, taken off it.
+    pub fn hear(&mut self, bench: &Made) -> Option<Outcome> {
+        self.case(bench, &Call::Up)
+    }
+
+    pub fn name(&self) -> &str {
+        self.name
+    }
+
+    pub fn cases(&self) -> u64 {
+        self.cases
+    }
+
+    /// Prints what was met, and compares it with what there is.
+    pub fn end(self, cases: u64, due: &[(&str, u64)]) {
+        let met: Vec<(&str, u64)> = self.met.iter().map(|(what, count)| (what.as_str(), *count)).collect();
+        println!("cases={} group={:?} met={met:?}", self.cases, self.name);
+        assert_eq!(self.cases, cases, "{}", self.name);
+        assert_eq!(met, due, "{}", self.name);
+    }
+}
+
+/// The status of a response, the drop flag of a packet that was taken or read, or the answer.
+fn came_to(call: &Call, outcome: Option<&Outcome>) -> String {
+    match (call, outcome) {
+        (_, None) => "answer 1".to_string(),
+        (Call::Down, Some(outcome)) if !outcome.up.is_empty() => format!("status {:02X}", outcome.up[0][3]),
+        (Call::Up | Call::Read(_), Some(outcome)) if outcome.taken() => {
+            if outcome.drop { "dropped" } else { "taken" }.to_string()
+        }
+        (_, Some(outcome)) => format!("answer {}", outcome.answer),
+    }
+}
+
+/// Octets of the record that its state does not use: those of an unanswered command and of an RF
+/// state are written 0; those of what is closed, not in hand or not listed are 0 or stay.
+fn check_unused(before: &[u8], after: &[u8]) {
+    let mut zero = Vec::new();
+    if after[ASKED] == 0 {
+        zero.extend(ASKED + 1..ASKED + 4);
+    }
+    match after[RF] {
+        made::POLL_ACTIVE | made::LISTEN_ACTIVE => {}
+        made::W4_HOST_SELECT if after[RF + 1] == 1 => {}
+        _ => zero.extend(RF + 1..RF + 4),
+    }
+    let mut spare: Vec<usize> = (PAIRS + 2 * usize::from(after[made::FOUND])..made::FOUND).collect();
+    if after[ENDPOINT] == 0 {
+        spare.extend(ENDPOINT + 1..ENDPOINT + 5);
+    }
+    for place in 0..5 {
+        for (side, octets) in [(made::host_side(place), 12), (made::controller_side(place), 8)] {
+            if after[side] == 0 {
+                spare.extend(side + 1..side + octets);
+            }
+        }
+    }
+    assert!(zero.iter().all(|place| after[*place] == 0), "octets that are not used: {after:02X?}");
+    let kept = |place: &usize| after[*place] == 0 || after[*place] == before[*place];
+    assert!(spare.iter().all(kept), "octets that are not used: {before:02X?}, then {after:02X?}");
+}
