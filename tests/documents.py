@@ -175,7 +175,7 @@ def names_in(cell, named):
 def unknown(document, texts, words):
     """Names in backticks that stand nowhere. Of a name with arguments or a type, the first word counts; of a path through
     modules or fields, the last. `name-..` stands for all that begin so, and NAME for any."""
-    text = re.sub(r"^    .*$|```.*?```", "", texts[document], flags=re.M | re.S)
+    text = re.sub(r"^    [^\n]*$|```.*?```", "", texts[document], flags=re.M | re.S)
     for name in sorted(set(quoted(text))):
         parts = [p for p in re.split(r"[\s,()=<>]+", name) if p]
         word = parts[0].rstrip(":") if parts else ""
