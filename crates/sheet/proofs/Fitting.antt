@@ -122,11 +122,8 @@ wire-short a outs wire (suc n) = go (decLt n wireSlots) (wire-short a outs wire 
 abbrev Modest : Outcome → Type 0
 Modest o = lengthIn (o .word) ≤ messageSize
 
-worded : (d h : Bool) (len down up : ℕ) → len ≤ messageSize → lengthIn (wordOf d h len down up) ≤ messageSize
-worded d h len down up s = omega (arith, word-length d h len down up (omega arith))
-
-quietly : (d : Bool) (down up : ℕ) → lengthIn (wordOf d false 0 down up) ≤ messageSize
-quietly d down up = worded d false 0 down up (omega arith)
+quietly : (d : Bool) (m n : ℕ) → lengthIn (wordOf d false 0 m n) ≤ messageSize
+quietly d m n = omega (arith, word-length d false 0 m n (omega arith))
 
 -- reserved bits say nothing of a message
 telling-modest : (n w : ℕ) → lengthIn w ≤ messageSize → lengthIn (wordTelling n w) ≤ messageSize

@@ -150,7 +150,7 @@ first-ok : profileOctetsOk firstProfile ≡ true
 first-ok = refl
 
 first-kept : bench.Kept (cold (profileIn firstProfile)) opening
-first-kept = kept (fine.cold-fine (profileIn firstProfile) (profile-limits firstProfile first-ok))
+first-kept = fine.kept (fine.cold-fine (profileIn firstProfile) (profile-limits firstProfile first-ok))
 
 fresh-lines : (ls : List Octets) (a out : Octets) → Octal a → areaSize ≤ length a → messageSize ≤ length out
     → printed ls (freshCall a out firstProfile .area) out ≡ modelled ls (cold (profileIn firstProfile))
