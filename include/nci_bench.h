@@ -1,15 +1,15 @@
 /* The NCI exam bench: a host and an NFC controller (NCI 2.0), joined by two wires
- * of sixteen packets, inside an area of octets that the caller lends.
+ * of sixteen packets, inside an area of octets that the caller provides.
  *
  * The area. A bench is 36,864 octets that the caller owns: a static array, a part
  * of a file in memory, anything. The last 512 of them hold the bench's record.
  * nci_fresh makes a bench of any octets. A copy of the octets is a second bench.
  *
  * The buffer. Every call on a bench takes a message buffer of at least 1,024 octets,
- * also a call that hands out nothing. One buffer serves all calls. nci_read alone is
- * lent neither area nor buffer: it needs no bench.
+ * also a call that hands out nothing. One buffer serves all calls. nci_read alone takes
+ * neither area nor buffer: it needs no bench.
  *
- * Slices. Octets are lent as a pointer and a length.
+ * Slices. Octets are passed as a pointer and a length.
  *   The length is true: so many octets can be read there, and written where the
  *   parameter is not const. Nothing else is asked of a slice, and every length is
  *   taken: a slice that is too short or too long is refused, not read past.
@@ -34,7 +34,7 @@
  * Reserved bits. A sender is to leave these bits of a packet's octet 1, the second one,
  * at 0, and no end goes by them: bits 7 and 6 of a control packet, bits 7 to 2 of data
  * going up, and all bits of data going down, where bits 1 and 0 have no credits.
- * nci_down, nci_up and nci_read tell those that a sender left at 1. Calls on a bench that
+ * nci_down, nci_up and nci_read show those that a sender left at 1. Calls on a bench that
  * nci_fresh made put no such packet on a wire; in other octets one may be there.
  *
  * Refusals. At each call stand the refusals that it can give, in the order in which
@@ -224,7 +224,7 @@ uint64_t nci_send(uint8_t *area, size_t area_len, uint8_t *out, size_t out_len, 
 uint64_t nci_push(uint8_t *area, size_t area_len, uint8_t *out, size_t out_len, uint8_t conn);
 
 /* The host takes the first packet of the up wire, and the credits that a notice or a data
- * packet returns. Hands out a data message that it finishes. The drop flag is up if the
+ * packet returns. Hands out a data message that it finishes. The drop flag is set if the
  * packet, or an entry of a credit notice, is dropped; if it is not, the word has the
  * packet's reserved bits that are at 1.
  * Refusals in order: 8, if the up wire is empty. */
@@ -233,7 +233,7 @@ uint64_t nci_up(uint8_t *area, size_t area_len, uint8_t *out, size_t out_len);
 /* ---- the controller's keys */
 
 /* The controller takes the first packet of the down wire. The last packet of a command is
- * answered: one or two packets go on the up wire. The drop flag is up if the packet is
+ * answered: one or two packets go on the up wire. The drop flag is set if the packet is
  * dropped; if it is not, the word has the packet's reserved bits that are at 1.
  * Refusals in order: 4, if it is the last packet of a command and the up wire has fewer
  * than two free slots; 8, if the down wire is empty; 12, if it is data and the store of
@@ -298,7 +298,7 @@ uint64_t nci_packet(const uint8_t *area, size_t area_len, uint8_t *out, size_t o
 /* ---- what needs no bench */
 
 /* Any octets are read as a packet going up, and no end takes it: a command is read as the
- * rest. The drop flag is up if they are no packet: fewer than 3 octets, an RFU message type,
+ * rest. The drop flag is set if they are no packet: fewer than 3 octets, an RFU message type,
  * 4 to 7, or a payload shorter than octet 2 states; octets past the payload are ignored. If
  * it is not, the word has the packet's reserved bits that are at 1. Puts no packet, hands
  * out nothing.

@@ -1,7 +1,7 @@
 //! Benches that no list of calls makes, by hand.
 
 use compare::both::Both;
-use compare::record::{RECORD_AT, SLOT, STORES_AT, STORE_SLOTS, UP_AT};
+use compare::record::{self, RECORD_AT, SLOT, STORES_AT, STORE_SLOTS, UP_AT};
 use exam_bench::call::Call;
 use exam_bench::connection::CONN_IDS;
 
@@ -84,6 +84,15 @@ fn with_loopback() -> Both {
     both
 }
 
+/// Whether a connection is open at the host, in both benches alike.
+fn open_at_host(both: &Both, conn: u8) -> bool {
+    let loaded = record::load(both.lent.octets());
+    let [proved, second] = [&loaded, &both.second]
+        .map(|bench| bench.as_ref().expect("the record is not damaged").host.connection(conn).is_some());
+    assert_eq!(proved, second);
+    second
+}
+
 /// Only on a damaged bench: a sound controller answers a CONN_CLOSE without octets by 05.
 #[test]
 fn a_close_that_names_no_connection_closes_none() {
@@ -91,6 +100,7 @@ fn a_close_that_names_no_connection_closes_none() {
     forge_up(&mut both, &[0x40, 0x05, 0x01, 0x00]);
     step(&mut both, Call::Command { gid: 0, oid: 5, payload: vec![] });
     step(&mut both, Call::Up);
+    assert!(open_at_host(&both, 0), "connection 0 stays open");
 }
 
 #[test]
@@ -98,8 +108,9 @@ fn a_close_that_names_0_closes_it() {
     let mut both = active();
     forge_up(&mut both, &[0x40, 0x05, 0x01, 0x00]);
     step(&mut both, Call::Command { gid: 0, oid: 5, payload: vec![0x30] });
+    assert!(open_at_host(&both, 0), "until the response is read");
     step(&mut both, Call::Up);
-    assert!(both.second.is_some_and(|bench| bench.host.connection(0).is_none()));
+    assert!(!open_at_host(&both, 0));
 }
 
 /// What a call that brought credits past a grant left: the sum modulo 256 after the grant in

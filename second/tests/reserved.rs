@@ -30,6 +30,20 @@ fn read(octets: &[u8]) -> Outcome {
     taken(Bench::read(octets))
 }
 
+/// What read answers to any octets, said without the reader: over 258 are refused with 3;
+/// short of what octet 2 states, or with an RFU MT (from 80 on), they are a drop; else the
+/// bits of octet 1 are shown that data going up, or control, leaves at 0.
+fn reading_of(octets: &[u8]) -> Outcome {
+    let (answer, drop, rfu) = match octets {
+        _ if octets.len() > 258 => (3, false, 0),
+        [first, second, length, payload @ ..] if *first < 0x80 && payload.len() >= usize::from(*length) => {
+            (0, false, reserved_of(*second, if *first < 0x20 { 4 } else { 64 }))
+        }
+        _ => (0, true, 0),
+    };
+    Outcome { answer, drop, rfu, ..Outcome::default() }
+}
+
 /// A taken call that dropped something and shows no bits.
 fn dropped(outcome: Outcome) {
     assert!(taken(outcome.clone()).drop);
@@ -262,6 +276,7 @@ fn other_calls_show_nothing() {
 #[test]
 fn read_leaves_any_bench_as_it_was() {
     let mut random = Random::new(51);
+    let mut met = [0u32; 4];
     let mut player = Player::new(52, Lengths::Any).without_reads();
     for _ in 0..100 {
         let mut bench = fresh(&player.begin());
@@ -269,12 +284,14 @@ fn read_leaves_any_bench_as_it_was() {
             bench.play(&player.next_call(&bench));
             let before = bench.clone();
             let octets = octets_to_read(&mut random);
-            let outcome = bench.play(&Call::Read(octets.clone()));
+            let (outcome, expected) = (bench.play(&Call::Read(octets.clone())), reading_of(&octets));
             assert_eq!(bench, before);
-            assert_eq!(outcome, Bench::read(&octets));
-            assert!(outcome.up.is_empty() && outcome.down.is_empty() && outcome.message.is_none());
+            assert_eq!(outcome, expected, "{octets:02X?}");
+            let kinds = [!expected.taken(), expected.drop, expected.rfu != 0, expected == Outcome::default()];
+            met.iter_mut().zip(kinds).for_each(|(met, is)| *met += u32::from(is));
         }
     }
+    assert!(met.iter().all(|times| *times > 100), "refused, dropped, with bits, without: {met:?}");
 }
 
 /// A list with reads between its calls is the list without them.

@@ -1,4 +1,4 @@
 // The air: what an event of the RF field is, whether the controller takes it, and what it then sends. No wire and no area is
-// in sight here.
+// used here.
 pub mod effects;
 pub mod events;

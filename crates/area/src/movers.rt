@@ -30,7 +30,7 @@ pub fn read_slot(area: &[u8], slot: usize) -> Reading
     packets::read(octets::window(area, slot, SLOT))
 }
 
-// Writes a packet into a slot, which is lent to the packet layer.
+// Writes a packet into a slot: the packet layer takes that part of the area.
 pub fn put_packet(area: &mut [u8], slot: usize, h: Header, payload: &[u8])
     requires { ⌜ (length (now payload) ≤ payloadSize) × (slot + slotSize ≤ length (now area)) ⌝ }
     ensures { λ _. ⌜ now (area .exit) ≡ splice (now (area .entry)) slot (packetOf h (now (payload .entry))) ⌝ }
@@ -47,7 +47,7 @@ pub fn put_piece(area: &mut [u8], slot: usize, h: Header, size: usize, msg: &[u8
 }
 
 // Writes a segment of a message that lies in the area into a slot. The message goes through a local array, since two parts
-// of one slice cannot be lent at once.
+// of one slice cannot be borrowed at once.
 pub fn put_segment(
     area: &mut [u8],
     slot: usize,
@@ -85,7 +85,7 @@ pub fn return_slot(area: &mut [u8], from: usize, to: usize, n: u8)
 }
 
 // Copies the payload of the packet in a slot to its place in a run. It is that part of the packet itself, and goes through a
-// local array, since two parts of one slice cannot be lent at once.
+// local array, since two parts of one slice cannot be borrowed at once.
 pub fn join_payload(area: &mut [u8], slot: usize, n: usize, to: usize)
     requires { ⌜ (n ≤ payloadSize) × (slot + slotSize ≤ length (now area)) × (to + n ≤ length (now area)) ⌝ }
     ensures { λ _. ⌜ now (area .exit) ≡ splice (now (area .entry)) to (payloadOf (cut slot slotSize (now (area .entry))) n) ⌝ }

@@ -1,4 +1,4 @@
--- Text written into a lent buffer.
+-- Text written into the caller's buffer.
 -- Assumes nothing.
 use Prim.Native.Nat.{ℕ, _+_, _≤_, min}
 use mathlib.Core.Path.{_≡_}

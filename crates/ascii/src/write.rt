@@ -1,4 +1,4 @@
-// Text written into a lent buffer. Each function writes from an index on and answers the index after it; what would stand
+// Text written into the caller's buffer. Each function writes from an index on and answers the index after it; what would stand
 // past the buffer's end is left out.
 use crate::hex::digit;
 ghost use Prim.Native.Nat.{_≤_};

@@ -1,5 +1,5 @@
 // The calls of the whole bench on octets, fresh, power and report, the reader of a wire's packets, and reading alone: for each
-// what refuses it, and what it does where nothing does. What they come to is defined in calls/specs.
+// what refuses it, and what it does where nothing does. Their outcomes are defined in calls/specs.
 pub mod fresh;
 pub mod packet;
 pub mod power;

@@ -1,2 +1,2 @@
-// consume on octets: what refuses it, and what it does where nothing does. What it comes to is defined in calls/specs.
+// consume on octets: what refuses it, and what it does where nothing does. Its outcome is defined in calls/specs.
 pub mod consume;

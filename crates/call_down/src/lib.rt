@@ -1,2 +1,2 @@
-// down on octets: what refuses it, and what it does where nothing does. What it comes to is defined in calls/specs.
+// down on octets: what refuses it, and what it does where nothing does. Its outcome is defined in calls/specs.
 pub mod down;

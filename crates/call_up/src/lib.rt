@@ -1,2 +1,2 @@
-// up on octets: what refuses it, and what it does where nothing does. What it comes to is defined in calls/specs.
+// up on octets: what refuses it, and what it does where nothing does. Its outcome is defined in calls/specs.
 pub mod up;

@@ -31,7 +31,7 @@ use Rattle.calls.specs.calls.Report.{reportCall}
 
 -- ---- a call
 
--- a call with its arguments, and the message buffer lent to it, of any octets and any length
+-- a call with its arguments, and the message buffer that it takes, of any octets and any length
 pub record Key : Type 0 where
   pub call : Call
   pub out : Octets
@@ -101,17 +101,17 @@ EveryRun P =
 
 -- ---- the claim
 
--- of the number c, with a the area after the calls and o the account of them; the buffer lent to report has room for a message
+-- of the number c, with a the area after the calls and o the account of them; the buffer that report takes has room for a message
 pub record OctetClaim (c : ℕ) (a : Octets) (o : Account) : Type 0 where
-  -- "report is taken exactly for the connections open at the controller"
+  -- report is taken exactly for the connections open at the controller
   pub taken-if-open : (out : Octets) → messageSize ≤ length out → (answerIn (reportCall a out c .word) ≡ taken) ↔ (o .ledger c .controller .opened ≡ true)
   -- its word says: taken, no drop, a message of five octets, no packet put, no reserved bit; and the area is as it was
   pub word : (out : Octets) → messageSize ≤ length out → o .ledger c .controller .opened ≡ true → reportCall a out c .word ≡ wordOf false true 5 0 0
   pub still : (out : Octets) → messageSize ≤ length out → o .ledger c .controller .opened ≡ true → reportCall a out c .area ≡ a
-  -- "its five numbers are those counted from the calls": they are the first octets of the buffer, and the rest of it is as it was
+  -- its five numbers are those counted from the calls: they are the first octets of the buffer, and the rest of it is as it was
   pub numbers : (out : Octets) → messageSize ≤ length out → o .ledger c .controller .opened ≡ true → take 5 (reportCall a out c .out) ≡ numbersOf c o
   pub rest : (out : Octets) → messageSize ≤ length out → o .ledger c .controller .opened ≡ true → drop 5 (reportCall a out c .out) ≡ drop 5 out
-  -- "under flow control they sum to the grant, and the messages handed out are the first of those taken, octet for octet"
+  -- under flow control they sum to the grant, and the messages handed out are the first of those taken, octet for octet
   pub account : Conserved c o
 
 -- for every run and every number

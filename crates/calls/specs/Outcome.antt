@@ -1,4 +1,4 @@
--- What a call on octets comes to, and what all calls share: refusals 1 and 2, and that a refusal changes nothing.
+-- The outcome of a call on octets, and what all calls share: refusals 1 and 2, and that a refusal changes nothing.
 -- Assumes nothing.
 use Prim.Native.Nat.{ℕ}
 use mathlib.Core.Path.{_≡_}
@@ -24,7 +24,7 @@ pub record Outcome : Type 0 where
 abbrev pub outcome : ℕ → Octets → Octets → Outcome
 outcome w a out = record { word = w; area = a; out = out }
 
--- the same with a word that tells reserved bits
+-- the same with a word that shows reserved bits
 abbrev pub tells : ℕ → Outcome → Outcome
 tells n o = outcome (wordTelling n (o .word)) (o .area) (o .out)
 
@@ -37,7 +37,7 @@ decided (refused n) o a out = outcome n a out
 abbrev pub entryRules : Octets → ℕ → List Rule
 entryRules a room = rule 2 (ltb (length a) areaSize) ∷ rule 1 (not (judgeOf a)) ∷ rule 2 (ltb room messageSize) ∷ []
 
--- a call with rules of its own that comes to o where it is taken; they are those of the model on the state that the area stands for
+-- a call with rules of its own and the outcome o where it is taken; they are those of the model on the state that the area stands for
 unfoldable pub called : List Rule → Outcome → Octets → Octets → Outcome
 called rs o a out = decided (first (entryRules a (length out) ++ rs)) o a out
 
@@ -55,6 +55,6 @@ pub record Enters (a : Octets) (room : ℕ) (l : Loaded) : Type 0 where
   pub answer : l .answer ≡ lowest (entryRules a room)
   pub loads : l .answer ≡ 0 → l .«record» ≡ decodeOf a
 
--- a call that hands out no message answers w and leaves the area a, and that is o, whatever buffer is lent: it keeps its own
+-- a call that hands out no message answers w and leaves the area a, and that is o, whatever the buffer: it keeps its own octets
 abbrev pub ComesTo : ℕ → Octets → (Octets → Outcome) → Type 0
 ComesTo w a o = (out : Octets) → outcome w a out ≡ o out

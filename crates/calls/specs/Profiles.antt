@@ -32,7 +32,7 @@ pub record OneForm : Type 0 where
 
 -- of the area that a run has left, and the account of it
 pub record Own (a : Octets) (o : Account) : Type 0 where
-  -- each connection has its own payload and grant, at both ends
+  -- each open connection has its own grant, at either end, and at the host its own payload
   pub terms : OwnTerms (viewOf a)
   -- so the grant that the five numbers sum to, as it was counted from the create response or the activation, is its own
   pub counted : (c : ℕ) → o .ledger c .controller .opened ≡ true → o .ledger c .controller .grant ≡ termsOf (viewOf a .profile) c .credits

@@ -1,4 +1,4 @@
--- Which reserved bits the calls tell. Down and up tell those of the packet that they take; no other call tells any.
+-- Which reserved bits the calls show. Down and up show those of the packet that they take; no other call shows any.
 -- Assumes nothing.
 use Prim.Native.Nat.{ℕ}
 use mathlib.Core.Path.{_≡_}
@@ -30,7 +30,7 @@ tellable reply a = 0
 tellable up a = rfuBy way.Up (upRead (decodeOf a) a)
 tellable (report c) a = 0
 
--- on any area of octets, whatever its length and its record: they are told exactly where the call is taken and the drop flag is not set
+-- on any area of octets, whatever its length and its record: they are shown exactly where the call is taken and the drop flag is clear
 abbrev pub RfuExact : Type 0
 RfuExact =
     (k : Key) (a : Octets) → Octal (slice (k .call)) → Octal a

@@ -62,6 +62,6 @@ rfuIn w = w / rfuUnit % 256
 
 -- ---- the word of a call that takes a packet
 
--- the word w with the packet's reserved bits n; with the drop flag up it tells none
+-- the word w with the packet's reserved bits n; where the drop flag is set it shows none
 unfoldable pub wordTelling : ℕ → ℕ → ℕ
 wordTelling n w = w % rfuUnit + pick (droppedIn w) 0 n * rfuUnit

@@ -279,7 +279,7 @@ pub fn host_after(h: Host, x: Heard) -> Host
     }
 }
 
-// Credits come to a connection: open and flow-controlled, it holds so many more; for any other they do nothing.
+// Credits are added to a connection: open and flow-controlled, it holds so many more; for any other they do nothing.
 pub fn credited(s: HostSide, n: usize) -> HostSide
     ensures { λ r. ⌜ r ≡ credited s n ⌝ }
 {
@@ -290,7 +290,7 @@ pub fn credited(s: HostSide, n: usize) -> HostSide
     next
 }
 
-// The credits of a notice come to one connection.
+// The credits of a notice are added to one connection.
 fn credited_at(conns: [Counts; 5], m: &[u8], conn: u8) -> [Counts; 5]
     ensures { λ r. ⌜ r ≡ creditedAt conns (now (m .entry)) conn ⌝ }
 {
@@ -300,7 +300,7 @@ fn credited_at(conns: [Counts; 5], m: &[u8], conn: u8) -> [Counts; 5]
     conn::with_host(conns, conn, next)
 }
 
-// The credits of a notice come to all connections.
+// The credits of a notice are added to all connections.
 fn all_credited(conns: [Counts; 5], m: &[u8]) -> [Counts; 5]
     ensures { λ r. ⌜ r ≡ allCredited conns (now (m .entry)) ⌝ }
 {

@@ -27,7 +27,7 @@ pub record Message : Type 0 where
 abbrev pub nothing : Message
 nothing = record { gid = 0; oid = 0; payload = [] }
 
--- what a function that writes a message into a lent buffer answers, and the buffer after it
+-- what a function that writes a message into the caller's buffer answers, and the buffer after it
 pub record Put (out : Octets) (m : Message) (note : Note) (after : Octets) : Type 0 where
   pub head : note ≡ record { gid = m .gid; oid = m .oid; len = length (m .payload) }
   pub octets : after ≡ splice out 0 (m .payload)

@@ -1,4 +1,4 @@
-// The octets of every message that the controller sends, written into a buffer that the caller lends. It has room for the
+// The octets of every message that the controller sends, written into the caller's buffer. It has room for the
 // longest payload of a control message.
 use state::conn::conn_of;
 use state::conn::owing;

@@ -42,7 +42,7 @@ abbrev pub total : List ℕ → ℕ
 total [] = 0
 total (n ∷ ns) = n + total ns
 
--- of the number c, what an account of calls comes to where c is open at the controller
+-- of the number c, what holds of an account of calls where c is open at the controller
 pub record Conserved (c : ℕ) (o : Account) : Type 0 where
   -- under flow control the five numbers sum to the grant
   pub sum : o .ledger c .controller .opened ≡ true → flows (o .ledger c .controller .grant) ≡ true → total (numbersOf c o) ≡ o .ledger c .controller .grant

@@ -67,7 +67,7 @@ pub record Discarded (P : List Event → Type 0) : Type 0 where
   -- once it is read, the connection is closed; opened again, it has nothing in hand
   pub close-read : P (closeAnswered ++ quietly up ∷ refusal (push 2) 6 ∷ refusal (send 2 (0xAA ∷ [])) 6 ∷ [])
   pub reset-read : P (resetAnswered ++ quietly up ∷ quietly up ∷ initialised ++ created ++ refusal (push 2) 8 ∷ quietly (send 2 (0xAA ∷ [])) ∷ [])
-  -- a send is turned away with nothing in hand too, whatever connection it names; a Conn ID that is not there is told before
+  -- a send is turned away with nothing in hand too, whatever connection it names; a Conn ID that is not there is refused before
   pub late : P
       (onTwo
       ++ goesDown (command 0x0 0x05 (0x02 ∷ [])) (0x20 ∷ 0x05 ∷ 0x01 ∷ 0x02 ∷ [])

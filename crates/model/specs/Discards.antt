@@ -1,5 +1,5 @@
 -- What a response discards from hand at the host (change 8): a message that the answer to a RESET or a CONN_CLOSE discards was taken
--- before that command. What is in hand is told by a diary of the calls, kept beside demand 3's account and like it: from sends, pushes
+-- before that command. What is in hand is known from a diary of the calls, kept beside demand 3's account and like it: from sends, pushes
 -- and what the host read, never from the bench's own numbers.
 -- Assumes nothing.
 use Prim.Native.Nat.{ℕ, _+_, _-_, _<_}
@@ -56,7 +56,7 @@ handSent place m h = record { payload = h .payload; left = length (segments (h .
 abbrev pub handPushed : Hand → Hand
 handPushed h = record { payload = h .payload; left = h .left - 1; sentAt = h .sentAt }
 
--- what the host reads: an opening tells the payload, a closing discards what is in hand
+-- what the host reads: an opening states the payload, a closing discards what is in hand
 abbrev pub handBy : Change → Hand → Hand
 handBy stays h = h
 handBy (opens t) h = record { payload = t .payload; left = 0; sentAt = 0 }

@@ -27,7 +27,7 @@ pub data Result : Type 0 where
   taken : Result
   refused : ℕ → Result
 
--- what a call does: the drop flag, the reserved bits that it tells, the packets put on each wire, the message handed out, the state after it
+-- what a call does: the drop flag, the reserved bits that it shows, the packets put on each wire, the message handed out, the state after it
 pub record Effect : Type 0 where
   pub drop : Bool
   pub rfu : ℕ
@@ -56,12 +56,12 @@ puttingUp b ps ms s = record { drop = b; rfu = 0; toDown = []; toUp = ps; messag
 
 -- ---- the reserved bits of the packet that a call takes
 
--- those of the first packet of a wire, as reading tells them
+-- those of the first packet of a wire, as reading shows them
 abbrev pub firstRfu : Way → List Octets → ℕ
 firstRfu way [] = 0
 firstRfu way (p ∷ w) = rfuBy way (readOf p)
 
--- the same effect, which tells them; with the drop flag up it tells none
+-- the same effect, which shows them; where the drop flag is set it shows none
 abbrev pub telling : ℕ → Effect → Effect
 telling n e =
     record { drop = e .drop; rfu = pick (e .drop) 0 n; toDown = e .toDown; toUp = e .toUp; message = e .message; next = e .next }

@@ -34,7 +34,7 @@ Always P = (profile : Octets) → profileOctetsOk profile ≡ true → (calls : 
 
 -- ---- terms
 
--- where a connection is open it has the payload and the grant that the profile has for its Conn ID, at both ends
+-- where a connection is open it has the grant that the profile has for its Conn ID, at either end, and at the host the payload
 pub record OwnTerms (s : State) : Type 0 where
   pub payload : (d : ℕ) → s .conns d .host .opened ≡ true → s .conns d .host .payload ≡ termsOf (s .profile) d .payload
   pub host-grant : (d : ℕ) → s .conns d .host .opened ≡ true → s .conns d .host .grant ≡ termsOf (s .profile) d .credits

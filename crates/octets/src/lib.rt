@@ -46,7 +46,7 @@ pub fn put(dst: &mut [u8], at: usize, src: &[u8])
 }
 
 // Writes the n octets of the area from index from on over those from index to on. The two parts may share octets: they go
-// through a local array, since two parts of one slice cannot be lent at once.
+// through a local array, since two parts of one slice cannot be borrowed at once.
 pub fn copy_part(area: &mut [u8], from: usize, to: usize, n: usize)
     requires { ⌜ (n ≤ 1024) × (from + n ≤ length (now area)) × (to + n ≤ length (now area)) ⌝ }
     ensures { λ _. ⌜ now (area .exit) ≡ splice (now (area .entry)) to (cut from n (now (area .entry))) ⌝ }

@@ -37,7 +37,7 @@ oidOf mt second = pick (eqb mt mtData) 0 (second % 64)
 unfoldable pub carriedOf : ℕ → ℕ → ℕ
 carriedOf mt second = pick (eqb mt mtData) (second % 4) 0
 
--- its other bits, in their places: no end goes by them, and what is told of them stands in `Reserved`
+-- its other bits, in their places: no end goes by them, and what is shown of them stands in `Reserved`
 unfoldable pub spareOf : ℕ → ℕ → ℕ
 spareOf mt second = pick (eqb mt mtData) (second / 4 * 4) (second / 64 * 64)
 

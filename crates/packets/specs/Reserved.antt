@@ -1,5 +1,5 @@
 -- The reserved bits (RFU) of octet 1 that a sender left at 1 (003, 3.4.2 and 3.4.3): senders write 0 there (L828), receivers ignore them (L829),
--- and reading tells them.
+-- and reading shows them.
 -- Assumes nothing.
 use Prim.Native.Nat.{ℕ, zero, suc, _+_, _*_, _-_, _/_, _%_, _<_}
 use mathlib.Core.Path.{_≡_}
@@ -27,14 +27,14 @@ dataMask Up = 0xFC
 abbrev pub rfuMask : Way → ℕ → ℕ
 rfuMask way mt = pick (eqb mt mtData) (dataMask way) 0xC0
 
--- ---- what reading tells
+-- ---- what reading shows
 
 -- the reserved bits at 1, in their places, of a header that was read: going down those in the place of the credits with the others
 abbrev pub rfuOf : Way → Header → ℕ
 rfuOf Down h = h .spare / 4 * 4 + h .credits % 4
 rfuOf Up h = h .spare
 
--- a packet that is dropped tells none
+-- a packet that is dropped shows none
 abbrev pub rfuBy : Way → Reading → ℕ
 rfuBy way (Packet h n) = rfuOf way h
 rfuBy way Drop = 0
@@ -68,7 +68,7 @@ pub record RfuRead (way : Way) (p : Octets) (h : Header) (n : ℕ) : Type 0 wher
   pub masked : (k : ℕ) → k < 8 → bitAt k (rfuOf way h) ≡ bitAt k (rfuMask way (h .mt)) * bitAt k (getD p 1 0)
   pub again : packetWith way (rfuOf way h) h (payloadOf p n) ≡ take (3 + n) p
 
--- fields to octets: whatever bits of the mask a sender leaves at 1, the packet is read as without them, and they are told; data going down
+-- fields to octets: whatever bits of the mask a sender leaves at 1, the packet is read as without them, and they are shown; data going down
 -- shows two of them in the place of the credits
 pub record RfuWritten (way : Way) (rfu : ℕ) (h : Header) (payload rest : Octets) : Type 0 where
   pub header : Header

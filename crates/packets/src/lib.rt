@@ -1,5 +1,5 @@
 // The packet layer of NCI 2.0 (003, 3.4): a packet's header is read, its payload is handed out as a part of the packet
-// itself, and a packet is written straight into the slot that the caller lends.
+// itself, and a packet is written straight into the slot that the caller passes.
 ghost use mathlib.Core.Path.{_≡_};
 ghost use Prim.Native.Nat.{_+_, _*_, _/_, _%_, _≤_};
 ghost use lib.ListN.{length};

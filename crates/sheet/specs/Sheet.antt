@@ -1,4 +1,4 @@
--- What a line of the sheet comes to.
+-- The outcome of a line of the sheet.
 -- Assumes nothing.
 use Prim.Native.Nat.{ℕ, _<_}
 use mathlib.Core.Path.{_≡_}

@@ -1,4 +1,4 @@
--- A printed line, read again: what the text alone tells.
+-- A printed line, read again: what the text alone says.
 -- Assumes nothing.
 use Prim.Native.Nat.{ℕ}
 use mathlib.Core.Path.{_≡_}
@@ -46,7 +46,7 @@ toldBy l =
       message = messageIn (drop 4 (wordAt 5 l));
     }
 
--- what there is to tell of an outcome
+-- what there is to say of an outcome
 abbrev pub toTell : Name → Outcome → Told
 toTell x o =
     record {
@@ -63,7 +63,7 @@ pub record Real (o : Outcome) : Type 0 where
   pub area : Octal (o .area)
   pub out : Octal (o .out)
 
--- a line tells all, so no two outcomes sound the same
+-- a line says all, so no two outcomes sound the same
 pub record Heard : Type 0 where
   pub again : (x : Name) (o : Outcome) → Real o → toldBy (lineOf x o) ≡ toTell x o
   pub apart : (x y : Name) (o p : Outcome) → Real o → Real p → lineOf x o ≡ lineOf y p → toTell x o ≡ toTell y p

@@ -1,4 +1,4 @@
-// The paper sheet: a line of text in, a line of text out, over an area and a message buffer that the caller lends. The bench
+// The paper sheet: a line of text in, a line of text out, over the caller's area and message buffer. The bench
 // is called through the functions that C calls.
 pub mod play;
 pub mod show;

@@ -50,7 +50,7 @@ pub record ProfileWithin (p : Profile) : Type 0 where
 
 -- ---- octets
 
--- "eleven octets in all, the static pair last. The old five-octet profile stays valid" (document 02, item 4)
+-- "eleven octets in all, the static pair last"; "The old five-octet profile stays valid" (document 02, item 4)
 abbrev pub profileLength : ℕ → Bool
 profileLength n = eqb n 5 || eqb n 11
 

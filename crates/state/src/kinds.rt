@@ -122,7 +122,7 @@ pub struct HostSide {
     pub run: Progress,
 }
 
-// A connection at the controller. owed: credits for packets consumed, not yet put in a notice.
+// A connection at the controller. owed: credits for packets consumed, not yet put in a notice nor inside a data packet.
 pub struct ControllerSide {
     pub opened: bool,
     pub grant: u8,

@@ -1,5 +1,5 @@
 -- The credits on the up wire as report counts them: by the header of every packet, looking into three messages alone. `Tally` says what they
--- are by what every message says; both come to the same of any packets.
+-- are by what every message says; both are the same of any packets.
 -- Assumes nothing.
 use Prim.Native.Nat.{ℕ, _+_}
 use mathlib.Core.Bool.{Bool, _&&_}

@@ -21,7 +21,7 @@ pub fn quiet(dropped: bool, handed: bool, len: usize) -> u64
     answer(dropped, handed, len, 0)
 }
 
-// The word with the reserved bits of the packet that the call took: none with the drop flag up.
+// The word with the reserved bits of the packet that the call took: none where the drop flag is set.
 pub fn telling(rfu: u8, w: u64) -> u64
     ensures { λ x. ⌜ x ≡ wordTelling rfu w ⌝ }
 {

@@ -81,7 +81,7 @@ echoedCredits r c = carriedBy (consumedSide (controllerSide r c .run) (controlle
 abbrev pub echoedSlot : Record → ℕ → Octets → Octets
 echoedSlot r c a = pick (isLoop c) (splice a (freeAt upAt wireSlots (r .up)) (carrying (echoedCredits r c) (oldest r c a))) a
 
--- ---- what it comes to, from the run after it: j, a message of len octets where it is done, and a, the area with it
+-- ---- its outcome, from the run after it: j, a message of len octets where it is done, and a, the area with it
 
 -- past the message the buffer keeps its own
 abbrev pub consumedOut : ℕ → Joined → ℕ → Octets → Octets → Octets
