@@ -37,3 +37,4 @@ pub mod Whole
 pub mod Limits
 pub mod Discarded
 pub mod Profiles
+pub mod Wraps
