@@ -2,7 +2,7 @@
 """The documents name what is there, and name it where it is.
 
     documents.py             runs all checks; the last line is 'documents: N passed, M failed'
-    documents.py --all       tells every failure of a check, not the first few alone
+    documents.py --all       prints every failure of a check, not the first few alone
     documents.py --reading   prints the files that the claim's imports reach, with their lines
     documents.py --write     writes the lines and sums of today into the documents first
 
@@ -31,7 +31,7 @@ DOCUMENTS = {README, "examples/README.md", "second/README.md", "compare/README.m
 CLAIM = "crates/calls/specs/Demand.antt"
 SKIPPED = {".git", "target", "build", "__pycache__"}
 # crates of programs: their functions have no contracts of their own, other scripts compare what they print
-PROGRAMS = {"text", "vectors", "steps", "paper"}
+PROGRAMS = {"vectors", "paper"}
 # columns whose names are definitions, in the files that the section or the cell names
 DEFINED = {"definition", "statement", "law", "rules", "effect", "on octets", "from octets or numbers", "to octets and effects"}
 MOST_NAMES = 3
@@ -243,7 +243,7 @@ def overfull(document, texts):
 
 
 def public_functions(texts):
-    """The names by which a row may call a public function that has a contract: in full, and as short as the module tells."""
+    """The names by which a row may call a public function that has a contract: in full, or by its module alone."""
     for path in sorted(texts):
         parts = path.split("/")
         if parts[0] == "crates" and parts[2] == "src" and path.endswith(".rt") and parts[1] not in PROGRAMS:
@@ -389,7 +389,7 @@ def wrong_lines(texts):
             elif count != lines(path, texts):
                 yield "%s has %d lines, the list says %d" % (path, lines(path, texts), count)
     if "Together %d lines" % whole not in texts[README]:
-        yield "the list comes to %d lines" % whole
+        yield "the groups of the list have %d lines together" % whole
 
 
 def wrong_claim(texts):
