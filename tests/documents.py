@@ -2,9 +2,9 @@
 """The documents name what is there, and name it where it is.
 
     documents.py             runs all checks; the last line is 'documents: N passed, M failed'
-    documents.py --all       tells every failure of a check, not the first few alone
+    documents.py --all       prints every failure of a check, not the first few alone
     documents.py --reading   prints the files that the claim's imports reach, with their lines
-    documents.py --write     writes the lines and sums of today into the documents first
+    documents.py --write     writes the lines, sums and counts of today into the documents first
 
 What is checked:
 - every name in backticks is found in the repository;
@@ -16,7 +16,8 @@ What is checked:
 - no cell of a table holds more than three names;
 - every public function has its wrong programs, and every must-fail edit its one row;
 - the README's list of what is to be read has every file that states what the README or docs/DEMANDS.md cites, with all that
-  these files import, and no other; the lines of each file, the sums, and which groups the claim needs, are right."""
+  these files import, and no other; the lines of each file, the sums, and which groups the claim needs, are right;
+- the functions of each crate, and the must-fail edits, are as many as docs/PROOFS.md says."""
 import os
 import re
 import sys
@@ -27,11 +28,12 @@ from programs import ROOT, Suite
 README = "README.md"
 DEMANDS = "docs/DEMANDS.md"
 WRONG = "docs/WRONG-PROGRAMS.md"
+PROOFS = "docs/PROOFS.md"
 DOCUMENTS = {README, "examples/README.md", "second/README.md", "compare/README.md"}
 CLAIM = "crates/calls/specs/Demand.antt"
 SKIPPED = {".git", "target", "build", "__pycache__"}
 # crates of programs: their functions have no contracts of their own, other scripts compare what they print
-PROGRAMS = {"text", "vectors", "steps", "paper"}
+PROGRAMS = {"vectors", "paper"}
 # columns whose names are definitions, in the files that the section or the cell names
 DEFINED = {"definition", "statement", "law", "rules", "effect", "on octets", "from octets or numbers", "to octets and effects"}
 MOST_NAMES = 3
@@ -243,7 +245,7 @@ def overfull(document, texts):
 
 
 def public_functions(texts):
-    """The names by which a row may call a public function that has a contract: in full, and as short as the module tells."""
+    """The names by which a row may call a public function that has a contract: in full, or by its module alone."""
     for path in sorted(texts):
         parts = path.split("/")
         if parts[0] == "crates" and parts[2] == "src" and path.endswith(".rt") and parts[1] not in PROGRAMS:
@@ -389,7 +391,7 @@ def wrong_lines(texts):
             elif count != lines(path, texts):
                 yield "%s has %d lines, the list says %d" % (path, lines(path, texts), count)
     if "Together %d lines" % whole not in texts[README]:
-        yield "the list comes to %d lines" % whole
+        yield "the groups of the list have %d lines together" % whole
 
 
 def wrong_claim(texts):
@@ -400,6 +402,38 @@ def wrong_claim(texts):
         yield "%s is behind the claim in the list and the claim needs it, or the other way about" % path
     if claim_size(texts) not in texts[DEMANDS]:
         yield "%s is to say: %s" % (DEMANDS, claim_size(texts))
+
+
+# ---- how many
+
+
+COUNTED = r"^\| (\w+) \| (\d+|-) \| (\d+ s) \|$"
+EDITED = r"the (\d+) edits"
+
+
+def function_count(crate, texts):
+    """As the table has it: - for none."""
+    paths = [p for p in texts if p.startswith("crates/%s/src/" % crate)]
+    return str(sum(len(functions(p, texts)) for p in paths) or "-")
+
+
+def wrong_counts(texts):
+    """Crates whose functions, and must-fail edits, are not as many as the page on proofs says."""
+    said = {crate: count for crate, count, _ in re.findall(COUNTED, texts[PROOFS], re.M)}
+    for crate in sorted(crates(texts) | set(said)):
+        if said.get(crate) != function_count(crate, texts):
+            yield "%s has %s functions, %s says %s" % (crate, function_count(crate, texts), PROOFS, said.get(crate))
+    kept = str(len(list(edits(texts))))
+    if set(re.findall(EDITED, texts[PROOFS])) != {kept}:
+        yield "there are %s edits" % kept
+
+
+def counts_written(texts):
+    """The page on proofs with the counts of today."""
+    page = re.sub(
+        COUNTED, lambda row: "| %s | %s | %s |" % (row[1], function_count(row[1], texts), row[3]), texts[PROOFS], flags=re.M
+    )
+    return re.sub(EDITED, "the %d edits" % len(list(edits(texts))), page)
 
 
 # ---- the lines of today, written
@@ -424,12 +458,12 @@ def group_written(match, texts):
 
 
 def write(texts):
-    """The README's list and the size of the claim in docs/DEMANDS.md, with the lines of today."""
+    """The README's list, the size of the claim in docs/DEMANDS.md and the counts of docs/PROOFS.md, as of today."""
     readme = re.sub(LIST_GROUP, lambda match: group_written(match, texts), texts[README], flags=re.M)
     whole = sum(int(total) for _, total, _ in re.findall(LIST_GROUP, readme, re.M))
     readme = re.sub(r"Together \d+ lines", "Together %d lines" % whole, readme)
     demands = re.sub(r"\d+ files are to be read, [\d,]+ lines", claim_size(texts), texts[DEMANDS])
-    for path, text in ((README, readme), (DEMANDS, demands)):
+    for path, text in ((README, readme), (DEMANDS, demands), (PROOFS, counts_written(texts))):
         with open(os.path.join(ROOT, path), "w", encoding="utf-8") as f:
             f.write(text)
 
@@ -455,6 +489,7 @@ def check(texts):
     suite.check("the list of what is to be read, files", list(missing_reading(texts)))
     suite.check("the list of what is to be read, lines", list(wrong_lines(texts)))
     suite.check("the list of what is to be read, claim", list(wrong_claim(texts)))
+    suite.check("functions and edits, counted", list(wrong_counts(texts)))
     return suite.end()
 
 
