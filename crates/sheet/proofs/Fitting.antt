@@ -21,7 +21,7 @@ use Rattle.model.specs.Effects.{Call, fresh, power, command, send, push, down, 
 use Rattle.model.proofs.Needs.{need}
 use Rattle.calls.specs.Kinds.{Reading}
 use Rattle.calls.specs.Kinds.reading.{Packet, Drop}
-use Rattle.calls.specs.Word.{wordOf, wordTelling, numberOf, answerIn, droppedIn, handedIn, lengthIn, downIn, upIn, rfuIn}
+use Rattle.calls.specs.Word.{handedBit, wordOf, wordTelling, numberOf, answerIn, droppedIn, handedIn, lengthIn, downIn, upIn, rfuIn}
 use Rattle.calls.specs.Outcome.{Outcome, outcome, entryRules}
 use Rattle.calls.specs.Packet.{wireRing, packetBack, packetRules, shownPacket, packetCall, handedBy, lastPackets}
 use Rattle.calls.specs.Read.{Found, foundIn, foundOf, foundWord}
@@ -48,7 +48,7 @@ use Rattle.sheet.proofs.Showing.{joined-append}
 -- a refusal's word says nothing of a message
 pub number-handed : (n : ℕ) → n < 256 → handedIn n ≡ false
 unfolding handedIn
-number-handed n h = ne-eqb (n / 512 % 2) 1 (λ e. omega arith)
+number-handed n h = ne-eqb (n / handedBit % 2) 1 (λ e. omega arith)
 
 number-length : (n : ℕ) → n < 256 → lengthIn n ≤ messageSize
 unfolding lengthIn
