@@ -73,5 +73,5 @@ pub fn act(area: &[u8], out: &mut [u8], r: Record, wire: u8, back: u8) -> u64
 {
     let p = packet_back(area, r, wire, back);
     octets::put(out, 0, p);
-    512 + p.len() as u64 * 65536
+    call_word::hands_out(p.len())
 }

@@ -10,9 +10,9 @@ fn found(got: Reading) -> u64
     ensures { λ w. ⌜ w ≡ foundWord (foundIn got) ⌝ }
 {
     let Reading::Packet(h, _) = got else {
-        return 256;
+        return call_word::drops();
     };
-    words::telling(packets::rfu(Way::Up, h), 0)
+    call_word::telling(packets::rfu(Way::Up, h), 0)
 }
 
 // Reads the octets. More than the longest packet has are 3.

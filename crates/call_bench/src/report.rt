@@ -62,5 +62,5 @@ pub fn act(area: &[u8], out: &mut [u8], r: Record, conn: u8) -> u64
 {
     let o = numbers(area, r, conn);
     octets::put(out, 0, &o);
-    512 + 5 * 65536
+    call_word::hands_out(5)
 }

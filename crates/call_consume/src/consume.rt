@@ -199,7 +199,7 @@ fn leave(area: &mut [u8], r: Record, conn: u8, j: Joined, len: usize) -> u64
     let next = plan(r, conn, progress);
     write::encode(area, next);
     let up = ups(conn);
-    words::answer(j.dropped, j.done, len, up)
+    call_word::answer(j.dropped, j.done, len, up)
 }
 
 // ---- the run

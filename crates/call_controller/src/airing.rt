@@ -130,7 +130,7 @@ fn carry(area: &mut [u8], r: Record, m: &[u8], spoken: bool)
 fn word_for(spoken: bool) -> u64
     ensures { λ w. ⌜ w ≡ airedWord spoken ⌝ }
 {
-    if spoken { 0 } else { 1099511627776 }
+    if spoken { 0 } else { call_word::UP_UNIT }
 }
 
 // An event that is taken.

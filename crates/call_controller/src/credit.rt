@@ -110,5 +110,5 @@ pub fn act(area: &mut [u8], r: Record) -> u64
     put(area, r);
     let next = plan(r);
     write::encode(area, next);
-    1099511627776
+    call_word::puts_up(1)
 }

@@ -92,7 +92,7 @@ fn dropped(area: &mut [u8], t: Record) -> u64
     ensures { λ w. ⌜ ComesTo w (now (area .exit)) (downDropped t (now (area .entry))) ⌝ }
 {
     write::encode(area, t);
-    256
+    call_word::drops()
 }
 
 // ---- data
@@ -231,7 +231,7 @@ fn answer(area: &mut [u8], t: Record, h: Header, len: usize) -> u64
         },
     };
     write::encode(area, next);
-    n as u64 * 1099511627776
+    call_word::puts_up(n)
 }
 
 // A command's segment joins its run; a whole command is answered, one past its limit is not.
@@ -256,7 +256,7 @@ fn command_packet(area: &mut [u8], t: Record, slot: usize, h: Header, n: usize) 
         return answer(area, next, h, j.base + n);
     }
     write::encode(area, next);
-    words::quiet(j.dropped, false, 0)
+    call_word::quiet(j.dropped, false, 0)
 }
 
 // ---- the call
@@ -288,5 +288,5 @@ pub fn act(area: &mut [u8], r: Record) -> u64
         return dropped(area, t);
     };
     let w = packet(area, t, slot, h, n);
-    words::telling(packets::rfu(Way::Down, h), w)
+    call_word::telling(packets::rfu(Way::Down, h), w)
 }

@@ -19,9 +19,6 @@ ghost use Rattle.model.specs.calls.Command.{commandRules};
 ghost use Rattle.calls.specs.Outcome.{Lowest};
 ghost use Rattle.calls.specs.calls.Command.{commandedCount, commandedRecord, commandedSlots, commandedWord, Commandable};
 
-// What a packet put on the down wire counts for in the word.
-const DOWN_UNIT: u64 = 4294967296;
-
 // Whether a wire with so many packets has fewer than n free slots.
 fn crowded(count: usize, n: usize) -> bool
     ensures { λ b. ⌜ b ≡ ltb wireSlots (count + n) ⌝ }
@@ -103,5 +100,5 @@ pub fn act(area: &mut [u8], r: Record, gid: u8, oid: u8, payload: &[u8]) -> u64
     let n = put(area, r, gid, oid, payload);
     let next = plan(r, gid, oid, payload, n);
     write::encode(area, next);
-    n as u64 * DOWN_UNIT
+    call_word::puts_down(n)
 }

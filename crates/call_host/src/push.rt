@@ -95,5 +95,5 @@ pub fn act(area: &mut [u8], r: Record, conn: u8) -> u64
     put(area, r, conn);
     let next = plan(r, conn);
     write::encode(area, next);
-    4294967296
+    call_word::puts_down(1)
 }

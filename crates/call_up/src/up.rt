@@ -63,7 +63,7 @@ fn discard(area: &mut [u8], r: Record) -> u64
 {
     let ends = r.ends;
     leave(area, r, ends);
-    256
+    call_word::drops()
 }
 
 // ---- data
@@ -126,10 +126,10 @@ fn finish(area: &[u8], out: &mut [u8], r: Record, h: Header, n: usize) -> u64
     let len = run.len;
     let j = runs::join(map::MESSAGE, run, h.pbf, n);
     if !j.done {
-        return words::quiet(j.dropped, false, 0);
+        return call_word::quiet(j.dropped, false, 0);
     }
     hand_over(area, out, h.id, len + n);
-    words::quiet(j.dropped, true, len + n)
+    call_word::quiet(j.dropped, true, len + n)
 }
 
 // Data for a connection that is open at the host.
@@ -187,7 +187,7 @@ fn heed(area: &mut [u8], r: Record, ends: Ends, h: Header, len: usize) -> u64
     );
     let next = d.next;
     leave(area, r, next);
-    words::quiet(d.dropped, false, 0)
+    call_word::quiet(d.dropped, false, 0)
 }
 
 // A control packet: a segment that does not end its message only joins the run.
@@ -204,7 +204,7 @@ fn take_control(area: &mut [u8], r: Record, h: Header, n: usize) -> u64
     join_hearing(area, r, h, n);
     if !j.done {
         leave(area, r, ends);
-        return words::quiet(j.dropped, false, 0);
+        return call_word::quiet(j.dropped, false, 0);
     }
     heed(area, r, ends, h, base + n)
 }
@@ -237,5 +237,5 @@ pub fn act(area: &mut [u8], out: &mut [u8], r: Record) -> u64
         return discard(area, r);
     };
     let w = take_packet(area, out, r, h, n);
-    words::telling(packets::rfu(Way::Up, h), w)
+    call_word::telling(packets::rfu(Way::Up, h), w)
 }

@@ -1,6 +1,6 @@
 -- A whole command is answered on octets as in the model: the verdict, the two ends after it, and the packets that go up.
 -- Assumes nothing.
-use Prim.Native.Nat.{ℕ, _+_, _≤_, _*_}
+use Prim.Native.Nat.{ℕ, _+_, _≤_}
 use native.Mathlib.Omega.{arith}
 use mathlib.Core.Path.{_≡_, refl, ap, _∙_, subst}
 use mathlib.Core.Bool.{false}
@@ -21,7 +21,6 @@ use Rattle.messages.proofs.Small.{response-octal, notice-octal}
 use Rattle.ends.specs.Steps.{verdictOf, decided, Answers}
 use Rattle.area.specs.Map.{wireSlots, controlSize, upAt}
 use Rattle.area.specs.Movers.{putsAll}
-use Rattle.record.specs.Layout.{bit}
 use Rattle.record.specs.Claims.{saved}
 use Rattle.record.specs.Fit.{Shape, Fit}
 use Rattle.record.specs.Small.{Small}
@@ -33,7 +32,7 @@ use Rattle.views.proofs.Answers.{Each, puts-up, puts-octal}
 use Rattle.model.specs.State as bench
 use Rattle.model.specs.Effects.{Effect, down, taken}
 use Rattle.model.specs.calls.Down.{answers, deciding}
-use Rattle.calls.specs.Word.{upUnit, wordOf}
+use Rattle.calls.specs.Word.{wordOf}
 use Rattle.calls.specs.Outcome.{outcome, ComesTo}
 use Rattle.calls.specs.Seen.{Puts}
 use Rattle.calls.specs.Refines.{Follows, RefinesTo}
@@ -82,27 +81,27 @@ answers-short e gid oid d r rsp ntf rsp′ ntf′ w = (
 
 -- what is answered to a command, noted, put up and written with the record, is the answer to it: n packets, in two buffers of room for any
 -- message, where m′ is the command in a local array; b is the area with them, and c with the record too
-pub answer-made : (t : Record) (h : Header) (m m′ a b c : Octets) (r : Answered) (rsp ntf rsp′ ntf′ : Octets) (n : ℕ)
+pub answer-made : (t : Record) (h : Header) (m m′ a b c : Octets) (r : Answered) (rsp ntf rsp′ ntf′ : Octets) (n w : ℕ)
     → m′ ≡ m → Answers (t .ends) (h .id) (h .oid) (decided (t .ends) (h .id) (h .oid) m′) r rsp ntf rsp′ ntf′
     → length rsp ≡ controlSize → length ntf ≡ controlSize
     → n ≡ length (notePackets (r .response) rsp′ (r .notice) ntf′)
     → b ≡ putsAll upAt a (t .up) (notePackets (r .response) rsp′ (r .notice) ntf′)
     → c ≡ saved b (record { ends = r .decision .next; down = t .down; up = moreUp n (t .up) })
-    → ComesTo (n * upUnit) c (answered t h m a)
-unfolding wordOf bit
-answer-made t h m m′ a b c r rsp ntf rsp′ ntf′ n same made lr ln many put after =
-    let w = subst (λ (x : Octets). Answers (t .ends) (h .id) (h .oid) (decided (t .ends) (h .id) (h .oid) x) r rsp ntf rsp′ ntf′) same made in
+    → w ≡ wordOf false false 0 0 n
+    → ComesTo w c (answered t h m a)
+answer-made t h m m′ a b c r rsp ntf rsp′ ntf′ n w same made lr ln many put after puts =
+    let told = subst (λ (x : Octets). Answers (t .ends) (h .id) (h .oid) (decided (t .ends) (h .id) (h .oid) x) r rsp ntf rsp′ ntf′) same made in
     let v : Verdict = verdictOf (t .ends) (h .id) (h .oid) m in
     let response : Message = responseMessage (h .id) (h .oid) (t .ends .profile) v in
     let ps : notePackets (r .response) rsp′ (r .notice) ntf′ ≡ answersTo t h v =
-    note-packets rsp rsp′ ntf ntf′ response (noticeMessage v) (r .response) (r .notice) (w .response) (w .notice)
+    note-packets rsp rsp′ ntf ntf′ response (noticeMessage v) (r .response) (r .notice) (told .response) (told .notice)
     (omega (arith, response-short (t .ends .profile) v)) (omega (arith, notice-short v))
     in
     let count : n ≡ length (answersTo t h v) = many ∙ ap length ps in
-    let word : n * upUnit ≡ wordOf false false 0 0 (length (answersTo t h v)) = omega (arith, count) in
+    let word : w ≡ wordOf false false 0 0 (length (answersTo t h v)) = puts ∙ ap (wordOf false false 0 0) count in
     let area : c ≡ saved (answeredArea t h v a) (answeredRecord t h v) =
     after
-    ∙ (λ i. saved (put i) (record { ends = w .decision i .next; down = t .down; up = moreUp (count i) (t .up) }))
+    ∙ (λ i. saved (put i) (record { ends = told .decision i .next; down = t .down; up = moreUp (count i) (t .up) }))
     ∙ (λ i. saved (putsAll upAt a (t .up) (ps i)) (answeredRecord t h v))
     in
     λ out i. outcome (word i) (area i) out

@@ -46,7 +46,7 @@ use Rattle.model.specs.Reachable.{Each}
 use Rattle.model.specs.calls.Consume.{isLoop}
 use Rattle.model.specs.calls.Report.{reportOf}
 use Rattle.model.proofs.Needs.{need}
-use Rattle.calls.specs.Word.{wordOf, answerIn, lengthIn}
+use Rattle.calls.specs.Word.{wordOf, numberOf, answerIn, lengthIn}
 use Rattle.calls.specs.Outcome.{Outcome, outcome, tells, decided, entryRules, called}
 use Rattle.calls.specs.calls.Fresh.{roomRules, freshCall}
 use Rattle.calls.specs.calls.Power.{powerCall}
@@ -323,11 +323,6 @@ record Keeps (a out : Octets) (o : Outcome) : Type 0 where
   inside : Within a out o
   refusal : (n : ℕ) → answerIn (o .word) ≡ refused n → o ≡ outcome n a out
 
--- the number of a refusal
-abbrev pub number : Result → ℕ
-number taken = 0
-number (refused n) = n
-
 abbrev pub isFresh : Call → Bool
 isFresh (fresh m) = true
 isFresh power = false
@@ -347,7 +342,7 @@ unfolding lengthIn
 refused-keeps a out n s =
     record {
       inside = record { size = refl; beyond = refl; room = refl; rest = refl; unhanded = λ _. refl; most = omega (arith, below n s) };
-      refusal = λ m e. λ i. outcome (ap number (sym (refusal-answer n s) ∙ e) i) a out;
+      refusal = λ m e. λ i. outcome (ap numberOf (sym (refusal-answer n s) ∙ e) i) a out;
     }
 
 taken-keeps : (a out : Octets) (o : Outcome) → Leaves a out o → Keeps a out o

@@ -29,7 +29,7 @@ use Rattle.model.specs.Effects.{Call, Result, taken, refused}
 use Rattle.model.specs.Refusals.{first}
 use Rattle.model.specs.Bench.{rules, judged, step}
 use Rattle.model.specs.Grants.{WithinGrants}
-use Rattle.calls.specs.Word.{answerIn, droppedIn, handedIn, lengthIn, downIn, upIn, rfuIn}
+use Rattle.calls.specs.Word.{dropBit, handedBit, answerIn, droppedIn, handedIn, lengthIn, downIn, upIn, rfuIn}
 use Rattle.calls.specs.Outcome.{Outcome, outcome, decided, called}
 use Rattle.calls.specs.Seen.{Puts, noPuts, restarts, putsAfter}
 use Rattle.calls.specs.Refines.{Good, Follows, Along, RefinesTo, Refines}
@@ -54,11 +54,11 @@ module _ (n : ℕ) (s : small n ≡ true) where
 
   refusal-dropped : droppedIn n ≡ false
   unfolding droppedIn
-  refusal-dropped = let e : n / 256 % 2 ≡ 0 = omega (arith, below) in rw e
+  refusal-dropped = let e : n / dropBit % 2 ≡ 0 = omega (arith, below) in rw e
 
   pub refusal-handed : handedIn n ≡ false
   unfolding handedIn
-  refusal-handed = let e : n / 512 % 2 ≡ 0 = omega (arith, below) in rw e
+  refusal-handed = let e : n / handedBit % 2 ≡ 0 = omega (arith, below) in rw e
 
   refusal-down : downIn n ≡ 0
   unfolding downIn

@@ -31,7 +31,7 @@ use Rattle.model.specs.Bench.{rules, act, judged, step}
 use Rattle.model.specs.Observer.{Event}
 use Rattle.model.specs.Reachable.{Each, Wires}
 use Rattle.model.proofs.WellFormed.{SmallShaped, shaped-stays, shaped-start, wires}
-use Rattle.calls.specs.Word.{answerIn, droppedIn, rfuIn}
+use Rattle.calls.specs.Word.{numberOf, answerIn, droppedIn, rfuIn}
 use Rattle.calls.specs.Outcome.{Outcome, outcome}
 use Rattle.calls.specs.Seen.{Puts, isTaken}
 use Rattle.calls.specs.Refines.{Good}
@@ -42,7 +42,7 @@ use Rattle.calls.proofs.Rules.{small}
 use Rattle.calls.proofs.Called.{sound-area}
 use Rattle.calls.proofs.Words.{word-rfu}
 use Rattle.calls.proofs.Refine.{refusal-answer, refusal-rfu}
-use Rattle.calls.proofs.Kept.{number, taken-refused, decided-by, isFresh, entered-if-taken, refusals-keep}
+use Rattle.calls.proofs.Kept.{taken-refused, decided-by, isFresh, entered-if-taken, refusals-keep}
 use Rattle.calls.proofs.Down as downing
 use Rattle.calls.proofs.UpPacket as upping
 use Rattle.calls.proofs.Demand.{all-refine, short-buffer, run-stands}
@@ -184,7 +184,7 @@ answer-small w n e = go (eqb (w % 256) 0) refl e
     go : (b : Bool) → eqb (w % 256) 0 ≡ b → pick b taken (refused (w % 256)) ≡ refused n → small n ≡ true
     go true z h = absurd (taken-refused h)
     go false z h =
-        let q : w % 256 ≡ n = ap number h in
+        let q : w % 256 ≡ n = ap numberOf h in
         let some : w % 256 ≡ 0 → ⊥ = eqb-false (w % 256) 0 z in
         subst (λ (x : ℕ). small x ≡ true) q (rw (lt-ltb 0 (w % 256) (omega (arith, some)), lt-ltb (w % 256) 256 (omega arith)))
 

@@ -1,9 +1,10 @@
 -- What a word says of a call that is taken is what it was made of.
 -- Assumes nothing.
-use Prim.Native.Nat.{ℕ, _+_, _*_, _/_, _%_, _≤_, _<_}
+use Prim.Native.Nat.{ℕ, zero, suc, _+_, _*_, _/_, _%_, _≤_, _<_}
 use native.Mathlib.Omega.{arith}
-use mathlib.Core.Path.{_≡_, refl, ap, _∙_}
+use mathlib.Core.Path.{_≡_, refl, sym, ap, _∙_}
 use mathlib.Core.Bool.{Bool, true, false}
+use borrow.Author.Tests.{eqb-true}
 use lib.Dec.{eqb}
 use mathlib.Core.List.{[], _∷_}
 use Rattle.octets.specs.Octets.{Octets, pick, cut}
@@ -11,7 +12,7 @@ use Rattle.area.specs.Map.{downAt, upAt, wireSlots}
 use Rattle.area.specs.Ring.{packetsFrom}
 use Rattle.record.specs.Layout.{bit}
 use Rattle.model.specs.Effects.{Call, taken, refused}
-use Rattle.calls.specs.Word.{dropBit, handedBit, wordOf, answerIn, droppedIn, handedIn, lengthIn, downIn, upIn, rfuIn, wordTelling}
+use Rattle.calls.specs.Word.{dropBit, handedBit, rfuUnit, wordOf, numberOf, answerIn, droppedIn, handedIn, lengthIn, downIn, upIn, rfuIn, wordTelling}
 use Rattle.calls.specs.Outcome.{Outcome, outcome, tells}
 use Rattle.calls.specs.Seen.{Puts, noPuts, starts, restarts, putsAfter, seenBy}
 
@@ -24,6 +25,22 @@ bit-back : (b : Bool) → eqb (bit b) 1 ≡ b
 unfolding bit
 bit-back true = refl
 bit-back false = refl
+
+-- a number of one bit, and the test of it
+pub bit-test : (n : ℕ) → n < 2 → bit (eqb n 1) ≡ n
+unfolding bit
+bit-test zero h = refl
+bit-test (suc zero) h = refl
+bit-test (suc (suc n)) h = absurd (omega arith)
+
+-- the answer's number is the word's low octet
+pub number-answer : (w : ℕ) → numberOf (answerIn w) ≡ w % 256
+unfolding answerIn
+number-answer w = go (eqb (w % 256) 0) refl
+  where
+    go : (b : Bool) → eqb (w % 256) 0 ≡ b → numberOf (pick b taken (refused (w % 256))) ≡ w % 256
+    go true e = sym (eqb-true (w % 256) 0 e)
+    go false e = refl
 
 module _ (d h : Bool) (len down up : ℕ) where
   abbrev word : ℕ
@@ -125,7 +142,7 @@ module _ (n w : ℕ) where
   unfolding rfuIn wordTelling
   told-rfu h = go (droppedIn w)
     where
-      go : (b : Bool) → (w % 281474976710656 + pick b 0 n * 281474976710656) / 281474976710656 % 256 ≡ pick b 0 n
+      go : (b : Bool) → (w % rfuUnit + pick b 0 n * rfuUnit) / rfuUnit % 256 ≡ pick b 0 n
       go true = omega arith
       go false = omega (arith, h)
 

@@ -6,6 +6,7 @@
 --   bits 32-39  packets put on the down wire
 --   bits 40-47  packets put on the up wire
 --   bits 48-55  the reserved bits of octet 1 that the packet taken had at 1
+-- A call that plays several moves, and there is none yet, has their number in bits 32-47 (up to 65,535): it puts no packet that is shown, so it counts none.
 -- Assumes nothing.
 use Prim.Native.Nat.{ℕ, _+_, _*_, _/_, _%_}
 use mathlib.Core.Bool.{Bool}
@@ -38,6 +39,11 @@ unfoldable pub wordOf : Bool → Bool → ℕ → ℕ → ℕ → ℕ
 wordOf dropped handed len down up = bit dropped * dropBit + bit handed * handedBit + len * lengthUnit + down * downUnit + up * upUnit
 
 -- ---- what a word says
+
+-- the answer as a number: 0 for a call that is taken
+abbrev pub numberOf : Result → ℕ
+numberOf taken = 0
+numberOf (refused n) = n
 
 unfoldable pub answerIn : ℕ → Result
 answerIn w = pick (eqb (w % 256) 0) taken (refused (w % 256))

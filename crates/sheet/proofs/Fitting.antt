@@ -21,7 +21,7 @@ use Rattle.model.specs.Effects.{Call, fresh, power, command, send, push, down, 
 use Rattle.model.proofs.Needs.{need}
 use Rattle.calls.specs.Kinds.{Reading}
 use Rattle.calls.specs.Kinds.reading.{Packet, Drop}
-use Rattle.calls.specs.Word.{wordOf, wordTelling, answerIn, droppedIn, handedIn, lengthIn, downIn, upIn, rfuIn}
+use Rattle.calls.specs.Word.{handedBit, wordOf, wordTelling, numberOf, answerIn, droppedIn, handedIn, lengthIn, downIn, upIn, rfuIn}
 use Rattle.calls.specs.Outcome.{Outcome, outcome, entryRules}
 use Rattle.calls.specs.Packet.{wireRing, packetBack, packetRules, shownPacket, packetCall, handedBy, lastPackets}
 use Rattle.calls.specs.Read.{Found, foundIn, foundOf, foundWord}
@@ -38,7 +38,7 @@ use Rattle.sheet.specs.Kinds.name.{Fresh, Power, Command, Send, Push, Do
 use Rattle.forms.specs.Names.{textOf, isBad}
 use Rattle.forms.specs.Form.{evLabel, argsOf, asks}
 use Rattle.sheet.specs.Play.{played}
-use Rattle.sheet.specs.Show.{zeroBuffer, joined, wireShown, putOn, messageText, eventField, answerField, dropField, rfuField, packetField, messageField, lineOf, numberOf}
+use Rattle.sheet.specs.Show.{zeroBuffer, joined, wireShown, putOn, messageText, eventField, answerField, dropField, rfuField, packetField, messageField, lineOf}
 use Rattle.sheet.specs.Sheet.{Answer, answerTo}
 use Rattle.forms.proofs.Naming.{name-short}
 use Rattle.sheet.proofs.Showing.{joined-append}
@@ -48,7 +48,7 @@ use Rattle.sheet.proofs.Showing.{joined-append}
 -- a refusal's word says nothing of a message
 pub number-handed : (n : ℕ) → n < 256 → handedIn n ≡ false
 unfolding handedIn
-number-handed n h = ne-eqb (n / 512 % 2) 1 (λ e. omega arith)
+number-handed n h = ne-eqb (n / handedBit % 2) 1 (λ e. omega arith)
 
 number-length : (n : ℕ) → n < 256 → lengthIn n ≤ messageSize
 unfolding lengthIn

@@ -24,7 +24,7 @@ use Rattle.model.proofs.Fine as fine
 use Rattle.state.proofs.Limits.{profile-limits}
 use Rattle.model.proofs.Trace.{step-keeps}
 use Rattle.model.proofs.Never.{kept-within}
-use Rattle.calls.specs.Word.{lengthIn}
+use Rattle.calls.specs.Word.{numberOf, lengthIn}
 use Rattle.calls.specs.Outcome.{Outcome, outcome}
 use Rattle.calls.specs.Packet.{handedBy, lastPackets}
 use Rattle.calls.specs.Read.{Found, foundOf, readCall, Says}
@@ -42,7 +42,7 @@ use Rattle.sheet.specs.Kinds.name.{Fresh, Power, Command, Send, Push, Do
 use Rattle.forms.specs.Names.{isBad}
 use Rattle.forms.specs.Form.{argsOf, asks}
 use Rattle.sheet.specs.Play.{played}
-use Rattle.sheet.specs.Show.{ansLabel, dropLabel, rfuLabel, pktLabel, msgLabel, numberOf, zeroBuffer, joined, wireShown, messageText, eventField, answerField, dropField, rfuField, messageField, lineOf}
+use Rattle.sheet.specs.Show.{ansLabel, dropLabel, rfuLabel, pktLabel, msgLabel, zeroBuffer, joined, wireShown, messageText, eventField, answerField, dropField, rfuField, messageField, lineOf}
 use Rattle.sheet.specs.Sheet.{Answer, refusedLine, shown, answerTo}
 use Rattle.sheet.specs.Paper.{printed, Asks, calls, reads, nothing, asksOf, eventLine, foundLine, lineBy, nextBy, modelled, firstProfile, AllWithin, Papers}
 use Rattle.forms.proofs.Forming.{args-octal}

@@ -1,38 +1,18 @@
 -- The laws of `specs/Show.antt`.
 -- Assumes nothing.
-use Prim.Native.Nat.{ℕ, zero, suc, _%_, _<_}
+use Prim.Native.Nat.{ℕ, suc}
 use mathlib.Core.Path.{_≡_, refl, sym, ap, _∙_}
 use mathlib.Core.Bool.{Bool, true, false}
 use mathlib.Core.List.{List, [], _∷_, _++_, append-assoc, append-nil}
 use native.Mathlib.Omega.{arith}
-use borrow.Author.Tests.{eqb-true}
 use lib.ListN.{length}
-use lib.Dec.{eqb}
 use Rattle.octets.specs.Octets.{Octets, pick, cut}
-use Rattle.record.specs.Layout.{bit}
-use Rattle.model.specs.Effects.{taken, refused}
-use Rattle.calls.specs.Word.{answerIn, handedIn, lengthIn}
+use Rattle.calls.specs.Word.{handedIn, lengthIn}
 use Rattle.calls.specs.Outcome.{outcome}
 use Rattle.calls.specs.Packet.{packetCall, handedBy, lastPackets}
 use Rattle.ascii.specs.Digits.{hexOf}
 use Rattle.ascii.proofs.Digits.{hex-append}
-use Rattle.sheet.specs.Show.{pktLabel, numberOf, zeroBuffer, joined, wireShown, messageText}
-
--- the answer's number is the word's low octet
-pub number-answer : (w : ℕ) → numberOf (answerIn w) ≡ w % 256
-unfolding answerIn
-number-answer w = go (eqb (w % 256) 0) refl
-  where
-    go : (b : Bool) → eqb (w % 256) 0 ≡ b → numberOf (pick b taken (refused (w % 256))) ≡ w % 256
-    go true e = sym (eqb-true (w % 256) 0 e)
-    go false e = refl
-
--- a number of one bit, and the test of it
-pub bit-test : (n : ℕ) → n < 2 → bit (eqb n 1) ≡ n
-unfolding bit
-bit-test zero h = refl
-bit-test (suc zero) h = refl
-bit-test (suc (suc n)) h = absurd (omega arith)
+use Rattle.sheet.specs.Show.{pktLabel, zeroBuffer, joined, wireShown, messageText}
 
 -- ---- joined
 

@@ -16,7 +16,7 @@ use Rattle.area.specs.Map.{slotSize, messageSize}
 use Rattle.area.specs.Ring.{slotAt, slotIn, trim, slotPacket}
 use Rattle.record.specs.Layout.{bit}
 use Rattle.record.specs.Reading.{decodeOf}
-use Rattle.calls.specs.Word.{answerIn, droppedIn, handedIn, lengthIn, rfuIn}
+use Rattle.calls.specs.Word.{numberOf, answerIn, droppedIn, handedIn, lengthIn, rfuIn}
 use Rattle.calls.specs.Outcome.{Outcome, outcome}
 use Rattle.calls.specs.Packet.{packetBack, packetRules, shownPacket, packetCall, handedBy, lastPackets}
 use Rattle.ascii.specs.Letters as letter
@@ -28,9 +28,10 @@ use Rattle.sheet.specs.Kinds.{Name}
 use Rattle.sheet.specs.Kinds.name.{Fresh, Power, Command, Send, Push, Down, Consume, Credit, Air, Reply, Up, Report, Read, Bad}
 use Rattle.forms.specs.Names.{textOf}
 use Rattle.forms.specs.Form.{evLabel}
-use Rattle.sheet.specs.Show.{numberOf, zeroBuffer, joined, wireShown, putOn, messageText, eventField, answerField, dropField, rfuField, packetField, messageField, lineOf}
+use Rattle.sheet.specs.Show.{zeroBuffer, joined, wireShown, putOn, messageText, eventField, answerField, dropField, rfuField, packetField, messageField, lineOf}
 use Rattle.sheet.specs.Told.{messageIn, toldBy, toTell, Real, Heard}
-use Rattle.sheet.proofs.Showing.{joined-append, number-answer}
+use Rattle.sheet.proofs.Showing.{joined-append}
+use Rattle.calls.proofs.Words.{number-answer}
 use Rattle.calls.proofs.Kept.{called-by}
 
 -- ---- no word has a blank

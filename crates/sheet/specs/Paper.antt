@@ -16,6 +16,7 @@ use Rattle.model.specs.Effects.{Call, Result, fresh, power, command, send, push
 use Rattle.model.specs.Bench.{step}
 use Rattle.model.specs.Grants.{WithinGrants}
 use Rattle.model.specs.Observer.{Event, eventOf}
+use Rattle.calls.specs.Word.{numberOf}
 use Rattle.calls.specs.Read.{Found, foundOf}
 use Rattle.calls.specs.Seen.{Puts}
 use Rattle.calls.specs.Refines.{Good, Along}
@@ -24,7 +25,7 @@ use Rattle.ascii.specs.Digits.{hexOf, decimalOf}
 use Rattle.sheet.specs.Kinds.{Name}
 use Rattle.sheet.specs.Kinds.name.{Fresh, Power, Command, Send, Push, Down, Consume, Credit, Air, Reply, Up, Report, Read, Bad}
 use Rattle.forms.specs.Form.{argsOf, asks}
-use Rattle.sheet.specs.Show.{ansLabel, dropLabel, rfuLabel, pktLabel, msgLabel, numberOf, joined, messageText, eventField}
+use Rattle.sheet.specs.Show.{ansLabel, dropLabel, rfuLabel, pktLabel, msgLabel, joined, messageText, eventField}
 use Rattle.sheet.specs.Sheet.{badLine, answerTo}
 
 -- ---- on an area and a message buffer

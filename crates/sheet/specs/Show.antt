@@ -7,8 +7,7 @@ use lib.ListN.{replicate}
 use Rattle.octets.specs.Octets.{Octets}
 use Rattle.area.specs.Map.{messageSize}
 use Rattle.record.specs.Layout.{bit}
-use Rattle.model.specs.Effects.{Result, taken, refused}
-use Rattle.calls.specs.Word.{answerIn, droppedIn, downIn, upIn, rfuIn}
+use Rattle.calls.specs.Word.{numberOf, answerIn, droppedIn, downIn, upIn, rfuIn}
 use Rattle.calls.specs.Outcome.{Outcome}
 use Rattle.calls.specs.Packet.{handedBy, lastPackets}
 use Rattle.ascii.specs.Letters as letter
@@ -31,12 +30,6 @@ pktLabel = letter.blank ∷ letter.p ∷ letter.k ∷ letter.t ∷ letter.equals
 
 abbrev pub msgLabel : Octets
 msgLabel = letter.blank ∷ letter.m ∷ letter.s ∷ letter.g ∷ letter.equals ∷ []
-
--- ---- the answer as a number: 0 for a call that is taken
-
-abbrev pub numberOf : Result → ℕ
-numberOf taken = 0
-numberOf (refused n) = n
 
 -- ---- the octets put on wires: the packets put down, in their order, then those put up
 

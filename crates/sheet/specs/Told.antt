@@ -8,7 +8,7 @@ use lib.ListN.{drop, getD}
 use lib.Dec.{eqb}
 use Rattle.octets.specs.Octets.{Octets, pick}
 use Rattle.octets.specs.Octal.{Octal}
-use Rattle.calls.specs.Word.{answerIn, droppedIn, rfuIn}
+use Rattle.calls.specs.Word.{numberOf, answerIn, droppedIn, rfuIn}
 use Rattle.calls.specs.Outcome.{Outcome}
 use Rattle.calls.specs.Packet.{handedBy}
 use Rattle.ascii.specs.Letters as letter
@@ -16,7 +16,7 @@ use Rattle.ascii.specs.Words.{words}
 use Rattle.ascii.specs.Digits.{octetsIn, numberFrom}
 use Rattle.sheet.specs.Kinds.{Name}
 use Rattle.forms.specs.Names.{textOf}
-use Rattle.sheet.specs.Show.{numberOf, putOn, lineOf}
+use Rattle.sheet.specs.Show.{putOn, lineOf}
 
 -- message: none, or one that may be empty
 pub record Told : Type 0 where

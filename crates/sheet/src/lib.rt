@@ -2,7 +2,6 @@
 // is called through the functions that C calls.
 pub mod play;
 pub mod show;
-pub mod word;
 
 use crate::play::play;
 use crate::show::put_outcome;

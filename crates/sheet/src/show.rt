@@ -1,9 +1,9 @@
 // The line that an outcome prints, field by field.
-use crate::word;
 use ascii::write::put;
 use ascii::write::put_decimal;
 use ascii::write::put_octets;
 use bench::exports::nci_packet;
+use call_word::says;
 use forms::names::Name;
 use forms::names::put_name;
 use octets::window;
@@ -39,8 +39,8 @@ fn put_front(text: &mut [u8], at: usize, name: Name, w: u64) -> usize
     requires { ⌜ at ≤ length (now text) ⌝ }
     ensures { λ r. ⌜ Wrote (now (text .entry)) at (eventField name ++ answerField w ++ dropField w) r (now (text .exit)) ⌝ }
 {
-    let answer = word::answer(w);
-    let dropped = word::dropped(w);
+    let answer = says::answer(w);
+    let dropped = says::dropped(w);
     let mut n = put_event(text, at, name);
     n = put_number(text, n, b" ans=", answer);
     put_number(text, n, b" drop=", dropped)
@@ -51,7 +51,7 @@ fn put_rfu(text: &mut [u8], at: usize, w: u64) -> usize
     requires { ⌜ at ≤ length (now text) ⌝ }
     ensures { λ r. ⌜ Wrote (now (text .entry)) at (rfuField w) r (now (text .exit)) ⌝ }
 {
-    let rfu = word::rfu(w);
+    let rfu = says::rfu(w);
     let n = put(text, at, b" rfu=");
     put_octets(text, n, &[rfu])
 }
@@ -63,8 +63,8 @@ fn put_packet(text: &mut [u8], at: usize, area: &[u8], wire: u8, back: u8) -> us
 {
     let mut buffer = [0u8; 1024];
     let w = nci_packet(area, &mut buffer, wire, back);
-    if word::handed(w) {
-        return put_octets(text, at, window(&buffer, 0, word::length(w)));
+    if says::handed(w) {
+        return put_octets(text, at, window(&buffer, 0, says::length(w)));
     }
     at
 }
@@ -88,8 +88,8 @@ fn put_packets(text: &mut [u8], at: usize, w: u64, area: &[u8]) -> usize
     requires { ⌜ at ≤ length (now text) ⌝ }
     ensures { λ r. ⌜ Wrote (now (text .entry)) at (packetField (outcome w (now (area .entry)) [])) r (now (text .exit)) ⌝ }
 {
-    let down = word::down(w);
-    let up = word::up(w);
+    let down = says::down(w);
+    let up = says::up(w);
     let mut n = put(text, at, b" pkt=");
     n = put_wire(text, n, area, 0, down);
     put_wire(text, n, area, 1, up)
@@ -101,10 +101,10 @@ fn put_message(text: &mut [u8], at: usize, w: u64, out: &[u8]) -> usize
     ensures { λ r. ⌜ Wrote (now (text .entry)) at (messageField (outcome w [] (now (out .entry)))) r (now (text .exit)) ⌝ }
 {
     let n = put(text, at, b" msg=");
-    if !word::handed(w) {
+    if !says::handed(w) {
         return n;
     }
-    let message = window(out, 0, word::length(w));
+    let message = window(out, 0, says::length(w));
     if message.len() == 0 {
         return put(text, n, b"-");
     }

@@ -1,16 +1,14 @@
 -- `call_bench::packet::act` meets its contract: the packet over the front of the buffer.
 -- Assumes nothing.
-use Prim.Native.Nat.{_+_, _*_}
 use native.Mathlib.Omega.{arith}
-use mathlib.Core.Path.{_≡_, ap, _∙_}
+use mathlib.Core.Path.{ap, _∙_}
 use mathlib.Core.Bool.{true, false}
 use lib.ListN.{length}
 use denote.Ref.{now}
 use Rattle.octets.specs.Octets.{splice}
-use Rattle.record.specs.Layout.{bit}
 use Rattle.calls.specs.Word.{wordOf}
 use Rattle.calls.specs.Outcome.{outcome}
-use Rattle.calls.specs.Packet.{wireRing, wireAt, slotBack, packetBack}
+use Rattle.calls.specs.Packet.{wireRing, wireAt, slotBack}
 use Rattle.calls.proofs.Packet.{length-slot}
 use borrow.Author.Needs.{needs}
 use Rattle.call_bench.proofs.packet.act.Statement.{statement}
@@ -25,14 +23,8 @@ put-requires c κs =
     let short = length-slot (wireAt (s .args .wire)) (now (s .args .area)) (slotBack (wireRing (s .args .r) (s .args .wire)) (s .args .back)) in
     omega (arith, s .pre .0, short, ap length (c .before .packet-back .ensures))
 
-mul-result : tie.Need-mul-result
-mul-result c =
-    let s = c .before .before .before .before .before .before .before in
-    let short = length-slot (wireAt (s .args .wire)) (now (s .args .area)) (slotBack (wireRing (s .args .r) (s .args .wire)) (s .args .back)) in
-    omega (arith, short, ap length (c .before .before .before .before .packet-back .ensures))
-
-add-result : tie.Need-add-result
-add-result c =
+hands-out-requires : tie.Need-hands-out-requires
+hands-out-requires c κs =
     let s = c .before .before .before .before .before .before .before in
     let short = length-slot (wireAt (s .args .wire)) (now (s .args .area)) (slotBack (wireRing (s .args .r) (s .args .wire)) (s .args .back)) in
     omega (arith, short, ap length (c .before .before .before .before .packet-back .ensures))
@@ -41,13 +33,11 @@ same-length : tie.Need-same-length
 same-length c = search needs
 
 returns : tie.Need-returns
-unfolding wordOf bit
 returns c =
-    let s = c .before .before .before .before .before .before .before in
-    let p = c .before .before .before .before .packet-back .ensures in
-    let packet = packetBack (s .args .r) (s .args .wire) (s .args .back) (now (s .args .area)) in
-    let word : 512 + length (now (c .before .before .before .before .packet-back .result)) * 65536 ≡ wordOf false true (length packet) 0 0 = omega (arith, ap length p) in
-    (λ i. outcome (word i) (now (s .args .area)) ((c .before .before .put .ensures ∙ ap (splice (now (s .args .out)) 0) p) i))
+    let s = c .before .before .before .before .before .before .before .before in
+    let p = c .before .before .before .before .before .packet-back .ensures in
+    let word = c .hands-out .ensures ∙ (λ i. wordOf false true (length (p i)) 0 0) in
+    (λ i. outcome (word i) (now (s .args .area)) ((c .before .before .before .put .ensures ∙ ap (splice (now (s .args .out)) 0) p) i))
 
 pub act-spec : {M : Type 1} → statement M
 act-spec =
@@ -55,7 +45,6 @@ act-spec =
     (tie.spec
     packet-back-requires
     put-requires
-    mul-result
-    add-result
+    hands-out-requires
     same-length
     returns)

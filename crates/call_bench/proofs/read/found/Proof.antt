@@ -16,9 +16,11 @@ enum-known-got c = search needs
 enum-told : tie.Need-enum-told
 enum-told c = search needs
 
+drops-requires : tie.Need-drops-requires
+drops-requires c κs = search needs
+
 returns : tie.Need-returns
-unfolding wordOf bit
-returns c = sym (told-none 0) ∙ sym (ap (λ (x : Reading). foundWord (foundIn x)) (c .enum-told .given .1))
+returns c = c .drops .ensures ∙ sym (told-none 0) ∙ sym (ap (λ (x : Reading). foundWord (foundIn x)) (c .before .enum-told .given .1))
 
 rfu-requires : tie.Need-rfu-requires
 rfu-requires c κs = search needs
@@ -34,4 +36,4 @@ returns-2 c =
 
 pub found-spec : {M : Type 1} → statement M
 found-spec =
-    tie.close (tie.spec enum-known-got enum-told returns rfu-requires telling-requires returns-2)
+    tie.close (tie.spec enum-known-got enum-told drops-requires returns rfu-requires telling-requires returns-2)

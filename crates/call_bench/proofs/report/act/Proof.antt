@@ -1,10 +1,9 @@
 -- `call_bench::report::act` meets its contract: the five octets over the front of the buffer.
 -- Assumes nothing.
-use mathlib.Core.Path.{refl, _∙_}
+use mathlib.Core.Path.{_∙_}
 use denote.Ref.{now}
 use Rattle.octets.specs.Octets.{splice}
-use Rattle.record.specs.Layout.{bit}
-use Rattle.calls.specs.Word.{wordOf}
+use native.Mathlib.Omega.{arith}
 use borrow.Author.Needs.{needs}
 use Rattle.call_bench.proofs.report.act.Statement.{statement}
 use Rattle.call_bench.proofs.report.act.Tie as tie
@@ -18,19 +17,15 @@ slice-aggregate-put c = search needs
 put-requires : tie.Need-put-requires
 put-requires c κs = search needs
 
-mul-result : tie.Need-mul-result
-mul-result c = search needs
-
-add-result : tie.Need-add-result
-add-result c = search needs
+hands-out-requires : tie.Need-hands-out-requires
+hands-out-requires c κs = omega arith
 
 same-length : tie.Need-same-length
 same-length c = search needs
 
 returns : tie.Need-returns
-unfolding wordOf bit
 returns c =
-    (refl, c .before .before .put .ensures ∙ (λ i. splice (now (c .before .before .before .before .before .before .before .before .args .out)) 0 (c .before .before .before .before .before .numbers .ensures i)))
+    (c .hands-out .ensures, c .before .before .before .put .ensures ∙ (λ i. splice (now (c .before .before .before .before .before .before .before .before .before .args .out)) 0 (c .before .before .before .before .before .before .numbers .ensures i)))
 
 pub act-spec : {M : Type 1} → statement M
 act-spec =
@@ -39,7 +34,6 @@ act-spec =
     numbers-requires
     slice-aggregate-put
     put-requires
-    mul-result
-    add-result
+    hands-out-requires
     same-length
     returns)

@@ -52,8 +52,8 @@ add-t25 c =
 encode-requires : tie.Need-encode-requires
 encode-requires c κs = omega (arith, c .before .before .before .before .before .before .before .before .before .before .before .before .before .before .before .before .before .before .before .before .before .before .before .before .before .pre .0, simp length-puts at (ap length (c .before .before .before .before .put-answers .ensures .1)))
 
-mul-result : tie.Need-mul-result
-mul-result c =
+puts-up-requires : tie.Need-puts-up-requires
+puts-up-requires c κs =
     let few = subst (λ (k : ℕ). k ≤ 2) (sym (c .before .before .before .before .before .before .before .put-answers .ensures .0)) (notes-few _ _ _ _) in
     omega arith
 
@@ -62,14 +62,14 @@ same-length c = search needs
 
 returns : tie.Need-returns
 returns c =
-    let s = c .before .before .before .before .before .before .before .before .before .before .before .before .before .before .before .before .before .before .before .before .before .before .before .before .before .before .before .before in
+    let s = c .before .before .before .before .before .before .before .before .before .before .before .before .before .before .before .before .before .before .before .before .before .before .before .before .before .before .before .before .before in
     let t = s .args .t in
     let h = s .args .h in
     let a = now (s .args .area) in
     let len = s .args .len in
-    let put = c .before .before .before .before .before .before .before .put-answers .ensures in
-    let text = cut-copied _ _ (commandIn len a) len (length-cut askingAt len a (omega (arith, s .pre .0, s .pre .1))) (omega (arith, s .pre .1)) (c .before .before .before .before .before .before .before .before .before .before .before .before .before .before .before .before .before .before .before .before .before .hand-out .ensures) in
-    answer-made t h (commandIn len a) _ a _ _ _ _ _ _ _ _ text (c .before .before .before .before .before .before .before .before .before .before .before .before .before .before .before .answer .ensures) refl refl (put .0) (put .1) (c .before .before .encode .ensures)
+    let put = c .before .before .before .before .before .before .before .before .put-answers .ensures in
+    let text = cut-copied _ _ (commandIn len a) len (length-cut askingAt len a (omega (arith, s .pre .0, s .pre .1))) (omega (arith, s .pre .1)) (c .before .before .before .before .before .before .before .before .before .before .before .before .before .before .before .before .before .before .before .before .before .before .hand-out .ensures) in
+    answer-made t h (commandIn len a) _ a _ _ _ _ _ _ _ _ _ text (c .before .before .before .before .before .before .before .before .before .before .before .before .before .before .before .before .answer .ensures) refl refl (put .0) (put .1) (c .before .before .before .encode .ensures) (c .puts-up .ensures)
 
 pub answer-spec : {M : Type 1} → statement M
 answer-spec =
@@ -86,6 +86,6 @@ answer-spec =
     put-answers-requires
     add-t25
     encode-requires
-    mul-result
+    puts-up-requires
     same-length
     returns)

@@ -1,10 +1,10 @@
--- `sheet::word::rfu` meets its contract.
+-- `call_word::says::rfu` meets its contract.
 -- Assumes nothing.
 use mathlib.Core.Path.{refl}
 use Rattle.calls.specs.Word.{rfuIn}
 use borrow.Author.Needs.{needs}
-use Rattle.sheet.proofs.word.rfu.Statement.{statement}
-use Rattle.sheet.proofs.word.rfu.Tie as tie
+use Rattle.call_word.proofs.says.rfu.Statement.{statement}
+use Rattle.call_word.proofs.says.rfu.Tie as tie
 
 cast-result : tie.Need-cast-result
 cast-result c = search needs

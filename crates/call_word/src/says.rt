@@ -1,47 +1,59 @@
 // What the word says that a call answered.
+use crate::DOWN_UNIT;
+use crate::DROP_BIT;
+use crate::HANDED_BIT;
+use crate::LENGTH_UNIT;
+use crate::RFU_UNIT;
+use crate::UP_UNIT;
 ghost use mathlib.Core.Path.{_≡_};
-ghost use Rattle.calls.specs.Word.{answerIn, droppedIn, handedIn, lengthIn, downIn, upIn, rfuIn};
-ghost use Rattle.sheet.specs.Show.{numberOf};
 ghost use Rattle.record.specs.Layout.{bit};
+ghost use Rattle.calls.specs.Word.{numberOf, answerIn, droppedIn, handedIn, lengthIn, downIn, upIn, rfuIn};
 
+// The number of a refusal, 0 for a call that is taken.
 pub fn answer(w: u64) -> u8
     ensures { λ r. ⌜ r ≡ numberOf (answerIn w) ⌝ }
 {
     (w % 256) as u8
 }
 
+// The drop flag, 0 or 1.
 pub fn dropped(w: u64) -> u8
     ensures { λ r. ⌜ r ≡ bit (droppedIn w) ⌝ }
 {
-    (w / 256 % 2) as u8
+    (w / DROP_BIT % 2) as u8
 }
 
+// Whether a message was handed out.
 pub fn handed(w: u64) -> bool
     ensures { λ r. ⌜ r ≡ handedIn w ⌝ }
 {
-    w / 512 % 2 == 1
+    w / HANDED_BIT % 2 == 1
 }
 
+// Its length.
 pub fn length(w: u64) -> usize
     ensures { λ r. ⌜ r ≡ lengthIn w ⌝ }
 {
-    (w / 65536 % 65536) as usize
+    (w / LENGTH_UNIT % 65536) as usize
 }
 
+// Packets put on the down wire.
 pub fn down(w: u64) -> u8
     ensures { λ r. ⌜ r ≡ downIn w ⌝ }
 {
-    (w / 4294967296 % 256) as u8
+    (w / DOWN_UNIT % 256) as u8
 }
 
+// Packets put on the up wire.
 pub fn up(w: u64) -> u8
     ensures { λ r. ⌜ r ≡ upIn w ⌝ }
 {
-    (w / 1099511627776 % 256) as u8
+    (w / UP_UNIT % 256) as u8
 }
 
+// The reserved bits of the packet taken.
 pub fn rfu(w: u64) -> u8
     ensures { λ r. ⌜ r ≡ rfuIn w ⌝ }
 {
-    (w / 281474976710656 % 256) as u8
+    (w / RFU_UNIT % 256) as u8
 }

@@ -1,11 +1,11 @@
--- `words::telling` meets its contract: the drop flag chooses what is told.
+-- `call_word::telling` meets its contract: the drop flag chooses what is told.
 -- Assumes nothing.
 use Prim.Native.Nat.{ℕ, _+_, _*_, _%_}
 use mathlib.Core.Path.{ap}
-use Rattle.calls.specs.Word.{droppedIn, wordTelling}
+use Rattle.calls.specs.Word.{rfuUnit, droppedIn, wordTelling}
 use borrow.Author.Needs.{needs}
-use Rattle.words.proofs.telling.Statement.{statement}
-use Rattle.words.proofs.telling.Tie as tie
+use Rattle.call_word.proofs.telling.Statement.{statement}
+use Rattle.call_word.proofs.telling.Tie as tie
 
 choose-requires : tie.Need-choose-requires
 choose-requires c κs = search needs
@@ -21,7 +21,7 @@ add-result c = search needs
 
 returns : tie.Need-returns
 unfolding wordTelling droppedIn
-returns c = ap (λ (n : ℕ). c .before .args .w % 281474976710656 + n * 281474976710656) (c .choose .ensures)
+returns c = ap (λ (n : ℕ). c .before .args .w % rfuUnit + n * rfuUnit) (c .choose .ensures)
 
 pub telling-spec : {M : Type 1} → statement M
 telling-spec = tie.close (tie.spec choose-requires cast-result mul-result add-result returns)

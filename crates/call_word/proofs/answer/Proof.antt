@@ -1,12 +1,12 @@
--- `words::answer` meets its contract: each part has its own bits.
+-- `call_word::answer` meets its contract: each part has its own bits.
 -- Assumes nothing.
 use native.Mathlib.Omega.{arith}
 use Rattle.record.specs.Layout.{bit}
 use Rattle.calls.specs.Word.{wordOf}
 use Rattle.calls.proofs.Words.{bit-least}
 use borrow.Author.Needs.{needs}
-use Rattle.words.proofs.answer.Statement.{statement}
-use Rattle.words.proofs.answer.Tie as tie
+use Rattle.call_word.proofs.answer.Statement.{statement}
+use Rattle.call_word.proofs.answer.Tie as tie
 
 cast-result : tie.Need-cast-result
 cast-result c = search needs

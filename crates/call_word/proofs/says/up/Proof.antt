@@ -1,10 +1,10 @@
--- `sheet::word::up` meets its contract.
+-- `call_word::says::up` meets its contract.
 -- Assumes nothing.
 use mathlib.Core.Path.{refl}
 use Rattle.calls.specs.Word.{upIn}
 use borrow.Author.Needs.{needs}
-use Rattle.sheet.proofs.word.up.Statement.{statement}
-use Rattle.sheet.proofs.word.up.Tie as tie
+use Rattle.call_word.proofs.says.up.Statement.{statement}
+use Rattle.call_word.proofs.says.up.Tie as tie
 
 cast-result : tie.Need-cast-result
 cast-result c = search needs

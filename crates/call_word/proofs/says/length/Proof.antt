@@ -1,9 +1,9 @@
--- `sheet::word::length` meets its contract.
+-- `call_word::says::length` meets its contract.
 -- Assumes nothing.
 use mathlib.Core.Path.{refl}
 use Rattle.calls.specs.Word.{lengthIn}
-use Rattle.sheet.proofs.word.length.Statement.{statement}
-use Rattle.sheet.proofs.word.length.Tie as tie
+use Rattle.call_word.proofs.says.length.Statement.{statement}
+use Rattle.call_word.proofs.says.length.Tie as tie
 
 returns : tie.Need-returns
 unfolding lengthIn

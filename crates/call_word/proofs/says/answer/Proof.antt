@@ -1,10 +1,10 @@
--- `sheet::word::answer` meets its contract.
+-- `call_word::says::answer` meets its contract.
 -- Assumes nothing.
 use mathlib.Core.Path.{sym}
-use Rattle.sheet.proofs.Showing.{number-answer}
+use Rattle.calls.proofs.Words.{number-answer}
 use borrow.Author.Needs.{needs}
-use Rattle.sheet.proofs.word.answer.Statement.{statement}
-use Rattle.sheet.proofs.word.answer.Tie as tie
+use Rattle.call_word.proofs.says.answer.Statement.{statement}
+use Rattle.call_word.proofs.says.answer.Tie as tie
 
 cast-result : tie.Need-cast-result
 cast-result c = search needs

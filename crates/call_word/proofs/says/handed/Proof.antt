@@ -1,9 +1,9 @@
--- `sheet::word::handed` meets its contract.
+-- `call_word::says::handed` meets its contract.
 -- Assumes nothing.
 use mathlib.Core.Path.{refl}
 use Rattle.calls.specs.Word.{handedIn}
-use Rattle.sheet.proofs.word.handed.Statement.{statement}
-use Rattle.sheet.proofs.word.handed.Tie as tie
+use Rattle.call_word.proofs.says.handed.Statement.{statement}
+use Rattle.call_word.proofs.says.handed.Tie as tie
 
 returns : tie.Need-returns
 unfolding handedIn

@@ -1,10 +1,10 @@
--- `sheet::word::down` meets its contract.
+-- `call_word::says::down` meets its contract.
 -- Assumes nothing.
 use mathlib.Core.Path.{refl}
 use Rattle.calls.specs.Word.{downIn}
 use borrow.Author.Needs.{needs}
-use Rattle.sheet.proofs.word.down.Statement.{statement}
-use Rattle.sheet.proofs.word.down.Tie as tie
+use Rattle.call_word.proofs.says.down.Statement.{statement}
+use Rattle.call_word.proofs.says.down.Tie as tie
 
 cast-result : tie.Need-cast-result
 cast-result c = search needs
