@@ -316,7 +316,8 @@ uint64_t nci_packet(const uint8_t *area, size_t area_len, uint8_t *out, size_t o
  *   5 to 8   1 if a command is unanswered, then its GID, its OID, and the Conn ID that it
  *            names: the low four bits of its payload's first octet, which say something
  *            of CORE_CONN_CLOSE alone; else four octets 0;
- *   9, 10    packets on the down wire, packets on the up wire;
+ *   9        packets on the down wire;
+ *   10       packets on the up wire;
  *   11       1 if the endpoint has a message in hand;
  *   12 to 26 for each of connections 0, 2, 3, 4 and 5, in this order, three octets: 1 if it
  *            is open at the host, 1 if it is open at the controller, 1 if a message is in
