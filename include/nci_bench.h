@@ -313,15 +313,15 @@ uint64_t nci_packet(const uint8_t *area, size_t area_len, uint8_t *out, size_t o
  *            4 POLL_ACTIVE, 5 LISTEN_ACTIVE, 6 LISTEN_SLEEP; then, in W4_HOST_SELECT if a
  *            selection was accepted, 1, its ID and its protocol; in POLL_ACTIVE and
  *            LISTEN_ACTIVE the ID, the protocol and the mode; else three octets 0;
- *   5 to 8   1 if a command is unanswered, then its GID, its OID, and the Conn ID that it
- *            names: the low four bits of its payload's first octet, which say something
- *            of CORE_CONN_CLOSE alone; else four octets 0;
+ *   5 to 8   1 if a command is unanswered, then its GID, its OID, and the low four bits of
+ *            its payload's first octet, 1 if the payload is empty: the Conn ID that
+ *            CORE_CONN_CLOSE names; else four octets 0;
  *   9        packets on the down wire;
  *   10       packets on the up wire;
  *   11       1 if the endpoint has a message in hand;
  *   12 to 26 for each of connections 0, 2, 3, 4 and 5, in this order, three octets: 1 if it
- *            is open at the host, 1 if it is open at the controller, 1 if a message is in
- *            hand at the host.
+ *            is open at the host, 1 if it is open at the controller, 1 if it is open at the
+ *            host and a message is in hand there.
  * What is not so is 0. No refusal of its own. */
 uint64_t nci_state(const uint8_t *area, size_t area_len, uint8_t *out, size_t out_len);
 

@@ -26,7 +26,7 @@ use Rattle.calls.specs.Word.{wordOf}
 use Rattle.calls.specs.Outcome.{Outcome, decided, entryRules, called}
 use Rattle.calls.specs.Refines.{Good}
 use Rattle.calls.specs.Packet.{handedBy}
-use Rattle.calls.specs.Look.{trafficLook, connsLook, lookOf, lookSize, looked, stateCall, trafficSaid, connsSaid, stateSaid, Says}
+use Rattle.calls.specs.Look.{trafficLook, inHand, connsLook, lookOf, lookSize, looked, stateCall, trafficSaid, connsSaid, stateSaid, Says}
 use Rattle.calls.proofs.Called.{enters, called-own, sound-area}
 use Rattle.calls.proofs.Words.{word-handed, word-length}
 
@@ -75,7 +75,7 @@ traffic-said a r f = λ i.
     ∷ []
 
 conns-said : (a : Octets) (r : Record) → connsLook (r .ends .conns) ≡ connsSaid (view a r)
-unfolding connsLook placeOf
+unfolding connsLook inHand placeOf
 conns-said a r = simp (hand-some)
 
 look-said : (a : Octets) (r : Record) → Fit r → lookOf r ≡ stateSaid (view a r)

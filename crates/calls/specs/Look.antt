@@ -2,11 +2,11 @@
 -- Assumes nothing.
 use Prim.Native.Nat.{ℕ, _≤_}
 use mathlib.Core.Path.{_≡_}
-use mathlib.Core.Bool.{true, false, not}
+use mathlib.Core.Bool.{true, false, not, _&&_}
 use mathlib.Core.List.{List, [], _∷_, _++_}
 use lib.ListN.{length, getD}
 use Rattle.octets.specs.Octets.{Octets, splice}
-use Rattle.calls.specs.Kinds.{Counts, Record}
+use Rattle.calls.specs.Kinds.{HostSide, Counts, Record}
 use Rattle.state.specs.Conn.{closedCounts}
 use Rattle.area.specs.Map.{messageSize}
 use Rattle.record.specs.Layout.{low, bit}
@@ -26,9 +26,13 @@ use Rattle.calls.specs.Packet.{handedBy}
 abbrev pub trafficLook : Record → Octets
 trafficLook r = low (r .down .count) ∷ low (r .up .count) ∷ bit (r .ends .endpoint .full) ∷ []
 
--- of a connection: open at the host, open at the controller, a message in hand at the host
+-- a message in hand at the host; where the connection is not open there, none counts
+unfoldable pub inHand : HostSide → ℕ
+inHand h = bit (h .opened && h .hand .full)
+
+-- of a connection: open at the host, open at the controller, a message in hand
 abbrev pub countsLook : Counts → Octets
-countsLook k = bit (k .host .opened) ∷ bit (k .controller .opened) ∷ bit (k .host .hand .full) ∷ []
+countsLook k = bit (k .host .opened) ∷ bit (k .controller .opened) ∷ inHand (k .host) ∷ []
 
 abbrev pub lookIn : List Counts → ℕ → Octets
 lookIn l p = countsLook (getD l p closedCounts)
@@ -64,7 +68,7 @@ abbrev pub trafficSaid : State → Octets
 trafficSaid s = length (s .down) ∷ length (s .up) ∷ bit (not (isNil (s .conns 0 .controller .speech))) ∷ []
 
 abbrev pub connSaid : State → ℕ → Octets
-connSaid s c = bit (isHeld s c) ∷ bit (isOpen s c) ∷ bit (not (isNil (s .conns c .host .hand))) ∷ []
+connSaid s c = bit (isHeld s c) ∷ bit (isOpen s c) ∷ bit (isHeld s c && not (isNil (s .conns c .host .hand))) ∷ []
 
 abbrev pub connsSaid : State → Octets
 connsSaid s = connSaid s 0 ++ connSaid s 2 ++ connSaid s 3 ++ connSaid s 4 ++ connSaid s 5
