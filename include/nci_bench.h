@@ -114,6 +114,17 @@ extern "C" {
 #define NCI_WIRE_DOWN 0u /* to the controller */
 #define NCI_WIRE_UP 1u   /* to the host */
 
+/* ---- the message of nci_state: how many octets, and where each part of it starts */
+
+#define NCI_STATE_SIZE 27u     /* octets in all */
+#define NCI_STATE_PHASE 0u     /* the controller's phase */
+#define NCI_STATE_RF 1u        /* the RF state, four octets */
+#define NCI_STATE_PENDING 5u   /* the unanswered command, four octets */
+#define NCI_STATE_DOWN 9u      /* packets on the down wire */
+#define NCI_STATE_UP 10u       /* packets on the up wire */
+#define NCI_STATE_ENDPOINT 11u /* the endpoint's message in hand */
+#define NCI_STATE_CONNS 12u    /* three octets for each of connections 0, 2, 3, 4, 5 */
+
 /* ---- kinds of air events: the first octet of nci_air's event */
 
 #define NCI_AIR_FOUND 1u
@@ -294,6 +305,25 @@ uint64_t nci_report(uint8_t *area, size_t area_len, uint8_t *out, size_t out_len
  * Refusals in order: 3, if the wire is over 1; 8, if the wire has no such packet. */
 uint64_t nci_packet(const uint8_t *area, size_t area_len, uint8_t *out, size_t out_len, uint8_t wire,
                     uint8_t back);
+
+/* What is going on, handed out as a message of 27 octets; the names NCI_STATE_.. say where
+ * each part of it starts:
+ *   0        the controller's phase: 0 before its first RESET, 1 after a RESET, 2 after INIT;
+ *   1 to 4   the RF state: 0 IDLE, 1 DISCOVERY, 2 W4_ALL_DISCOVERIES, 3 W4_HOST_SELECT,
+ *            4 POLL_ACTIVE, 5 LISTEN_ACTIVE, 6 LISTEN_SLEEP; then, in W4_HOST_SELECT if a
+ *            selection was accepted, 1, its ID and its protocol; in POLL_ACTIVE and
+ *            LISTEN_ACTIVE the ID, the protocol and the mode; else three octets 0;
+ *   5 to 8   1 if a command is unanswered, then its GID, its OID, and the low four bits of
+ *            its payload's first octet, 1 if the payload is empty: the Conn ID that
+ *            CORE_CONN_CLOSE names; else four octets 0;
+ *   9        packets on the down wire;
+ *   10       packets on the up wire;
+ *   11       1 if the endpoint has a message in hand;
+ *   12 to 26 for each of connections 0, 2, 3, 4 and 5, in this order, three octets: 1 if it
+ *            is open at the host, 1 if it is open at the controller, 1 if it is open at the
+ *            host and a message is in hand there.
+ * What is not so is 0. No refusal of its own. */
+uint64_t nci_state(const uint8_t *area, size_t area_len, uint8_t *out, size_t out_len);
 
 /* ---- what needs no bench */
 

@@ -105,8 +105,12 @@ def model_orders(texts):
         begins = definition(octets, f"{call}Call").split()[0]
         first = (outcome, "entryRules") if begins == "called" else (octets, "roomRules")
         orders[call] = rules_in(definition(*first)) + rules_in(body)
-    packet, read = texts["crates/calls/specs/Packet.antt"], texts["crates/calls/specs/Read.antt"]
+    packet, look, read = (texts[f"crates/calls/specs/{name}.antt"] for name in ("Packet", "Look", "Read"))
+    begins, rules = definition(look, "stateCall").split()[:2]
+    if begins != "called":
+        raise LookupError(f"state begins with {begins}")
     orders["packet"] = rules_in(definition(outcome, "entryRules")) + rules_in(definition(packet, "packetRules"))
+    orders["state"] = rules_in(definition(outcome, "entryRules")) + rules_in(rules)
     orders["read"] = [Refusal(int(n)) for n in re.findall(r"refused (\d+)", definition(read, "foundOf"))]
     return {call: [once(numbers) for numbers in by_kind(refusals)] for call, refusals in orders.items()}
 
@@ -170,7 +174,8 @@ def second_orders(texts):
 # ---- what is compared
 
 MODEL_FILES = [
-    *(f"crates/{name}.antt" for name in ("model/specs/Bench", "calls/specs/Outcome", "calls/specs/Packet", "calls/specs/Read")),
+    "crates/model/specs/Bench.antt",
+    *(f"crates/calls/specs/{name}.antt" for name in ("Outcome", "Packet", "Look", "Read")),
     *(str(path.relative_to(ROOT)) for folder in (MODEL_CALLS, OCTET_CALLS) for path in sorted((ROOT / folder).glob("*.antt"))),
 ]
 SECOND_FILES = ["second/src/call.rs", "second/src/trial.rs"]
@@ -181,13 +186,14 @@ SOURCES = [
     Source("the header", ["include/nci_bench.h"], header_orders, (".+", r"(?:order: |; |^ \*   )(\d+),\s")),
     Source("the second implementation", SECOND_FILES, second_orders, (r"REFUSALS_OF: .*?\n\];", r"(?<=[\[ ])(\d+)(?=[,\]])")),
 ]
-# the reader of a wire's packets is no call of the sheet: neither the card nor the second implementation has it
-WITHOUT_PACKET = {"the card", "the second implementation"}
+# what only looks is no call of the sheet: neither the card nor the second implementation has it
+LOOKS = {"packet", "state"}
+WITHOUT_LOOKS = {"the card", "the second implementation"}
 
 
 def due(source, table):
     """What a source is to say."""
-    calls = {call: refusals for call, refusals in table.items() if call != "packet" or source.name not in WITHOUT_PACKET}
+    calls = {call: refusals for call, refusals in table.items() if call not in LOOKS or source.name not in WITHOUT_LOOKS}
     if source.orders is second_orders:
         return {call: [own(refusals)] for call, refusals in calls.items()}
     return {call: by_kind(refusals) for call, refusals in calls.items()}

@@ -6,6 +6,7 @@ use exam_bench::call::{Call, Outcome};
 use exam_bench::connection::CONN_IDS;
 use exam_bench::packet::Way;
 use exam_bench::player::Random;
+use exam_bench::state;
 use exam_bench::trial::grants::{self, Source, Sum};
 use exam_bench::trial::Tally;
 
@@ -257,8 +258,8 @@ impl Both {
         }
     }
 
-    /// The bench that the call left, the packets that it put and the five numbers of
-    /// each connection. After a refusal the octets are as they were, and need no look.
+    /// The bench that the call left, the packets that it put, the five numbers of each
+    /// connection and what is going on. After a refusal the octets are as they were, and need no look.
     fn look(&mut self, outcome: &Outcome) -> Result<(), String> {
         if !outcome.taken() {
             return Ok(());
@@ -275,10 +276,10 @@ impl Both {
         for conn in CONN_IDS {
             self.report(conn)?;
         }
-        self.lent.unchanged()
+        self.state()
     }
 
-    /// A damaged record shows no packet and no numbers.
+    /// A damaged record shows no packet, no numbers and not what is going on.
     fn look_refused(&mut self) -> Result<(), String> {
         let mut words = Vec::new();
         for conn in CONN_IDS {
@@ -287,6 +288,7 @@ impl Both {
         for wire in [DOWN, UP] {
             words.push(self.lent.packet(wire, 0, self.room)?.word);
         }
+        words.push(self.lent.state(self.room)?.word);
         self.looks += words.len() as u64;
         check(words.iter().all(|word| *word == RECORD_DAMAGED), || {
             format!("looks at a damaged record: words {words:x?}")
@@ -325,6 +327,20 @@ impl Both {
             let seen = self.lent.packet(wire, 0, self.room)?;
             check(seen.word == 3, || format!("packet of wire {wire}: word {:#x}", seen.word))?;
         }
+        self.lent.unchanged()
+    }
+
+    /// What is going on, or why it is not said.
+    pub fn state(&mut self) -> Result<(), String> {
+        self.looks += 1;
+        let seen = self.lent.state(self.room)?;
+        let outcome = match &self.second {
+            Some(second) => Outcome { message: Some(state::octets(second)), ..Outcome::default() },
+            None => Outcome { answer: RECORD_DAMAGED as u8, ..Outcome::default() },
+        };
+        check(seen.word == word::of(&outcome) && seen.message == outcome.message, || {
+            format!("state: {seen:02X?} for {outcome:02X?}")
+        })?;
         self.lent.unchanged()
     }
 

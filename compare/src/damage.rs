@@ -154,10 +154,11 @@ impl Damage {
         }
     }
 
-    /// Every call on this bench, and if it passes for sound each connection's own where
-    /// that is asked.
+    /// What is going on on this bench, then every call on it, and if it passes for sound
+    /// each connection's own where that is asked.
     fn try_bench(&mut self, octets: &[u8], each_conn: bool) -> Result<(), String> {
         self.after.both.put(octets);
+        self.after.both.state()?;
         self.benches += 1;
         let passed = self.after.both.second.is_some();
         self.passed += u64::from(passed);

@@ -33,6 +33,7 @@ extern "C" {
     fn nci_up(area: *mut u8, n: usize, out: *mut u8, m: usize) -> u64;
     fn nci_report(area: *mut u8, n: usize, out: *mut u8, m: usize, conn: u8) -> u64;
     fn nci_packet(area: *const u8, n: usize, out: *mut u8, m: usize, wire: u8, back: u8) -> u64;
+    fn nci_state(area: *const u8, n: usize, out: *mut u8, m: usize) -> u64;
     fn nci_read(octets: *const u8, k: usize) -> u64;
 }
 
@@ -76,10 +77,24 @@ pub fn play(area: &mut [u8], out: &mut [u8], call: &Call, argument: &[u8]) -> u6
 
 /// Reads a packet that is on a wire.
 pub fn packet(area: &[u8], out: &mut [u8], wire: u8, back: u8) -> u64 {
-    let from = if area.is_empty() { std::ptr::null() } else { area.as_ptr() };
     let (n, m) = (area.len(), out.len());
     // SAFETY: the pointers and lengths are those of slices, which do not overlap.
-    unsafe { nci_packet(from, n, lent_mut(out), m, wire, back) }
+    unsafe { nci_packet(lent(area), n, lent_mut(out), m, wire, back) }
+}
+
+/// Says what is going on.
+pub fn state(area: &[u8], out: &mut [u8]) -> u64 {
+    let (n, m) = (area.len(), out.len());
+    // SAFETY: the pointers and lengths are those of slices, which do not overlap.
+    unsafe { nci_state(lent(area), n, lent_mut(out), m) }
+}
+
+fn lent(octets: &[u8]) -> *const u8 {
+    if octets.is_empty() {
+        std::ptr::null()
+    } else {
+        octets.as_ptr()
+    }
 }
 
 fn lent_mut(octets: &mut [u8]) -> *mut u8 {

@@ -93,6 +93,13 @@ impl Lent {
         seen(exports::packet(self.area.last(room.area), buffer, wire, back), buffer, self.mark)
     }
 
+    /// Asks what is going on, which only looks.
+    pub fn state(&mut self, room: Room) -> Result<Seen, String> {
+        self.lend(room);
+        let buffer = self.buffer.last(room.buffer);
+        seen(exports::state(self.area.last(room.area), buffer), buffer, self.mark)
+    }
+
     fn ask(&mut self, call: &Call, room: Room) -> Result<Seen, String> {
         self.lend(room);
         let argument = exports::argument(call);

@@ -26,6 +26,14 @@ fn packet(lent: &mut Lent, wire: u8, back: u8) -> Vec<u8> {
     lent.packet(wire, back, Room::EXACT).unwrap().message.expect("there is one")
 }
 
+/// What is going on. The area stays.
+fn state(lent: &mut Lent) -> Vec<u8> {
+    let seen = lent.state(Room::EXACT).unwrap();
+    assert_eq!(seen.word, 1 << 9 | 27 << 16);
+    lent.unchanged().unwrap();
+    seen.message.expect("27 octets")
+}
+
 /// A controller that is brought up, an open loopback and an activation.
 fn opened() -> Lent {
     let mut lent = Lent::default();
@@ -63,6 +71,8 @@ fn each_export_once() {
     taken(&mut lent, Call::Credit);
     assert_eq!(packet(&mut lent, UP, 0), [0x60, 6, 3, 1, 0, 1]);
     taken(&mut lent, Call::Air(vec![8, 9]));
+    let open = [1, 1, 0, 1, 1, 0, 0, 0, 0, 0, 0, 0, 0, 0, 0];
+    assert_eq!(state(&mut lent), [&[2, 4, 1, 4, 0, 0, 0, 0, 0, 0, 3, 1][..], &open].concat());
     taken(&mut lent, Call::Reply);
     assert_eq!(packet(&mut lent, UP, 0), [0, 0, 1, 9]);
     let handed: Vec<_> = (0..4).map(|_| taken(&mut lent, Call::Up).message).collect();
@@ -94,6 +104,7 @@ fn a_short_area_comes_first_then_the_record_then_the_buffer() {
                     assert_eq!(lent.call(call, Room { area, buffer }).unwrap().word, 2);
                 }
                 assert_eq!(lent.packet(9, 9, Room { area, buffer }).unwrap().word, 2);
+                assert_eq!(lent.state(Room { area, buffer }).unwrap().word, 2);
             }
         }
         for buffer in [0, 1, 1023] {
@@ -102,6 +113,7 @@ fn a_short_area_comes_first_then_the_record_then_the_buffer() {
                 assert_eq!(lent.call(call, Room { area: AREA, buffer }).unwrap().word, due);
             }
             assert_eq!(lent.packet(9, 9, Room { area: AREA, buffer }).unwrap().word, due);
+            assert_eq!(lent.state(Room { area: AREA, buffer }).unwrap().word, due);
         }
     }
 }

@@ -1,6 +1,7 @@
 //! Benches that no list of calls makes, by hand.
 
 use compare::both::Both;
+use compare::lent::Room;
 use compare::record::{self, RECORD_AT, SLOT, STORES_AT, STORE_SLOTS, UP_AT};
 use exam_bench::call::Call;
 use exam_bench::connection::CONN_IDS;
@@ -20,6 +21,9 @@ fn numbers(place: usize) -> usize {
 const HOST_GRANT: usize = 2;
 const CONTROLLER_GRANT: usize = 13;
 const STORE_HEAD: usize = 15;
+
+/// And whether a message is in hand at the host.
+const HOST_HAND: usize = 4;
 
 /// Where it has the RF state, and the pairs with their count.
 const RF: usize = RECORD_AT + 24;
@@ -259,4 +263,22 @@ fn a_ninth_pair_is_refused() {
         both.step(&Call::Air(event.to_vec())).unwrap();
         assert_eq!(both.tally.refusals(11) - before, u64::from(answer == 11), "{pairs} pairs, {event:?}");
     }
+}
+
+/// What a record has besides is not said: a message in hand where the host has the connection
+/// closed, octets after an RF state that has none, a command that is answered.
+#[test]
+fn a_state_says_what_counts() {
+    let mut both = active();
+    let mut octets = both.lent.octets().to_vec();
+    octets[RF] = W4_ALL_DISCOVERIES;
+    octets[RECORD_AT + 12..][..4].copy_from_slice(&[0, 5, 6, 7]);
+    octets[numbers(1) + HOST_HAND] = 1;
+    octets[numbers(2) + CONTROLLER_GRANT - 1] = 1;
+    both.put(&octets);
+    both.state().unwrap();
+    let mut due = [0; 27];
+    due[..2].copy_from_slice(&[2, W4_ALL_DISCOVERIES]);
+    due[12..].copy_from_slice(&[1, 1, 0, 0, 0, 0, 0, 1, 0, 0, 0, 0, 0, 0, 0]);
+    assert_eq!(both.lent.state(Room::EXACT).unwrap().message.unwrap(), due);
 }

@@ -11,7 +11,7 @@
 //! IDs of connections, `air` the argument of the call air; `controller` and
 //! `host` are the two ends; `counts` has what report counts on the wires; `call`
 //! and `bench` join the ends by the twelve calls, and have read, which needs neither;
-//! `sheet` is the text front end. `observer` holds demand 3's account and that of
+//! `state` says what is going on in octets, `sheet` is the text front end. `observer` holds demand 3's account and that of
 //! messages in hand, which see the twelve calls and their outcomes alone, `player` deals
 //! random lists of calls, `trial` plays them, checks each call and counts what was met,
 //! with `trial::grants` for credits past a grant, and `bad_line` makes the lines of a
@@ -33,4 +33,5 @@ pub mod packet;
 pub mod player;
 pub mod profile;
 pub mod sheet;
+pub mod state;
 pub mod trial;

@@ -1,7 +1,7 @@
 /* Damaged benches from C, for the sanitizers and for valgrind: octets of a bench are changed
  * at random and every export is called on it, with slices of their own in the heap.
  * `damaged [CALLS] [SEED]`. A refusal changes no octet, a taken call none of the buffer past
- * its message, nci_read none at all; reserved bits are shown only where nothing was dropped.
+ * its message, nci_read and nci_state none of the area; reserved bits are shown only where nothing was dropped.
  * Prints the calls made, those taken and those that showed such bits; returns 1 if something
  * does not hold. */
 #include "nci_bench.h"
@@ -17,7 +17,7 @@ static uint64_t state;
 static uint8_t *area, *before, *warm, *out;
 static unsigned long calls, taken, reserved;
 
-enum { READ = 12, FRESH = 13 }; /* of the exports by number */
+enum { STATE = 12, READ = 13, FRESH = 14 }; /* of the exports by number */
 
 static uint64_t number(void) { /* splitmix64 */
     uint64_t mixed = state += 0x9E3779B97F4A7C15u;
@@ -60,7 +60,7 @@ static uint64_t play_read(void) {
     return word;
 }
 
-/* One of the fourteen exports. */
+/* One of the fifteen exports. */
 static uint64_t play(unsigned which) {
     static const uint8_t known[][2] = {{0, 0}, {0, 1}, {0, 4}, {0, 5}, {1, 3}, {1, 4}, {1, 6}};
     const uint8_t *command = known[below(7)];
@@ -81,6 +81,7 @@ static uint64_t play(unsigned which) {
     case 9: word = nci_up(area, n, out, m); break;
     case 10: word = nci_report(area, n, out, m, conn); break;
     case 11: word = nci_packet(area, n, out, m, wire, back); break;
+    case STATE: word = nci_state(area, n, out, m); break;
     case READ: word = play_read(); break;
     default: word = play_fresh(); break;
     }
@@ -98,7 +99,7 @@ static int step(unsigned which) {
     calls++;
     reserved += nci_word_rfu(word) != 0;
     if (nci_word_rfu(word) != 0 && nci_word_dropped(word)) return 1;
-    if (which == READ && memcmp(before, area, NCI_AREA_SIZE + PAST) != 0) return 1;
+    if ((which == READ || which == STATE) && memcmp(before, area, NCI_AREA_SIZE + PAST) != 0) return 1;
     if (nci_word_answer(word) == NCI_TAKEN) {
         taken++;
         first = nci_word_length(word);

@@ -41,6 +41,14 @@ static int handed(uint64_t word, const uint8_t *octets, size_t len) {
            memcmp(out, octets, len) == 0;
 }
 
+/* What is going on: the octets before those of connections, then these three connections. */
+static int is_state(const uint8_t *first, const uint8_t *conns) {
+    uint8_t all[NCI_STATE_SIZE] = {0};
+    memcpy(all, first, NCI_STATE_CONNS);
+    memcpy(all + NCI_STATE_CONNS, conns, 9);
+    return handed(nci_state(BENCH), all, sizeof all);
+}
+
 /* Five octets, eleven that mean the same, and eleven with a pair for each: 2 is tight, 3 loose. */
 static const uint8_t five[NCI_PROFILE_SIZE] = {0x20, 4, 2, 4, 1};
 static const uint8_t equal[NCI_LONG_PROFILE_SIZE] = {0x20, 4, 2, 4, 2, 4, 2, 4, 2, 4, 1};
@@ -105,6 +113,8 @@ static int side_by_side(void) {
     HOLDS(nci_push(BENCH, 2) == NCI_NO_CREDIT);
     HOLDS(put(nci_push(BENCH, 3), 1, 0) && is_packet(NCI_WIRE_DOWN, 0, whole, sizeof whole));
     HOLDS(handed(nci_report(BENCH, 2), tight, sizeof tight) && handed(nci_report(BENCH, 3), loose, sizeof loose));
+    HOLDS(nci_word_handed_out(nci_state(BENCH)) && out[NCI_STATE_PHASE] == 2 && out[NCI_STATE_DOWN] == 2);
+    HOLDS(out[NCI_STATE_CONNS + 5] == 1 && out[NCI_STATE_CONNS + 8] == 0);
     return 0;
 }
 
@@ -141,12 +151,14 @@ static int tell(void) {
 static int speak(void) {
     static const uint8_t modes[] = {1, 0, 1}, poll[] = {NCI_AIR_POLL, 1, 4, 0}, says[] = {NCI_AIR_MESSAGE};
     static const uint8_t bare[] = {0, 1, 0}, notice[] = {0x60, 6, 3, 1, 0, 1};
+    static const uint8_t active[] = {2, 4, 1, 4, 0, 0, 0, 0, 0, 0, 0, 1}, both[] = {1, 1, 0, 1, 1, 0, 0, 0, 0};
     HOLDS(put(nci_command(BENCH, 1, 3, modes, sizeof modes), 1, 0));
     HOLDS(put(nci_down(BENCH), 0, 1) && put(nci_up(BENCH), 0, 0));
     HOLDS(put(nci_air(BENCH, poll, sizeof poll), 0, 1) && put(nci_up(BENCH), 0, 0));
     HOLDS(tell() == 0 && put(nci_credit(BENCH), 0, 1));
     HOLDS(is_packet(NCI_WIRE_UP, 0, notice, sizeof notice) && put(nci_up(BENCH), 0, 0));
     HOLDS(tell() == 0 && put(nci_air(BENCH, says, sizeof says), 0, 0));
+    HOLDS(is_state(active, both) && out[NCI_STATE_RF] == 4 && out[NCI_STATE_ENDPOINT] == 1);
     HOLDS(put(nci_reply(BENCH), 0, 1) && is_packet(NCI_WIRE_UP, 0, bare, sizeof bare));
     HOLDS(handed(nci_up(BENCH), bare, 0));
     return 0;
@@ -173,18 +185,22 @@ static int read_alone(void) {
 /* Slices of no octets, too few octets, and what is refused for other reasons. */
 static int refuse(void) {
     static const uint8_t two[] = {2};
+    static const uint8_t closing[] = {2, 4, 1, 4, 0, 1, 0, 5, 2, 1, 0, 0}, in_hand[] = {1, 1, 0, 1, 1, 1, 0, 0, 0};
     HOLDS(nci_power(NULL, 0, out, sizeof out) == NCI_TOO_SHORT);
     HOLDS(nci_power(area, NCI_AREA_SIZE - 1, out, sizeof out) == NCI_TOO_SHORT);
     HOLDS(nci_power(area, NCI_AREA_SIZE, NULL, 0) == NCI_TOO_SHORT);
+    HOLDS(nci_state(NULL, 0, out, sizeof out) == NCI_TOO_SHORT && nci_state(area, NCI_AREA_SIZE, NULL, 0) == NCI_TOO_SHORT);
     HOLDS(nci_packet(BENCH, 2, 0) == NCI_OUTSIDE_LIMIT && nci_packet(BENCH, 0, 0) == NCI_NOTHING_TO_MOVE);
     HOLDS(nci_send(BENCH, 3, NULL, 0) == NCI_NOT_OPEN && nci_send(BENCH, 1, NULL, 0) == NCI_OUTSIDE_LIMIT);
     HOLDS(put(nci_send(BENCH, 2, NULL, 0), 0, 0) && nci_send(BENCH, 2, NULL, 0) == NCI_IN_HAND);
     HOLDS(put(nci_command(BENCH, 0, 5, two, sizeof two), 1, 0));
     HOLDS(nci_send(BENCH, 3, NULL, 0) == NCI_SEND_CLOSING && nci_push(BENCH, 2) == NCI_CLOSING);
+    HOLDS(is_state(closing, in_hand) && out[NCI_STATE_PENDING] == 1 && out[NCI_STATE_UP] == 0);
     HOLDS(put(nci_power(BENCH), 0, 0) && nci_push(BENCH, 2) == NCI_NOT_OPEN);
     HOLDS(nci_fresh(BENCH, NULL, 0) == NCI_OUTSIDE_LIMIT && nci_air(BENCH, NULL, 0) == NCI_OUTSIDE_LIMIT);
     area[NCI_AREA_SIZE - 512] = 0;
     HOLDS(nci_down(BENCH) == NCI_RECORD_DAMAGED && nci_packet(BENCH, 0, 0) == NCI_RECORD_DAMAGED);
+    HOLDS(nci_state(BENCH) == NCI_RECORD_DAMAGED);
     HOLDS(strcmp(nci_card(NCI_NOTHING_TO_MOVE), "there is nothing to move") == 0);
     HOLDS(strcmp(nci_card(13), "no answer of the bench") == 0 && strcmp(nci_card(16), nci_card(13)) == 0);
     HOLDS(area[NCI_AREA_SIZE] == 0x5A);

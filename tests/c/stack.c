@@ -40,6 +40,7 @@ static void move_to(uint8_t conn) {
         count(nci_credit(BENCH));
         count(nci_report(BENCH, conn));
         count(nci_packet(BENCH, NCI_WIRE_UP, 0));
+        count(nci_state(BENCH));
         count(nci_up(BENCH));
     }
 }

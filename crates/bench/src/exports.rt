@@ -1,6 +1,7 @@
 // The calls as C makes them. Each takes any area, any buffer and any arguments, and answers its effect or one number.
 use crate::entry::enter;
 use call_bench::fresh;
+use call_bench::look;
 use call_bench::packet;
 use call_bench::power;
 use call_bench::read;
@@ -29,6 +30,7 @@ ghost use Rattle.calls.specs.calls.Up.{upCall};
 ghost use Rattle.calls.specs.calls.Air.{airCall};
 ghost use Rattle.calls.specs.calls.Report.{reportCall};
 ghost use Rattle.calls.specs.Packet.{packetCall};
+ghost use Rattle.calls.specs.Look.{stateCall};
 ghost use Rattle.calls.specs.Read.{readCall};
 
 // A new bench with a profile of five octets or eleven.
@@ -260,6 +262,21 @@ pub extern "C" fn nci_packet(area: &[u8], out: &mut [u8], wire: u8, back: u8) ->
         return n as u64;
     }
     packet::act(area, out, r, wire, back)
+}
+
+// What is going on: the controller's phase, the RF state, the unanswered command, packets on the wires, messages in hand and open
+// connections, for front ends that say it. It is none of the twelve calls.
+#[no_mangle]
+pub extern "C" fn nci_state(area: &[u8], out: &mut [u8]) -> u64
+    ensures { λ w. ⌜ outcome w (now (area .entry)) (now (out .exit)) ≡ stateCall (now (area .entry)) (now (out .entry)) ⌝ }
+{
+    let l = enter(area, out.len());
+    let entry = l.answer;
+    if entry != 0 {
+        return entry as u64;
+    }
+    let r = l.record;
+    look::act(out, r)
 }
 
 // Octets that are read as a packet going up, and nothing else, for front ends that show reserved bits. It is none of the twelve

@@ -15,6 +15,7 @@ pub mod Push
 pub mod FreshPower
 pub mod Report
 pub mod Packet
+pub mod Look
 pub mod Enter
 pub mod Send
 pub mod Credit

@@ -4,6 +4,7 @@ pub mod Outcome
 pub mod Seen
 pub mod Refines
 pub mod Packet
+pub mod Look
 pub mod Read
 pub mod calls
 pub mod Demand

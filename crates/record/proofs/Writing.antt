@@ -20,7 +20,7 @@ length-profile : (p : Profile) → length (profileOctets p) ≡ profileSize
 unfolding profileOctets
 length-profile p = refl
 
-length-pending : (p : Pending) → length (pendingOctets p) ≡ 4
+pub length-pending : (p : Pending) → length (pendingOctets p) ≡ 4
 unfolding pendingOctets
 length-pending pending.Nothing = refl
 length-pending (pending.Command a) = refl
@@ -33,7 +33,7 @@ length-run : (r : ControlRun) → length (controlRunOctets r) ≡ controlRunSize
 unfolding controlRunOctets
 length-run r = refl
 
-length-rf : (x : Rf) → length (rfOctets x) ≡ 4
+pub length-rf : (x : Rf) → length (rfOctets x) ≡ 4
 unfolding rfOctets
 length-rf Idle = refl
 length-rf Discovery = refl
@@ -78,7 +78,7 @@ length-encode r = simp (length-append, length-front, length-controller, length-m
 
 -- ---- stores, one after another
 
-next : (l : Octets) (at k : ℕ) (a b : Octets) → length a ≡ k → splice (splice l at a) (at + k) b ≡ splice l at (a ++ b)
+pub next : (l : Octets) (at k : ℕ) (a b : Octets) → length a ≡ k → splice (splice l at a) (at + k) b ≡ splice l at (a ++ b)
 next l at k a b e = ap (λ (n : ℕ). splice (splice l at a) (at + n) b) (sym e) ∙ splice-next l at a b
 
 module _ (l : Octets) (at : ℕ) where

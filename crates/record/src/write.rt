@@ -60,7 +60,7 @@ fn profile_octets(p: Profile) -> [u8; places::PROFILE_SIZE]
     ]
 }
 
-fn host_octets(h: Host) -> [u8; places::HOST_SIZE]
+pub fn host_octets(h: Host) -> [u8; places::HOST_SIZE]
     ensures { λ o. ⌜ o ≡ hostOctets h ⌝ }
 {
     let pending = h.pending;
@@ -83,7 +83,7 @@ fn run_octets(r: ControlRun) -> [u8; places::CONTROL_RUN_SIZE]
     ]
 }
 
-fn phase_octet(p: Phase) -> u8
+pub fn phase_octet(p: Phase) -> u8
     ensures { λ o. ⌜ o ≡ phaseOctet p ⌝ }
 {
     match p {
@@ -93,7 +93,7 @@ fn phase_octet(p: Phase) -> u8
     }
 }
 
-fn rf_octets(rf: Rf) -> [u8; 4]
+pub fn rf_octets(rf: Rf) -> [u8; 4]
     ensures { λ o. ⌜ o ≡ rfOctets rf ⌝ }
 {
     match rf {
