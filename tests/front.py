@@ -5,10 +5,11 @@ the next key is typed.
     front.py            builds it and runs all tests; the last line is 'front: N passed, M failed'
     front.py --built    leaves the building out
 
-A session with its answers is in tests/data/keys.txt, one with packets that have reserved bits at 1 in
-tests/data/forged-keys.txt; the second implementation's lists, typed as keys, have to give the same fields; the card has to
-be that of docs/CARD.md; any octets have to be answered line by line, also under the sanitizers and valgrind, where they are
-at hand."""
+A session with its answers is in tests/data/keys.txt, one in brief in tests/data/brief.txt, one with packets that have reserved
+bits at 1 in tests/data/forged-keys.txt; the second implementation's lists, typed as keys and as lines of the sheet, have to
+give the same fields; a log has to be answered by the sheet as its session was; what is lost has to be said; the card has to be
+that of docs/CARD.md; any octets have to be answered line by line, also under the sanitizers and valgrind, where they are at
+hand."""
 import os
 import pty
 import random
@@ -19,13 +20,13 @@ import subprocess
 import sys
 import tempfile
 import termios
+from itertools import zip_longest
 from pathlib import Path
 
-from programs import ROOT, Suite
+from programs import ROOT, Suite, built
 
 KEYS = ROOT / "build" / "keys"
-WORDS = ROOT / "front" / "words.c"
-SOURCES = [ROOT / "front" / "keys.c", WORDS]
+SOURCES = sorted((ROOT / "front").glob("*.c"))
 # the front end with a key that sets reserved bits of a packet on a wire
 FORGED_KEYS = ROOT / "tests" / "c" / "forged_keys.c"
 STRICT = ["-std=c99", "-Wall", "-Wextra", "-Wpedantic", "-Werror", f"-I{ROOT / 'include'}"]
@@ -39,6 +40,8 @@ NUMBERS = [*range(1, 13), 14, 15]
 HAS = "the card has numbers 0 to 12, 14 and 15; card 9: "
 # digits of a profile, one pair for connections 2 to 5 or one for each
 PROFILES = (10, 22)
+GROUPS = ["commands", "moves", "events", "bench", "speech"]
+CRLF = "keys: lines end in CRLF; lines of the sheet are to end in LF alone\n"
 # the most characters that are to be heard of a line, octets aside, and of a fresh that names each connection
 MOST_HEARD, MOST_OF_FRESH = 200, 300
 
@@ -48,7 +51,7 @@ CALLS = "fresh|power|command|send|push|down|consume|credit|air|reply|up|report|r
 ANSWERS = "|".join(map(str, [0, *NUMBERS]))
 LINE = re.compile(
     f"ev=(?:{CALLS}) ans=(?:{ANSWERS}) drop=[01] rfu=[0-9A-F]{{2}} pkt={HEX} msg=(?:-|{HEX}) {SAYS}"
-    f"|ev=bad ans=3 {SAYS}|ev=(?:card|help|quit) ans=0 {SAYS}"
+    f"|ev=bad ans=3 {SAYS}|ev=(?:octets|more|state|full|card|help|quit) ans=0 {SAYS}"
 )
 FIELDS = re.compile(
     f"ev=([a-z]+) ans=([0-9]+) drop=([01]) rfu=([0-9A-F]{{2}}) pkt=({HEX}) msg=(-|{HEX}) says=\"(.*)\""
@@ -73,16 +76,17 @@ class Silent(Exception):
 class Worked:
     """The program while it is worked, at a terminal or through pipes. A key without an answer is a failure and ends it."""
 
-    def __init__(self, suite, terminal, program=KEYS):
+    def __init__(self, suite, terminal, *command):
         self.suite = suite
+        command = command or [KEYS]
         if terminal:
             self.typing, behind = pty.openpty()
             plain(behind)
-            self.process = subprocess.Popen([program], stdin=behind, stdout=behind)
+            self.process = subprocess.Popen(command, stdin=behind, stdout=behind)
             os.close(behind)
             self.hearing = self.typing
         else:
-            self.process = subprocess.Popen([program], stdin=subprocess.PIPE, stdout=subprocess.PIPE, bufsize=0)
+            self.process = subprocess.Popen(command, stdin=subprocess.PIPE, stdout=subprocess.PIPE, bufsize=0)
             self.typing, self.hearing = self.process.stdin.fileno(), self.process.stdout.fileno()
 
     def __enter__(self):
@@ -126,8 +130,8 @@ def session(name="keys"):
     return [(key.removeprefix("> "), answer) for key, answer in zip(lines[::2], lines[1::2])]
 
 
-def check_session(suite, terminal, name="keys", program=KEYS):
-    with Worked(suite, terminal, program) as worked:
+def check_session(suite, terminal, name="keys", *command):
+    with Worked(suite, terminal, *command) as worked:
         for n, (key, answer) in enumerate(session(name), 1):
             where = f"{name} on a {'terminal' if terminal else 'pipe'}"
             suite.equal(f"{where}, key {n}, {key}", worked.press(key), answer)
@@ -137,8 +141,8 @@ def check_session(suite, terminal, name="keys", program=KEYS):
 def check_forged(suite, folder):
     """Calls from fresh put no reserved bits at 1, so down and up meet them here alone. What is said has every bit, and
     stays short."""
-    program = folder / "forged_keys"
-    suite.equal("forged keys", compiled(["gcc", *STRICT, FORGED_KEYS, WORDS, LIBRARY, "-o", program]), ("", 0))
+    program, others = folder / "forged_keys", [source for source in SOURCES if source.name != "keys.c"]
+    suite.equal("forged keys", compiled(["gcc", *STRICT, FORGED_KEYS, *others, LIBRARY, "-o", program]), ("", 0))
     check_session(suite, False, "forged-keys", program)
     for key, line in session("forged-keys"):
         fields = FIELDS.fullmatch(line)
@@ -303,6 +307,155 @@ def check_lists(suite, card):
     suite.equal("lists, every call", met >= {f"ev={call}" for call in CALLS.split("|")}, True)
 
 
+# ---- lines of the sheet, and the log
+
+
+def sheet_lines():
+    """The lists as lines of the sheet, and what is answered."""
+    lines = re.findall("^ev=.*$", (ROOT / "tests" / "data" / "lists.txt").read_text(), re.M)
+    return lines[::2], lines[1::2]
+
+
+def fields(lines):
+    """Lines of keys without their words."""
+    return [line.split(" says=")[0] for line in lines]
+
+
+def spoilt_lines(lines, count):
+    """Lines of the sheet with characters changed; what begins with ev= alone is meant for the sheet."""
+    rng = random.Random(SEED)
+    for _ in range(count):
+        line = list(rng.choice(lines))
+        for _ in range(rng.choice([0, 1, 1, 2])):
+            at = rng.randrange(3, len(line) + 1)
+            line[at:at + rng.randrange(2)] = rng.choice(["", " ", "0", "F", "a", "G", "=", "00", "down", "\r", "\0"])
+        yield "".join(line) + "00" * rng.choice([0] * 40 + [1050])
+
+
+def check_sheet(suite):
+    asked, answered = sheet_lines()
+    out, complaints, status = fed([KEYS], "\n".join(asked).encode())
+    suite.check("the sheet's lines", unlike(fields(out.splitlines()), answered))
+    suite.equal("the sheet's lines, exit status", (complaints, status), ("", 0))
+    lines = list(spoilt_lines(asked, 4000))
+    octets = "\n".join(lines).encode()
+    ours, theirs = fields(fed([KEYS], octets)[0].splitlines()), fed([built("paper")], octets)[0].splitlines()
+    wrong = [f"{line!r}: {one}, {other}" for line, one, other in zip_longest(lines, ours, theirs) if one != other]
+    suite.check("spoilt lines of the sheet", wrong, f"{len(lines)} lines")
+
+
+def unlike(lines, due):
+    """Lines that are not those due."""
+    return [f"line {n}: {one!r}, expected {other!r}" for n, (one, other) in enumerate(zip_longest(lines, due), 1) if one != other]
+
+
+def calls(lines):
+    return [line for line in fields(lines) if " drop=" in line]
+
+
+def check_log(suite, folder):
+    """Two sessions in one log, by keys and by lines of the sheet; the sheet answers it as they were answered."""
+    log = folder / "log"
+    keys = [key for key, _ in session() + session("brief") if key not in ("quit", "brief", "full", "again")]
+    first = fed([KEYS, "--log", log], "\n".join(keys).encode())[0].splitlines()
+    second = fed([KEYS, "--log", log], "\n".join(sheet_lines()[0]).encode())[0].splitlines()
+    start = "ev=fresh ans=0 drop=0 rfu=00 pkt= msg="
+    due = [start, *calls(first), start, *calls(second)]
+    for name, program in (("paper", built("paper")), ("keys", KEYS)):
+        suite.check(f"a log, answered by {name}", unlike(fields(fed([program], log.read_bytes())[0].splitlines()), due))
+    brief = folder / "brief"
+    fed([KEYS, "--brief", "--log", brief], "\n".join(keys).encode())
+    suite.check("a log in brief", unlike(brief.read_text().splitlines(), log.read_text().splitlines()[:len(calls(first)) + 1]))
+
+
+# ---- what is lost
+
+
+def ended(command, **streams):
+    """Complaints and exit status of a program that is given keys in a file."""
+    done = subprocess.run(command, stderr=subprocess.PIPE, timeout=SECONDS, **streams)
+    return done.stderr.decode(), done.returncode
+
+
+def check_lost(suite, folder):
+    """An answer that cannot be written, keys that cannot be read, a log that cannot be written: each is said."""
+    keys = folder / "keys.txt"
+    keys.write_text("reset\ndown\n")
+    for name, words, shell in [
+        ("a full disk", "the answer cannot be written: No space left on device", f"< '{keys}' > /dev/full"),
+        ("a closed output", "the answer cannot be written: Bad file descriptor", f"< '{keys}' >&-"),
+        ("a closed output and a log", "the answer cannot be written: Bad file descriptor", f"--log '{folder}/l' < '{keys}' >&-"),
+        ("a closed input", "the input cannot be read: Bad file descriptor", "<&- > /dev/null"),
+        ("a folder as input", "the input cannot be read: Is a directory", f"< '{folder}' > /dev/null"),
+        ("a log on a full disk", "the log /dev/full cannot be written: No space left on device", f"--log /dev/full < '{keys}' > /dev/null"),
+        ("a log in no folder", f"the log {folder}/no/log cannot be opened: No such file or directory",
+         f"--log '{folder}/no/log' < '{keys}' > /dev/null"),
+    ]:
+        suite.equal(name, ended(["bash", "-c", f"'{KEYS}' {shell}"]), (f"keys: {words}\n", 1))
+    suite.equal("a log that is not touched", (folder / "l").exists(), False)
+    for options in (["--log"], ["--loud"], ["--log", folder / "a", "--log", folder / "b"], ["keys.txt"]):
+        words, status = ended([KEYS, *options], stdin=subprocess.DEVNULL)
+        suite.holds(f"options {options}", words.startswith("keys: --brief and --log FILE are all") and status == 2, (words, status))
+
+
+def check_line_ends(suite):
+    keys = [key for key, _ in session("brief")]
+    one, other = fed([KEYS], "\n".join(keys).encode()), fed([KEYS], "\r\n".join(keys).encode())
+    suite.equal("no word of line ends", one[1:], ("", 0))
+    suite.equal("CRLF is said once", other[1:], (CRLF, 0))
+    changed = [key for key, a, b in zip(keys, one[0].splitlines(), other[0].splitlines()) if a != b]
+    suite.equal("keys with CRLF", {key[:3] for key in changed} - {"aga", "mor", "oct"}, {"ev="})
+
+
+# ---- the brief form
+
+
+PART = re.compile("(down|up|message|taken|typed|no more)(?: [0-9]+ of [0-9]+)?(?: of [0-9]+| from octet [0-9]+)?")
+WORDS = {word: f"{value:X}" for value, word in enumerate("alfa bravo charlie delta echo foxtrot".split(), 10)}
+
+
+def said_octets(lines):
+    """The octets of lines of octets and more, by the name of their part."""
+    parts = {}
+    for line in lines:
+        label, *octets = line.removesuffix(", more").split(", ")
+        part = PART.fullmatch(label)[1]
+        parts[part] = parts.get(part, "") + "".join(WORDS.get(digit, digit) for octet in octets for digit in octet.split())
+    return parts
+
+
+def check_octets(suite):
+    """What octets and more say is the packets, the message, and what was typed."""
+    keys = [key for key, _ in session() if key != "quit"] + [key for key, _ in lists()][:400]
+    for key, heard in zip(keys, all_octets(keys)):
+        line, said = heard[0], said_octets(heard[1:])
+        found = FIELDS.fullmatch(line)
+        if found is None:
+            continue
+        put = said.get("down", "") + said.get("up", "")
+        suite.holds(f"octets of {key}", (put, said.get("message", "")) == (found[5], found[6].strip("-")), (line, said))
+
+
+def all_octets(keys):
+    """Of each key its full line, then what octets and more say in brief, to the end."""
+    lines = [line for key in keys for line in ("full", key, "brief", "octets", *["more"] * 135)]
+    answers = fed([KEYS], "\n".join(lines).encode())[0].splitlines()
+    for start in range(0, len(answers), 139):
+        said = answers[start + 3:start + 139]
+        yield [answers[start + 1], *said[:next(i for i, line in enumerate(said) if not line.endswith(", more")) + 1]]
+
+
+def check_again(suite):
+    """again is the last answer, in either form."""
+    with Worked(suite, False) as full, Worked(suite, False, KEYS, "--brief") as brief:
+        for key, _ in session("brief"):
+            if key in ("quit", "full", "brief", "again"):
+                continue
+            one, other = full.press(key), brief.press(key)
+            heard = [full.press("again"), full.press("brief"), full.press("again"), brief.press("again"), full.press("full")]
+            suite.equal(f"again after {key}", heard, [one, "brief", other, other, 'ev=full ans=0 says="full"'])
+
+
 # ---- the card, help, and what is no key
 
 
@@ -327,13 +480,18 @@ def check_help(suite):
     with Worked(suite, terminal=False) as worked:
         answer = worked.press("help")
         names = answer.removeprefix('ev=help ans=0 says="').removesuffix('"').split()
-        suite.equal("number of keys", len(names), 31)
+        suite.equal("number of keys", len(names), 37)
+        grouped = [worked.press(f"help {group}").split('"')[1].split(", ") for group in GROUPS]
+        suite.equal("keys by group", sorted(sum(grouped, [])), sorted(names))
         document = (ROOT / "docs" / "FRONT-ENDS.md").read_text()
         for name in names:
             line = worked.press(f"help {name}")
             suite.holds(f"help {name}", LINE.fullmatch(line) and name in line and len(line) <= MOST_HEARD, line)
             suite.holds(f"docs/FRONT-ENDS.md has {name}", re.search(f"^- `{name}[ `]", document, re.M))
-        suite.equal("help for no key", worked.press("help nothing"), answer)
+        for name in ("nothing", "push 2", "push push"):
+            suite.holds(f"help {name}", worked.press(f"help {name}").startswith("ev=bad "))
+        worked.press("brief")
+        suite.equal("help in brief", worked.press("help"), f"help {', '.join(GROUPS)}")
 
 
 NO_KEYS = [
@@ -341,8 +499,11 @@ NO_KEYS = [
     "select 1", "select 1 4 1", "deactivate 0 0", "command", "command 0", "command 0 G", "command 0 0 1234567",
     "send", "send 2 48656C6C6", "send 2 4865-6C", "push", "push 2 2", "push two", "down 1", "up 1", "consume",
     "credit 2", "found 1 4 0", "poll 1 4", "listen 1 4", "failed 1", "sleeps 1", "lost 1", "releases 1", "says hello",
-    "air", "reply 0", "report", "read 20C00", "read 20 C0 0G", "power 1", "quit 1", "ev=down arg=", "push\0 2",
-    "push\u00a02",
+    "air", "reply 0", "report", "read 20C00", "read 20 C0 0G", "power 1", "quit 1", "push\0 2",
+    "push\u00a02", "again 1", "octets 1", "more 1", "state 0", "brief 1", "full 1",
+    # no lines of the sheet
+    "ev=down", "ev=down arg=0", "ev=down  arg=", " ev=down arg=", "ev=push arg=0a", "ev=push arg=02 ", "EV=down arg=",
+    "ev=push arg=", "ev=help arg=", "ev=state arg=", "ev=fresh arg=20",
     # profiles of 1, 4, 6, 10 and 12 octets
     "fresh 20", "fresh 20040204", "fresh 200402040104", "fresh 20040204020402040204", "fresh 200402040204020402040104",
 ]
@@ -406,7 +567,8 @@ def any_octets(count):
 
 def check_any(suite, name, program, count):
     out, complaints, status = fed(program, b"\n".join(any_octets(count)))
-    suite.equal(f"{name}, exit status", (complaints, status), ("", 0))
+    # some of them end in a carriage return
+    suite.equal(f"{name}, exit status", (complaints, status), (CRLF, 0))
     lines = out.splitlines()
     suite.equal(f"{name}, number of answers", len(lines), count)
     wrong = [line for line in lines if not LINE.fullmatch(line)]
@@ -452,8 +614,16 @@ def main():
     check_help(suite)
     check_no_keys(suite)
     check_lengths(suite)
+    for terminal in (True, False):
+        check_session(suite, terminal, "brief", KEYS, "--brief")
+    check_sheet(suite)
+    check_line_ends(suite)
+    check_octets(suite)
+    check_again(suite)
     check_any(suite, "any octets", [KEYS], 50000)
     with tempfile.TemporaryDirectory() as folder:
+        check_log(suite, Path(folder))
+        check_lost(suite, Path(folder))
         check_forged(suite, Path(folder))
         check_compilers(suite, Path(folder))
         check_sanitized(suite, Path(folder))
