@@ -115,7 +115,7 @@ static void say_clauses(const uint8_t *state) {
 
 /* ---- in breaths */
 
-enum { BREATH = 70 }; /* characters that are heard in 8 seconds, with the pauses between clauses */
+enum { BREATH = 78 }; /* characters that are heard in 8 seconds, with the pauses between clauses */
 
 /* Clauses from one on, at least one of them, and the number of the next. */
 static size_t say_breath(const char *clauses, size_t from) {

@@ -24,13 +24,14 @@ bool streams_open(void) {
     return true;
 }
 
-/* Keys take the carriage return for a blank, the sheet's lines do not. */
-static void tell_line_ends(const struct text *line) {
+/* Keys take the carriage return for a blank, the sheet's lines do not; a BOM is part of a line. */
+static void tell_form(struct text line) {
     static bool told;
-    if (told || line->length == 0 || line->at[line->length - 1] != '\r')
+    bool crlf = line.length > 0 && line.at[line.length - 1] == '\r';
+    if (told || !(crlf || take_text(&line, "\xEF\xBB\xBF")))
         return;
     told = true;
-    fprintf(stderr, "keys: lines end in CRLF; lines of the sheet are to end in LF alone\n");
+    fprintf(stderr, "keys: note: lines end in CRLF, or begin with a BOM; README.md says how to convert\n");
 }
 
 bool read_line(struct text *line, bool *failed) {
@@ -48,6 +49,6 @@ bool read_line(struct text *line, bool *failed) {
         return false;
     }
     if (c == '\n')
-        tell_line_ends(line);
+        tell_form(*line);
     return any;
 }

@@ -41,7 +41,7 @@ HAS = "the card has numbers 0 to 12, 14 and 15; card 9: "
 # digits of a profile, one pair for connections 2 to 5 or one for each
 PROFILES = (10, 22)
 GROUPS = ["commands", "moves", "events", "bench", "speech"]
-CRLF = "keys: lines end in CRLF; lines of the sheet are to end in LF alone\n"
+NOTE = "keys: note: lines end in CRLF, or begin with a BOM; README.md says how to convert\n"
 # the most characters that are to be heard of a line, octets aside, and of a fresh that names each connection
 MOST_HEARD, MOST_OF_FRESH = 200, 300
 
@@ -402,8 +402,9 @@ def check_line_ends(suite):
     keys = [key for key, _ in session("brief")]
     one, other = fed([KEYS], "\n".join(keys).encode()), fed([KEYS], "\r\n".join(keys).encode())
     suite.equal("no word of line ends", one[1:], ("", 0))
-    suite.equal("CRLF is said once", other[1:], (CRLF, 0))
+    suite.equal("CRLF is said once", other[1:], (NOTE, 0))
     changed = [key for key, a, b in zip(keys, one[0].splitlines(), other[0].splitlines()) if a != b]
+    suite.equal("a BOM is said", fed([KEYS], b"\xEF\xBB\xBFpower\npower\n")[1:], (NOTE, 0))
     suite.equal("keys with CRLF", {key[:3] for key in changed} - {"aga", "mor", "oct"}, {"ev="})
 
 
@@ -443,6 +444,17 @@ def all_octets(keys):
     for start in range(0, len(answers), 139):
         said = answers[start + 3:start + 139]
         yield [answers[start + 1], *said[:next(i for i, line in enumerate(said) if not line.endswith(", more")) + 1]]
+
+
+def check_page(suite):
+    """The session of docs/BY-EAR.md is heard as it says."""
+    page = (ROOT / "docs" / "BY-EAR.md").read_text()
+    section = page.split("## A first session")[1].split("## ")[0]
+    typed = re.findall("^(?:Type|Then) (.*?)[.:]", section, re.M)
+    keys = [key.strip() for keys in typed for key in re.split("[,;]", keys)]
+    lines = re.findall("^    (.*)$", section, re.M)
+    suite.holds("docs/BY-EAR.md has a session", len(lines) >= 15)
+    suite.check("docs/BY-EAR.md, the session", unlike(fed([KEYS, "--brief"], "\n".join(keys).encode())[0].splitlines(), lines))
 
 
 def check_again(suite):
@@ -568,7 +580,7 @@ def any_octets(count):
 def check_any(suite, name, program, count):
     out, complaints, status = fed(program, b"\n".join(any_octets(count)))
     # some of them end in a carriage return
-    suite.equal(f"{name}, exit status", (complaints, status), (CRLF, 0))
+    suite.equal(f"{name}, exit status", (complaints, status), (NOTE, 0))
     lines = out.splitlines()
     suite.equal(f"{name}, number of answers", len(lines), count)
     wrong = [line for line in lines if not LINE.fullmatch(line)]
@@ -620,6 +632,7 @@ def main():
     check_line_ends(suite)
     check_octets(suite)
     check_again(suite)
+    check_page(suite)
     check_any(suite, "any octets", [KEYS], 50000)
     with tempfile.TemporaryDirectory() as folder:
         check_log(suite, Path(folder))
