@@ -40,7 +40,7 @@ static void say_label(const struct told *t, const struct part *part, unsigned i,
     if (from > 0)
         say(" from octet %u", (unsigned)from);
     else if (part->length > BREATH)
-        say(" of %u", (unsigned)part->length);
+        say(" length %u", (unsigned)part->length);
     say(", ");
 }
 

@@ -144,10 +144,15 @@ def check_forged(suite, folder):
     program, others = folder / "forged_keys", [source for source in SOURCES if source.name != "keys.c"]
     suite.equal("forged keys", compiled(["gcc", *STRICT, FORGED_KEYS, *others, LIBRARY, "-o", program]), ("", 0))
     check_session(suite, False, "forged-keys", program)
-    for key, line in session("forged-keys"):
+    keys, lines = zip(*session("forged-keys"))
+    brief = fed([program], "\n".join(("brief", *keys)).encode())[0].splitlines()[1:]
+    suite.equal("forged keys in brief, number of answers", len(brief), len(keys))
+    for key, line, words in zip(keys, lines, brief):
         fields = FIELDS.fullmatch(line)
-        good = fields is None or (len(heard(line)) <= MOST_HEARD and says_reserved(fields[7], int(fields[4], 16)))
+        bits = int(fields[4], 16) if fields else 0
+        good = fields is None or (len(heard(line)) <= MOST_HEARD and says_reserved(fields[7], bits))
         suite.holds(f"forged keys, words for {key}", good, line)
+        suite.equal(f"forged keys in brief, {key}", brief_bits(words), bits)
 
 
 # ---- the lists of the second implementation, typed as keys
@@ -245,6 +250,15 @@ def reserved_said(rfu):
     if len(bits) == 1:
         return f"reserved bit {bits[0]} of octet 1 is at 1"
     return f"reserved bits {', '.join(bits[:-1])} and {bits[-1]} of octet 1 are at 1"
+
+
+def brief_bits(line):
+    """The reserved bits that a brief line names, as "7 and 6", "7 to 2" or "3"."""
+    said = re.search("reserved ([0-7](?:(?: and| to)? [0-7])*)", line)
+    bits = [int(bit) for bit in re.findall("[0-7]", said[1])] if said else []
+    if said and " to " in said[1]:
+        bits = range(bits[1], bits[0] + 1)
+    return sum(1 << bit for bit in bits)
 
 
 def says_reserved(says, rfu):
@@ -392,6 +406,12 @@ def check_lost(suite, folder):
          f"--log '{folder}/no/log' < '{keys}' > /dev/null"),
     ]:
         suite.equal(name, ended(["bash", "-c", f"'{KEYS}' {shell}"]), (f"keys: {words}\n", 1))
+    late = f"trap '' XFSZ; ulimit -f 1; yes power | head -500 | '{KEYS}' --log '{folder}/late' | wc -l; exit ${{PIPESTATUS[2]}}"
+    done = subprocess.run(["bash", "-c", late], capture_output=True, timeout=SECONDS)
+    suite.equal("a log that is full later", (done.stderr.decode(), done.returncode),
+                (f"keys: the log {folder}/late cannot be written: File too large\n", 1))
+    logged = (folder / "late").read_text().count("\n")
+    suite.equal("a log that is full later, keys answered", int(done.stdout), logged)
     suite.equal("a log that is not touched", (folder / "l").exists(), False)
     for options in (["--log"], ["--loud"], ["--log", folder / "a", "--log", folder / "b"], ["keys.txt"]):
         words, status = ended([KEYS, *options], stdin=subprocess.DEVNULL)
@@ -411,7 +431,7 @@ def check_line_ends(suite):
 # ---- the brief form
 
 
-PART = re.compile("(down|up|message|taken|typed|no more)(?: [0-9]+ of [0-9]+)?(?: of [0-9]+| from octet [0-9]+)?")
+PART = re.compile("(down|up|message|taken|typed|no more)(?: [0-9]+ of [0-9]+)?(?: length [0-9]+| from octet [0-9]+)?")
 WORDS = {word: f"{value:X}" for value, word in enumerate("alfa bravo charlie delta echo foxtrot".split(), 10)}
 
 
