@@ -73,7 +73,9 @@ static void say_bits(uint64_t word) {
 
 /* ---- calls that were taken */
 
-static struct packet put_packet(const struct told *t, unsigned i) { return read_packet(t->put[i].at, t->put[i].length); }
+static struct packet put_packet(const struct told *t, unsigned i) {
+    return read_packet(t->put[i].at, t->put[i].length);
+}
 
 static void say_put(const struct told *t) {
     for (unsigned i = 0; i < t->puts; i++) {

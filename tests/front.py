@@ -401,7 +401,8 @@ def check_lost(suite, folder):
         ("a closed output and a log", "the answer cannot be written: Bad file descriptor", f"--log '{folder}/l' < '{keys}' >&-"),
         ("a closed input", "the input cannot be read: Bad file descriptor", "<&- > /dev/null"),
         ("a folder as input", "the input cannot be read: Is a directory", f"< '{folder}' > /dev/null"),
-        ("a log on a full disk", "the log /dev/full cannot be written: No space left on device", f"--log /dev/full < '{keys}' > /dev/null"),
+        ("a log on a full disk", "the log /dev/full cannot be written: No space left on device",
+         f"--log /dev/full < '{keys}' > /dev/null"),
         ("a log in no folder", f"the log {folder}/no/log cannot be opened: No such file or directory",
          f"--log '{folder}/no/log' < '{keys}' > /dev/null"),
     ]:
@@ -415,7 +416,8 @@ def check_lost(suite, folder):
     suite.equal("a log that is not touched", (folder / "l").exists(), False)
     for options in (["--log"], ["--loud"], ["--log", folder / "a", "--log", folder / "b"], ["keys.txt"]):
         words, status = ended([KEYS, *options], stdin=subprocess.DEVNULL)
-        suite.holds(f"options {options}", words.startswith("keys: --brief and --log FILE are all") and status == 2, (words, status))
+        usage = words.startswith("keys: --brief and --log FILE are all")
+        suite.holds(f"options {options}", usage and status == 2, (words, status))
 
 
 def check_line_ends(suite):
