@@ -5,35 +5,26 @@ the next key is typed.
     front.py            builds it and runs all tests; the last line is 'front: N passed, M failed'
     front.py --built    leaves the building out
 
-A session with its answers is in tests/data/keys.txt, one in brief in tests/data/brief.txt, one with packets that have reserved
-bits at 1 in tests/data/forged-keys.txt; the second implementation's lists, typed as keys and as lines of the sheet, have to
-give the same fields; a log has to be answered by the sheet as its session was; what is lost has to be said; the card has to be
-that of docs/CARD.md; any octets have to be answered line by line, also under the sanitizers and valgrind, where they are at
-hand."""
-import os
-import pty
+A session with its answers is in tests/data/keys.txt, one with packets that have reserved bits at 1 in
+tests/data/forged-keys.txt; the second implementation's lists, typed as keys, have to give the same fields; the card has to
+be that of docs/CARD.md; any octets have to be answered line by line, also under the sanitizers and valgrind, where they are
+at hand. tests/keys.py has the brief form and all that is for the ear."""
 import random
 import re
-import select
 import shutil
 import subprocess
 import sys
 import tempfile
-import termios
-from itertools import zip_longest
 from pathlib import Path
 
-from programs import ROOT, Suite, built
+from programs import ROOT, Suite
+from worked import FIELDS, HEX, KEYS, NOTE, SEED, Worked, check_session, fed, session
 
-KEYS = ROOT / "build" / "keys"
 SOURCES = sorted((ROOT / "front").glob("*.c"))
 # the front end with a key that sets reserved bits of a packet on a wire
 FORGED_KEYS = ROOT / "tests" / "c" / "forged_keys.c"
 STRICT = ["-std=c99", "-Wall", "-Wextra", "-Wpedantic", "-Werror", f"-I{ROOT / 'include'}"]
 LIBRARY = ROOT / "build" / "lib" / "libnci_bench.a"
-# for an answer, or for a program to end
-SECONDS = 10
-SEED = 13
 MOST_CHARACTERS = 4096
 # the card's numbers: there is no 13
 NUMBERS = [*range(1, 13), 14, 15]
@@ -41,11 +32,9 @@ HAS = "the card has numbers 0 to 12, 14 and 15; card 9: "
 # digits of a profile, one pair for connections 2 to 5 or one for each
 PROFILES = (10, 22)
 GROUPS = ["commands", "moves", "events", "bench", "speech"]
-NOTE = "keys: note: lines end in CRLF, or begin with a BOM; README.md says how to convert\n"
 # the most characters that are to be heard of a line, octets aside, and of a fresh that names each connection
 MOST_HEARD, MOST_OF_FRESH = 200, 300
 
-HEX = "(?:[0-9A-F]{2})*"
 SAYS = r'says="[ !#-~]+"'
 CALLS = "fresh|power|command|send|push|down|consume|credit|air|reply|up|report|read"
 ANSWERS = "|".join(map(str, [0, *NUMBERS]))
@@ -53,89 +42,9 @@ LINE = re.compile(
     f"ev=(?:{CALLS}) ans=(?:{ANSWERS}) drop=[01] rfu=[0-9A-F]{{2}} pkt={HEX} msg=(?:-|{HEX}) {SAYS}"
     f"|ev=bad ans=3 {SAYS}|ev=(?:octets|more|state|full|card|help|quit) ans=0 {SAYS}"
 )
-FIELDS = re.compile(
-    f"ev=([a-z]+) ans=([0-9]+) drop=([01]) rfu=([0-9A-F]{{2}}) pkt=({HEX}) msg=(-|{HEX}) says=\"(.*)\""
-)
 
 
-# ---- keys at work
-
-
-def plain(terminal):
-    """No echo, and line ends as they are written."""
-    mode = termios.tcgetattr(terminal)
-    mode[1] &= ~termios.OPOST
-    mode[3] &= ~termios.ECHO
-    termios.tcsetattr(terminal, termios.TCSANOW, mode)
-
-
-class Silent(Exception):
-    """A key that was not answered."""
-
-
-class Worked:
-    """The program while it is worked, at a terminal or through pipes. A key without an answer is a failure and ends it."""
-
-    def __init__(self, suite, terminal, *command):
-        self.suite = suite
-        command = command or [KEYS]
-        if terminal:
-            self.typing, behind = pty.openpty()
-            plain(behind)
-            self.process = subprocess.Popen(command, stdin=behind, stdout=behind)
-            os.close(behind)
-            self.hearing = self.typing
-        else:
-            self.process = subprocess.Popen(command, stdin=subprocess.PIPE, stdout=subprocess.PIPE, bufsize=0)
-            self.typing, self.hearing = self.process.stdin.fileno(), self.process.stdout.fileno()
-
-    def __enter__(self):
-        return self
-
-    def __exit__(self, _, error, __):
-        self.process.kill()
-        self.process.wait()
-        if isinstance(error, Silent):
-            self.suite.holds(f"an answer to {error}", False, "there is none")
-        return isinstance(error, Silent)
-
-    def press(self, key):
-        """Types a line and gives what is heard then, without the line feed at its end."""
-        heard = b""
-        try:
-            os.write(self.typing, key.encode() + b"\n")
-            while not heard.endswith(b"\n"):
-                more = select.select([self.hearing], [], [], SECONDS)[0] and os.read(self.hearing, 65536)
-                if not more:
-                    raise Silent(repr(key[:80]))
-                heard += more
-        except OSError:
-            raise Silent(repr(key[:80]))
-        return heard.decode().removesuffix("\n")
-
-
-def fed(program, octets):
-    """Its output, its complaints and its exit status for an input that is there at once."""
-    done = subprocess.run(program, input=octets, capture_output=True, timeout=3 * SECONDS)
-    return done.stdout.decode("latin-1"), done.stderr.decode("latin-1"), done.returncode
-
-
-# ---- the sessions of tests/data
-
-
-def session(name="keys"):
-    """Keys and their answers: a key's line begins with >, its answer follows."""
-    lines = (ROOT / "tests" / "data" / f"{name}.txt").read_text().splitlines()
-    lines = [line for line in lines if line and not line.startswith("#")]
-    return [(key.removeprefix("> "), answer) for key, answer in zip(lines[::2], lines[1::2])]
-
-
-def check_session(suite, terminal, name="keys", *command):
-    with Worked(suite, terminal, *command) as worked:
-        for n, (key, answer) in enumerate(session(name), 1):
-            where = f"{name} on a {'terminal' if terminal else 'pipe'}"
-            suite.equal(f"{where}, key {n}, {key}", worked.press(key), answer)
-        suite.equal(f"{name}, exit status after quit", worked.process.wait(SECONDS), 0)
+# ---- packets with reserved bits at 1
 
 
 def check_forged(suite, folder):
@@ -321,175 +230,6 @@ def check_lists(suite, card):
     suite.equal("lists, every call", met >= {f"ev={call}" for call in CALLS.split("|")}, True)
 
 
-# ---- lines of the sheet, and the log
-
-
-def sheet_lines():
-    """The lists as lines of the sheet, and what is answered."""
-    lines = re.findall("^ev=.*$", (ROOT / "tests" / "data" / "lists.txt").read_text(), re.M)
-    return lines[::2], lines[1::2]
-
-
-def fields(lines):
-    """Lines of keys without their words."""
-    return [line.split(" says=")[0] for line in lines]
-
-
-def spoilt_lines(lines, count):
-    """Lines of the sheet with characters changed; what begins with ev= alone is meant for the sheet."""
-    rng = random.Random(SEED)
-    for _ in range(count):
-        line = list(rng.choice(lines))
-        for _ in range(rng.choice([0, 1, 1, 2])):
-            at = rng.randrange(3, len(line) + 1)
-            line[at:at + rng.randrange(2)] = rng.choice(["", " ", "0", "F", "a", "G", "=", "00", "down", "\r", "\0"])
-        yield "".join(line) + "00" * rng.choice([0] * 40 + [1050])
-
-
-def check_sheet(suite):
-    asked, answered = sheet_lines()
-    out, complaints, status = fed([KEYS], "\n".join(asked).encode())
-    suite.check("the sheet's lines", unlike(fields(out.splitlines()), answered))
-    suite.equal("the sheet's lines, exit status", (complaints, status), ("", 0))
-    lines = list(spoilt_lines(asked, 4000))
-    octets = "\n".join(lines).encode()
-    ours, theirs = fields(fed([KEYS], octets)[0].splitlines()), fed([built("paper")], octets)[0].splitlines()
-    wrong = [f"{line!r}: {one}, {other}" for line, one, other in zip_longest(lines, ours, theirs) if one != other]
-    suite.check("spoilt lines of the sheet", wrong, f"{len(lines)} lines")
-
-
-def unlike(lines, due):
-    """Lines that are not those due."""
-    return [f"line {n}: {one!r}, expected {other!r}" for n, (one, other) in enumerate(zip_longest(lines, due), 1) if one != other]
-
-
-def calls(lines):
-    return [line for line in fields(lines) if " drop=" in line]
-
-
-def check_log(suite, folder):
-    """Two sessions in one log, by keys and by lines of the sheet; the sheet answers it as they were answered."""
-    log = folder / "log"
-    keys = [key for key, _ in session() + session("brief") if key not in ("quit", "brief", "full", "again")]
-    first = fed([KEYS, "--log", log], "\n".join(keys).encode())[0].splitlines()
-    second = fed([KEYS, "--log", log], "\n".join(sheet_lines()[0]).encode())[0].splitlines()
-    start = "ev=fresh ans=0 drop=0 rfu=00 pkt= msg="
-    due = [start, *calls(first), start, *calls(second)]
-    for name, program in (("paper", built("paper")), ("keys", KEYS)):
-        suite.check(f"a log, answered by {name}", unlike(fields(fed([program], log.read_bytes())[0].splitlines()), due))
-    brief = folder / "brief"
-    fed([KEYS, "--brief", "--log", brief], "\n".join(keys).encode())
-    suite.check("a log in brief", unlike(brief.read_text().splitlines(), log.read_text().splitlines()[:len(calls(first)) + 1]))
-
-
-# ---- what is lost
-
-
-def ended(command, **streams):
-    """Complaints and exit status of a program that is given keys in a file."""
-    done = subprocess.run(command, stderr=subprocess.PIPE, timeout=SECONDS, **streams)
-    return done.stderr.decode(), done.returncode
-
-
-def check_lost(suite, folder):
-    """An answer that cannot be written, keys that cannot be read, a log that cannot be written: each is said."""
-    keys = folder / "keys.txt"
-    keys.write_text("reset\ndown\n")
-    for name, words, shell in [
-        ("a full disk", "the answer cannot be written: No space left on device", f"< '{keys}' > /dev/full"),
-        ("a closed output", "the answer cannot be written: Bad file descriptor", f"< '{keys}' >&-"),
-        ("a closed output and a log", "the answer cannot be written: Bad file descriptor", f"--log '{folder}/l' < '{keys}' >&-"),
-        ("a closed input", "the input cannot be read: Bad file descriptor", "<&- > /dev/null"),
-        ("a folder as input", "the input cannot be read: Is a directory", f"< '{folder}' > /dev/null"),
-        ("a log on a full disk", "the log /dev/full cannot be written: No space left on device",
-         f"--log /dev/full < '{keys}' > /dev/null"),
-        ("a log in no folder", f"the log {folder}/no/log cannot be opened: No such file or directory",
-         f"--log '{folder}/no/log' < '{keys}' > /dev/null"),
-    ]:
-        suite.equal(name, ended(["bash", "-c", f"'{KEYS}' {shell}"]), (f"keys: {words}\n", 1))
-    late = f"trap '' XFSZ; ulimit -f 1; yes power | head -500 | '{KEYS}' --log '{folder}/late' | wc -l; exit ${{PIPESTATUS[2]}}"
-    done = subprocess.run(["bash", "-c", late], capture_output=True, timeout=SECONDS)
-    suite.equal("a log that is full later", (done.stderr.decode(), done.returncode),
-                (f"keys: the log {folder}/late cannot be written: File too large\n", 1))
-    logged = (folder / "late").read_text().count("\n")
-    suite.equal("a log that is full later, keys answered", int(done.stdout), logged)
-    suite.equal("a log that is not touched", (folder / "l").exists(), False)
-    for options in (["--log"], ["--loud"], ["--log", folder / "a", "--log", folder / "b"], ["keys.txt"]):
-        words, status = ended([KEYS, *options], stdin=subprocess.DEVNULL)
-        usage = words.startswith("keys: --brief and --log FILE are all")
-        suite.holds(f"options {options}", usage and status == 2, (words, status))
-
-
-def check_line_ends(suite):
-    keys = [key for key, _ in session("brief")]
-    one, other = fed([KEYS], "\n".join(keys).encode()), fed([KEYS], "\r\n".join(keys).encode())
-    suite.equal("no word of line ends", one[1:], ("", 0))
-    suite.equal("CRLF is said once", other[1:], (NOTE, 0))
-    changed = [key for key, a, b in zip(keys, one[0].splitlines(), other[0].splitlines()) if a != b]
-    suite.equal("a BOM is said", fed([KEYS], b"\xEF\xBB\xBFpower\npower\n")[1:], (NOTE, 0))
-    suite.equal("keys with CRLF", {key[:3] for key in changed} - {"aga", "mor", "oct"}, {"ev="})
-
-
-# ---- the brief form
-
-
-PART = re.compile("(down|up|message|taken|typed|no more)(?: [0-9]+ of [0-9]+)?(?: length [0-9]+| from octet [0-9]+)?")
-WORDS = {word: f"{value:X}" for value, word in enumerate("alfa bravo charlie delta echo foxtrot".split(), 10)}
-
-
-def said_octets(lines):
-    """The octets of lines of octets and more, by the name of their part."""
-    parts = {}
-    for line in lines:
-        label, *octets = line.removesuffix(", more").split(", ")
-        part = PART.fullmatch(label)[1]
-        parts[part] = parts.get(part, "") + "".join(WORDS.get(digit, digit) for octet in octets for digit in octet.split())
-    return parts
-
-
-def check_octets(suite):
-    """What octets and more say is the packets, the message, and what was typed."""
-    keys = [key for key, _ in session() if key != "quit"] + [key for key, _ in lists()][:400]
-    for key, heard in zip(keys, all_octets(keys)):
-        line, said = heard[0], said_octets(heard[1:])
-        found = FIELDS.fullmatch(line)
-        if found is None:
-            continue
-        put = said.get("down", "") + said.get("up", "")
-        suite.holds(f"octets of {key}", (put, said.get("message", "")) == (found[5], found[6].strip("-")), (line, said))
-
-
-def all_octets(keys):
-    """Of each key its full line, then what octets and more say in brief, to the end."""
-    lines = [line for key in keys for line in ("full", key, "brief", "octets", *["more"] * 135)]
-    answers = fed([KEYS], "\n".join(lines).encode())[0].splitlines()
-    for start in range(0, len(answers), 139):
-        said = answers[start + 3:start + 139]
-        yield [answers[start + 1], *said[:next(i for i, line in enumerate(said) if not line.endswith(", more")) + 1]]
-
-
-def check_page(suite):
-    """The session of docs/BY-EAR.md is heard as it says."""
-    page = (ROOT / "docs" / "BY-EAR.md").read_text()
-    section = page.split("## A first session")[1].split("## ")[0]
-    typed = re.findall("^(?:Type|Then) (.*?)[.:]", section, re.M)
-    keys = [key.strip() for keys in typed for key in re.split("[,;]", keys)]
-    lines = re.findall("^    (.*)$", section, re.M)
-    suite.holds("docs/BY-EAR.md has a session", len(lines) >= 15)
-    suite.check("docs/BY-EAR.md, the session", unlike(fed([KEYS, "--brief"], "\n".join(keys).encode())[0].splitlines(), lines))
-
-
-def check_again(suite):
-    """again is the last answer, in either form."""
-    with Worked(suite, False) as full, Worked(suite, False, KEYS, "--brief") as brief:
-        for key, _ in session("brief"):
-            if key in ("quit", "full", "brief", "again"):
-                continue
-            one, other = full.press(key), brief.press(key)
-            heard = [full.press("again"), full.press("brief"), full.press("again"), brief.press("again"), full.press("full")]
-            suite.equal(f"again after {key}", heard, [one, "brief", other, other, 'ev=full ans=0 says="full"'])
-
-
 # ---- the card, help, and what is no key
 
 
@@ -648,17 +388,8 @@ def main():
     check_help(suite)
     check_no_keys(suite)
     check_lengths(suite)
-    for terminal in (True, False):
-        check_session(suite, terminal, "brief", KEYS, "--brief")
-    check_sheet(suite)
-    check_line_ends(suite)
-    check_octets(suite)
-    check_again(suite)
-    check_page(suite)
     check_any(suite, "any octets", [KEYS], 50000)
     with tempfile.TemporaryDirectory() as folder:
-        check_log(suite, Path(folder))
-        check_lost(suite, Path(folder))
         check_forged(suite, Path(folder))
         check_compilers(suite, Path(folder))
         check_sanitized(suite, Path(folder))
