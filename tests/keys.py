@@ -114,6 +114,9 @@ def check_line_ends(suite):
 # ---- the brief form
 
 
+# keys whose calls have no octets, as far as they put, take and hand out nothing
+ALONE = ("power", "down", "up", "credit", "reply", "read")
+NO_OCTETS = {*ALONE, *(f"ev={name} arg=" for name in ALONE)}
 PART = re.compile("(down|up|message|taken|typed|no more)(?: [0-9]+ of [0-9]+)?(?: length [0-9]+| from octet [0-9]+)?")
 WORDS = {word: f"{value:X}" for value, word in enumerate("alfa bravo charlie delta echo foxtrot".split(), 10)}
 
@@ -128,16 +131,45 @@ def said_octets(lines):
     return parts
 
 
+def split(packets):
+    """The packets of a field pkt."""
+    while packets:
+        length = 6 + 2 * int(packets[4:6], 16)
+        yield packets[:length]
+        packets = packets[length:]
+
+
+class Wires:
+    """The packets on both wires, by the fields of lines."""
+
+    def __init__(self):
+        self.down, self.up = [], []
+
+    def taken(self, event, answer, packets):
+        """The packet that a call takes; those that it puts are put."""
+        if event in ("fresh", "power") and answer == "0":
+            self.down, self.up = [], []
+        wire = {"down": self.down, "up": self.up}.get(event)
+        first = wire.pop(0) if wire and answer == "0" else ""
+        (self.down if event in ("command", "push") else self.up).extend(split(packets))
+        return first
+
+
 def check_octets(suite):
-    """What octets and more say is the packets, the message, and what was typed."""
-    keys = [key for key, _ in session() if key != "quit"] + sheet_lines()[0][:400]
-    for key, heard in zip(keys, all_octets(keys)):
-        line, said = heard[0], said_octets(heard[1:])
-        found = FIELDS.fullmatch(line)
+    """What octets and more say is the packets put, the message, and the packet taken, eight octets a line."""
+    longest = ["fresh", "command 1 3 " + "0A" * 255, *["down"] * 9]
+    keys = [key for key, _ in session() if key != "quit"] + longest + sheet_lines()[0][:400]
+    wires = Wires()
+    for key, (line, *heard) in zip(keys, all_octets(keys)):
+        said, found = said_octets(heard), FIELDS.fullmatch(line)
+        few = all(words.removesuffix(", more").count(", ") <= 8 for words in heard)
+        suite.holds(f"octets of {key}, eight a line", few, heard)
         if found is None:
             continue
-        put = said.get("down", "") + said.get("up", "")
-        suite.holds(f"octets of {key}", (put, said.get("message", "")) == (found[5], found[6].strip("-")), (line, said))
+        parts = said.get("down", "") + said.get("up", ""), said.get("message", ""), said.get("taken", "")
+        due = found[5], found[6].strip("-"), wires.taken(found[1], found[2], found[5])
+        suite.equal(f"octets of {key}", parts, due)
+        suite.equal(f"octets of {key}, typed", "typed" in said, not any(due) and key not in NO_OCTETS)
 
 
 def all_octets(keys):
