@@ -1,6 +1,6 @@
 #include "words.h"
 
-#include <stdio.h>
+#include "line.h"
 
 #include "nci_bench.h"
 
@@ -19,28 +19,28 @@ struct packet read_packet(const uint8_t *octets, size_t length) {
 }
 
 void say_octets(size_t count) {
-    printf("%u octet%s", (unsigned)count, count == 1 ? "" : "s");
+    say("%u octet%s", (unsigned)count, count == 1 ? "" : "s");
 }
 
 void say_terms(unsigned payload, unsigned credits) {
-    printf("payload %u, ", payload);
+    say("payload %u, ", payload);
     if (credits == NCI_NO_FLOW_CONTROL)
-        printf("no flow control");
+        say("no flow control");
     else
-        printf("credits %u", credits);
+        say("credits %u", credits);
 }
 
 /* ---- statuses (003, Table 129) */
 
 static void say_status(unsigned status) {
     switch (status) {
-    case 0x00: printf("ok"); break;
-    case 0x01: printf("rejected"); break;
-    case 0x05: printf("syntax error"); break;
-    case 0x06: printf("semantic error"); break;
-    case 0xA0: printf("discovery already started"); break;
-    case 0xA1: printf("target activation failed"); break;
-    default: printf("status %02X", status);
+    case 0x00: say("ok"); break;
+    case 0x01: say("rejected"); break;
+    case 0x05: say("syntax error"); break;
+    case 0x06: say("semantic error"); break;
+    case 0xA0: say("discovery already started"); break;
+    case 0xA1: say("target activation failed"); break;
+    default: say("status %02X", status);
     }
 }
 
@@ -49,13 +49,13 @@ static void say_status(unsigned status) {
 
 static void say_init(const uint8_t *p, size_t n) {
     if (n > 8)
-        printf(", control payload %u", p[8]);
+        say(", control payload %u", p[8]);
 }
 
 static void say_created(const uint8_t *p, size_t n) {
     if (n < 4)
         return;
-    printf(", connection %u, ", p[3]);
+    say(", connection %u, ", p[3]);
     say_terms(p[1], p[2]);
 }
 
@@ -64,29 +64,29 @@ static void say_created(const uint8_t *p, size_t n) {
 static void say_credits(const uint8_t *p, size_t n) {
     enum { ENTRIES = 5 };
     for (size_t i = 1; i + 1 < n && i < 2 * ENTRIES; i += 2)
-        printf("%s %u to connection %u", i == 1 ? "" : ",", p[i + 1], p[i]);
+        say("%s %u to connection %u", i == 1 ? "" : ",", p[i + 1], p[i]);
     if (n > 2 * ENTRIES + 2)
-        printf(", and more");
+        say(", and more");
 }
 
 static void say_error(const uint8_t *p, size_t n) {
     if (n < 1)
         return;
-    printf(" ");
+    say(" ");
     say_status(p[0]);
 }
 
 static void say_found(const uint8_t *p, size_t n) {
     if (n < 5)
         return;
-    printf(" ID %02X, protocol %02X, mode %02X, ", p[0], p[1], p[2]);
-    printf(p[n - 1] == 2 ? "more follows" : "last");
+    say(" ID %02X, protocol %02X, mode %02X, ", p[0], p[1], p[2]);
+    say(p[n - 1] == 2 ? "more follows" : "last");
 }
 
 static void say_activated(const uint8_t *p, size_t n) {
     if (n < 6)
         return;
-    printf(" ID %02X, protocol %02X, mode %02X, ", p[0], p[2], p[3]);
+    say(" ID %02X, protocol %02X, mode %02X, ", p[0], p[2], p[3]);
     say_terms(p[4], p[5]);
 }
 
@@ -94,7 +94,7 @@ static void say_deactivated(const uint8_t *p, size_t n) {
     static const char *const type[] = {"to idle", "to sleep", "to sleep AF", "to discovery"};
     static const char *const reason[] = {"the host asked", "the endpoint asked", "link lost"};
     if (n >= 2 && p[0] < 4 && p[1] < 3)
-        printf(" %s, %s", type[p[0]], reason[p[1]]);
+        say(" %s, %s", type[p[0]], reason[p[1]]);
 }
 
 /* ---- messages (003, Table 139) that the bench knows */
@@ -135,19 +135,19 @@ bool is_credit_notice(const struct packet *p) {
 static void say_name(const struct packet *p, const struct message *m) {
     static const char *const mt[] = {"data", "CMD", "RSP", "NTF", "RFU", "RFU", "RFU", "RFU"};
     if (m != NULL)
-        printf("%s_%s", m->name, mt[p->mt]);
+        say("%s_%s", m->name, mt[p->mt]);
     else
-        printf("GID %X OID %02X %s", p->id, p->oid, mt[p->mt]);
+        say("GID %X OID %02X %s", p->id, p->oid, mt[p->mt]);
 }
 
 static void say_segment(const struct packet *p) {
-    printf(", ");
+    say(", ");
     say_octets(p->length);
-    printf(p->more ? ", more follows" : ", last");
+    say(p->more ? ", more follows" : ", last");
 }
 
 static void say_response(const struct packet *p, const struct message *m) {
-    printf(" ");
+    say(" ");
     say_status(p->payload[0]);
     if (p->payload[0] == 0x00 && m != NULL && m->ok != NULL)
         m->ok(p->payload, p->length);
@@ -168,20 +168,20 @@ void say_packet(const struct packet *p) {
     if (p->mt != MT_DATA) {
         say_control(p);
     } else {
-        printf("data on connection %u", p->id);
+        say("data on connection %u", p->id);
         say_segment(p);
         if (p->credits > 0)
-            printf(", %u credit%s", p->credits, p->credits == 1 ? "" : "s");
+            say(", %u credit%s", p->credits, p->credits == 1 ? "" : "s");
     }
 }
 
 void say_no_packet(const uint8_t *octets, size_t length) {
     if (length < 3)
-        printf("fewer than 3 octets");
+        say("fewer than 3 octets");
     else if (octets[0] >> 5 > MT_NTF)
-        printf("RFU message type %u", octets[0] >> 5);
+        say("RFU message type %u", octets[0] >> 5);
     else
-        printf("payload shorter than octet 2 states");
+        say("payload shorter than octet 2 states");
 }
 
 /* ---- reserved bits */
@@ -196,12 +196,12 @@ static unsigned count_bits(unsigned octet) {
 void say_reserved(unsigned rfu) {
     unsigned left = count_bits(rfu);
     bool one = left == 1;
-    printf("reserved bit%s", one ? "" : "s");
+    say("reserved bit%s", one ? "" : "s");
     for (unsigned bit = 8; bit-- > 0;) {
         if ((rfu >> bit & 1) == 0)
             continue;
         left--;
-        printf(" %u%s", bit, left > 1 ? "," : left == 1 ? " and" : "");
+        say(" %u%s", bit, left > 1 ? "," : left == 1 ? " and" : "");
     }
-    printf(" of octet 1 %s at 1", one ? "is" : "are");
+    say(" of octet 1 %s at 1", one ? "is" : "are");
 }

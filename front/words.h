@@ -1,4 +1,4 @@
-/* NCI packets in plain words, on standard output. */
+/* NCI packets in plain words, on the line that is being said (line.h). */
 #ifndef WORDS_H
 #define WORDS_H
 

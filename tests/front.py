@@ -8,142 +8,60 @@ the next key is typed.
 A session with its answers is in tests/data/keys.txt, one with packets that have reserved bits at 1 in
 tests/data/forged-keys.txt; the second implementation's lists, typed as keys, have to give the same fields; the card has to
 be that of docs/CARD.md; any octets have to be answered line by line, also under the sanitizers and valgrind, where they are
-at hand."""
-import os
-import pty
+at hand. tests/keys.py has the brief form and all that is for the ear."""
 import random
 import re
-import select
 import shutil
 import subprocess
 import sys
 import tempfile
-import termios
 from pathlib import Path
 
 from programs import ROOT, Suite
+from worked import FIELDS, HEX, KEYS, NOTE, SEED, Worked, check_session, fed, session
 
-KEYS = ROOT / "build" / "keys"
-WORDS = ROOT / "front" / "words.c"
-SOURCES = [ROOT / "front" / "keys.c", WORDS]
+SOURCES = sorted((ROOT / "front").glob("*.c"))
 # the front end with a key that sets reserved bits of a packet on a wire
 FORGED_KEYS = ROOT / "tests" / "c" / "forged_keys.c"
 STRICT = ["-std=c99", "-Wall", "-Wextra", "-Wpedantic", "-Werror", f"-I{ROOT / 'include'}"]
 LIBRARY = ROOT / "build" / "lib" / "libnci_bench.a"
-# for an answer, or for a program to end
-SECONDS = 10
-SEED = 13
 MOST_CHARACTERS = 4096
 # the card's numbers: there is no 13
 NUMBERS = [*range(1, 13), 14, 15]
 HAS = "the card has numbers 0 to 12, 14 and 15; card 9: "
 # digits of a profile, one pair for connections 2 to 5 or one for each
 PROFILES = (10, 22)
+GROUPS = ["commands", "moves", "events", "bench", "speech"]
 # the most characters that are to be heard of a line, octets aside, and of a fresh that names each connection
 MOST_HEARD, MOST_OF_FRESH = 200, 300
 
-HEX = "(?:[0-9A-F]{2})*"
 SAYS = r'says="[ !#-~]+"'
 CALLS = "fresh|power|command|send|push|down|consume|credit|air|reply|up|report|read"
 ANSWERS = "|".join(map(str, [0, *NUMBERS]))
 LINE = re.compile(
     f"ev=(?:{CALLS}) ans=(?:{ANSWERS}) drop=[01] rfu=[0-9A-F]{{2}} pkt={HEX} msg=(?:-|{HEX}) {SAYS}"
-    f"|ev=bad ans=3 {SAYS}|ev=(?:card|help|quit) ans=0 {SAYS}"
-)
-FIELDS = re.compile(
-    f"ev=([a-z]+) ans=([0-9]+) drop=([01]) rfu=([0-9A-F]{{2}}) pkt=({HEX}) msg=(-|{HEX}) says=\"(.*)\""
+    f"|ev=bad ans=3 {SAYS}|ev=(?:octets|more|state|full|card|help|quit) ans=0 {SAYS}"
 )
 
 
-# ---- keys at work
-
-
-def plain(terminal):
-    """No echo, and line ends as they are written."""
-    mode = termios.tcgetattr(terminal)
-    mode[1] &= ~termios.OPOST
-    mode[3] &= ~termios.ECHO
-    termios.tcsetattr(terminal, termios.TCSANOW, mode)
-
-
-class Silent(Exception):
-    """A key that was not answered."""
-
-
-class Worked:
-    """The program while it is worked, at a terminal or through pipes. A key without an answer is a failure and ends it."""
-
-    def __init__(self, suite, terminal, program=KEYS):
-        self.suite = suite
-        if terminal:
-            self.typing, behind = pty.openpty()
-            plain(behind)
-            self.process = subprocess.Popen([program], stdin=behind, stdout=behind)
-            os.close(behind)
-            self.hearing = self.typing
-        else:
-            self.process = subprocess.Popen([program], stdin=subprocess.PIPE, stdout=subprocess.PIPE, bufsize=0)
-            self.typing, self.hearing = self.process.stdin.fileno(), self.process.stdout.fileno()
-
-    def __enter__(self):
-        return self
-
-    def __exit__(self, _, error, __):
-        self.process.kill()
-        self.process.wait()
-        if isinstance(error, Silent):
-            self.suite.holds(f"an answer to {error}", False, "there is none")
-        return isinstance(error, Silent)
-
-    def press(self, key):
-        """Types a line and gives what is heard then, without the line feed at its end."""
-        heard = b""
-        try:
-            os.write(self.typing, key.encode() + b"\n")
-            while not heard.endswith(b"\n"):
-                more = select.select([self.hearing], [], [], SECONDS)[0] and os.read(self.hearing, 65536)
-                if not more:
-                    raise Silent(repr(key[:80]))
-                heard += more
-        except OSError:
-            raise Silent(repr(key[:80]))
-        return heard.decode().removesuffix("\n")
-
-
-def fed(program, octets):
-    """Its output, its complaints and its exit status for an input that is there at once."""
-    done = subprocess.run(program, input=octets, capture_output=True, timeout=3 * SECONDS)
-    return done.stdout.decode("latin-1"), done.stderr.decode("latin-1"), done.returncode
-
-
-# ---- the sessions of tests/data
-
-
-def session(name="keys"):
-    """Keys and their answers: a key's line begins with >, its answer follows."""
-    lines = (ROOT / "tests" / "data" / f"{name}.txt").read_text().splitlines()
-    lines = [line for line in lines if line and not line.startswith("#")]
-    return [(key.removeprefix("> "), answer) for key, answer in zip(lines[::2], lines[1::2])]
-
-
-def check_session(suite, terminal, name="keys", program=KEYS):
-    with Worked(suite, terminal, program) as worked:
-        for n, (key, answer) in enumerate(session(name), 1):
-            where = f"{name} on a {'terminal' if terminal else 'pipe'}"
-            suite.equal(f"{where}, key {n}, {key}", worked.press(key), answer)
-        suite.equal(f"{name}, exit status after quit", worked.process.wait(SECONDS), 0)
+# ---- packets with reserved bits at 1
 
 
 def check_forged(suite, folder):
     """Calls from fresh put no reserved bits at 1, so down and up meet them here alone. What is said has every bit, and
     stays short."""
-    program = folder / "forged_keys"
-    suite.equal("forged keys", compiled(["gcc", *STRICT, FORGED_KEYS, WORDS, LIBRARY, "-o", program]), ("", 0))
+    program, others = folder / "forged_keys", [source for source in SOURCES if source.name != "keys.c"]
+    suite.equal("forged keys", compiled(["gcc", *STRICT, FORGED_KEYS, *others, LIBRARY, "-o", program]), ("", 0))
     check_session(suite, False, "forged-keys", program)
-    for key, line in session("forged-keys"):
+    keys, lines = zip(*session("forged-keys"))
+    brief = fed([program], "\n".join(("brief", *keys)).encode())[0].splitlines()[1:]
+    suite.equal("forged keys in brief, number of answers", len(brief), len(keys))
+    for key, line, words in zip(keys, lines, brief):
         fields = FIELDS.fullmatch(line)
-        good = fields is None or (len(heard(line)) <= MOST_HEARD and says_reserved(fields[7], int(fields[4], 16)))
+        bits = int(fields[4], 16) if fields else 0
+        good = fields is None or (len(heard(line)) <= MOST_HEARD and says_reserved(fields[7], bits))
         suite.holds(f"forged keys, words for {key}", good, line)
+        suite.equal(f"forged keys in brief, {key}", brief_bits(words), bits)
 
 
 # ---- the lists of the second implementation, typed as keys
@@ -243,6 +161,15 @@ def reserved_said(rfu):
     return f"reserved bits {', '.join(bits[:-1])} and {bits[-1]} of octet 1 are at 1"
 
 
+def brief_bits(line):
+    """The reserved bits that a brief line names, as "7 and 6", "7 to 2" or "3"."""
+    said = re.search("reserved ([0-7](?:(?: and| to)? [0-7])*)", line)
+    bits = [int(bit) for bit in re.findall("[0-7]", said[1])] if said else []
+    if said and " to " in said[1]:
+        bits = range(bits[1], bits[0] + 1)
+    return sum(1 << bit for bit in bits)
+
+
 def says_reserved(says, rfu):
     """Whether these bits are said, and none where there are none."""
     return reserved_said(rfu) in says if rfu else "reserved" not in says
@@ -327,13 +254,18 @@ def check_help(suite):
     with Worked(suite, terminal=False) as worked:
         answer = worked.press("help")
         names = answer.removeprefix('ev=help ans=0 says="').removesuffix('"').split()
-        suite.equal("number of keys", len(names), 31)
+        suite.equal("number of keys", len(names), 37)
+        grouped = [worked.press(f"help {group}").split('"')[1].split(", ") for group in GROUPS]
+        suite.equal("keys by group", sorted(sum(grouped, [])), sorted(names))
         document = (ROOT / "docs" / "FRONT-ENDS.md").read_text()
         for name in names:
             line = worked.press(f"help {name}")
             suite.holds(f"help {name}", LINE.fullmatch(line) and name in line and len(line) <= MOST_HEARD, line)
             suite.holds(f"docs/FRONT-ENDS.md has {name}", re.search(f"^- `{name}[ `]", document, re.M))
-        suite.equal("help for no key", worked.press("help nothing"), answer)
+        for name in ("nothing", "push 2", "push push"):
+            suite.holds(f"help {name}", worked.press(f"help {name}").startswith("ev=bad "))
+        worked.press("brief")
+        suite.equal("help in brief", worked.press("help"), f"help {', '.join(GROUPS)}")
 
 
 NO_KEYS = [
@@ -341,8 +273,11 @@ NO_KEYS = [
     "select 1", "select 1 4 1", "deactivate 0 0", "command", "command 0", "command 0 G", "command 0 0 1234567",
     "send", "send 2 48656C6C6", "send 2 4865-6C", "push", "push 2 2", "push two", "down 1", "up 1", "consume",
     "credit 2", "found 1 4 0", "poll 1 4", "listen 1 4", "failed 1", "sleeps 1", "lost 1", "releases 1", "says hello",
-    "air", "reply 0", "report", "read 20C00", "read 20 C0 0G", "power 1", "quit 1", "ev=down arg=", "push\0 2",
-    "push\u00a02",
+    "air", "reply 0", "report", "read 20C00", "read 20 C0 0G", "power 1", "quit 1", "push\0 2",
+    "push\u00a02", "again 1", "octets 1", "more 1", "state 0", "brief 1", "full 1",
+    # no lines of the sheet
+    "ev=down", "ev=down arg=0", "ev=down  arg=", " ev=down arg=", "ev=push arg=0a", "ev=push arg=02 ", "EV=down arg=",
+    "ev=push arg=", "ev=help arg=", "ev=state arg=", "ev=fresh arg=20",
     # profiles of 1, 4, 6, 10 and 12 octets
     "fresh 20", "fresh 20040204", "fresh 200402040104", "fresh 20040204020402040204", "fresh 200402040204020402040104",
 ]
@@ -406,7 +341,8 @@ def any_octets(count):
 
 def check_any(suite, name, program, count):
     out, complaints, status = fed(program, b"\n".join(any_octets(count)))
-    suite.equal(f"{name}, exit status", (complaints, status), ("", 0))
+    # some of them end in a carriage return
+    suite.equal(f"{name}, exit status", (complaints, status), (NOTE, 0))
     lines = out.splitlines()
     suite.equal(f"{name}, number of answers", len(lines), count)
     wrong = [line for line in lines if not LINE.fullmatch(line)]

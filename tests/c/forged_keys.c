@@ -31,18 +31,17 @@ static bool set_bits(struct bench *b, struct text rest) {
     return true;
 }
 
-static bool answer(struct bench *b, struct text line) {
+static bool answer(struct session *s, struct text line) {
     struct text rest = line;
-    return is_named(next_word(&rest), "bits") ? set_bits(b, rest) : answer_line(b, line);
+    return is_named(next_word(&rest), "bits") ? set_bits(&s->bench, rest) : answer_line(s, line);
 }
 
 int main(void) {
-    static struct bench bench;
-    static const uint8_t profile[NCI_PROFILE_SIZE] = FIRST_PROFILE;
+    static struct session session;
     struct text line;
-    bool more = nci_word_answer(nci_fresh(LENT(&bench), profile, sizeof profile)) == NCI_TAKEN;
-    while (more && read_line(&line)) {
-        more = answer(&bench, line);
+    bool more = begin(&session);
+    while (more && read_line(&line, &session.failed)) {
+        more = answer(&session, line);
         fflush(stdout);
     }
     return 0;
