@@ -1,4 +1,6 @@
 // What is going on on the bench, in 27 octets, for front ends that say it. No octet of the area changes.
+use call_word::HANDED_BIT;
+use call_word::LENGTH_UNIT;
 use octets::choose;
 use octets::window;
 use record::write;
@@ -80,5 +82,5 @@ pub fn act(out: &mut [u8], r: Record) -> u64
     octets::put(out, 5, pending);
     octets::put(out, 9, &traffic);
     octets::put(out, 12, &open);
-    512 + 27 * 65536
+    HANDED_BIT + 27 * LENGTH_UNIT
 }
