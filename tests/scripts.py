@@ -24,7 +24,7 @@ ANSWERS = (ROOT / "examples" / "first.answers.txt").read_bytes()
 BAD = b"ev=bad ans=3\n"
 BOM = b"\xef\xbb\xbf"
 # what the scripts call beside the tools that they name when they are missing
-USED = "bash env basename dirname readlink find awk sed mkdir touch mv rm install mktemp chmod sh cat ld as grep flock"
+USED = "bash env basename dirname readlink find awk sed mkdir touch mv rm install mktemp chmod sh cat cp rmdir sleep ld as grep flock"
 RT = """#!/bin/sh
 mkdir rt-at-work || { echo "rt: two at once FAILED"; exit 1; }
 echo "$@" >>calls
@@ -78,7 +78,7 @@ class Copy:
 
     def forget(self):
         """Nothing is built any more."""
-        for name in ("target", "build"):
+        for name in ("target", "build", "rt-at-work"):
             shutil.rmtree(self.root / name, ignore_errors=True)
         for name in ("calls", "broken"):
             (self.root / name).unlink(missing_ok=True)
@@ -205,11 +205,24 @@ def check_at_once(suite, copy):
                 suite.equal(f"{name} at once, answers", out, ANSWERS)
 
 
+def below(crate):
+    """The crates that a proof of this one goes through, itself among them."""
+    lines = re.findall(r"^(\w+):([^#\n]*)", (ROOT / "crates.txt").read_text(), re.M)
+    names = {name: words.split() for name, words in lines}
+    found, left = set(), [crate]
+    while left:
+        name = left.pop()
+        if name in names and name not in found:
+            found.add(name)
+            left += names[name]
+    return found
+
+
 def check_progress(suite, copy):
     """A build says what it does and how long that takes, then a line a crate that it proves; a second run says nothing."""
-    crates = len(re.findall(r"^\w+:", (ROOT / "crates.txt").read_text(), re.M))
-    for script, count in (("play", crates - 2), ("library", crates - 5), ("front/build", crates - 5)):
+    for script, crate in (("play", "paper"), ("library", "bench"), ("front/build", "bench")):
         copy.forget()
+        count = len(below(crate))
         said = copy.run(script).stderr.decode()
         suite.holds(f"{script}, a first build", f"{count} crates, about seven minutes on two cores" in said, said)
         suite.holds(f"{script}, a line a crate", f"\n2 of {count}: state, 25 s\n" in said and "octets" not in said, said)
@@ -242,14 +255,17 @@ def check_elsewhere(suite, copy):
         link = copy.elsewhere / Path(script).name
         link.symlink_to(copy.root / script)
         help_ = subprocess.run([link, "--help"], cwd=copy.elsewhere, env=copy.env, capture_output=True, text=True)
-        suite.holds(f"{script} --help", help_.returncode == 0 and len(help_.stdout.splitlines()) > 0, f"{help_}")
-        words = ["area"] if script == "test" else []
+        suite.holds(f"{script} --help", help_.returncode == 0 and help_.stdout != "" and help_.stderr == "", f"{help_}")
         if script != "test":
-            done = subprocess.run([link, *words], cwd=copy.elsewhere, env=copy.env, input=FIRST, capture_output=True)
+            done = subprocess.run([link], cwd=copy.elsewhere, env=copy.env, input=FIRST, capture_output=True)
             suite.equal(f"{script}, from another folder", done.returncode, 0)
             if script == "play":
                 suite.equal("play, answers from another folder", done.stdout, ANSWERS)
         link.unlink()
+    link.symlink_to(ROOT / "test")
+    done = subprocess.run([link, "area"], cwd=copy.elsewhere, capture_output=True, text=True)
+    suite.holds("test, from another folder", re.search(r"^\d+ passed, 0 failed$", done.stdout, re.M), f"{done}")
+    link.unlink()
     suite.holds("front/build, its program", os.access(copy.root / "build" / "keys", os.X_OK))
     suite.equal("nothing in the other folder", [path.name for path in copy.elsewhere.iterdir() if path.is_dir()], [])
     done = copy.run("test", "nothing", cwd=copy.elsewhere)
@@ -338,7 +354,7 @@ def check_compilers(suite, copy):
 
 
 TESTS = (
-    check_at_once, check_progress, check_broken, check_tools, check_linked, check_elsewhere, check_compilers, check_lost,
+    check_at_once, check_progress, check_broken, check_tools, check_elsewhere, check_linked, check_compilers, check_lost,
     check_foreign, check_converted, check_terminal,
 )
 
