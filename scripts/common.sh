@@ -78,7 +78,7 @@ told() {
     local line n=0
     while IFS= read -r line; do
         printf '%s\n' "$line" >>"$build_log"
-        if [[ $line =~ ^rt:\ ([a-z_]+)\ proved\ \((.*)\)$ ]]; then
+        if [[ $line =~ ^rt:\ ([A-Za-z0-9_]+)\ proved\ \((.*)\)$ ]]; then
             n=$((n + 1))
             [[ ${BASH_REMATCH[2]} = unchanged* ]] || printf '%d of %d: %s, %s\n' "$n" "$1" "${BASH_REMATCH[1]}" "${BASH_REMATCH[2]}" >&2
         elif [[ $line = "rt: "*"NOT PROVED"* || $line = "rt: "*FAILED* ]]; then

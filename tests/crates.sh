@@ -5,7 +5,8 @@ set -u
 . "$(dirname "$(readlink -f "$0")")/../scripts/common.sh" || exit 1
 cd "$root" || exit 1
 log=$(mktemp)
-trap 'rm -f "$log"' EXIT
+began=$(mktemp)
+trap 'rm -f "$log" "$began"' EXIT
 passed=0
 failed=0
 
@@ -14,6 +15,11 @@ status=${PIPESTATUS[0]}
 if [[ $(tail -n 1 "$log") =~ ([0-9]+)\ passed,\ ([0-9]+)\ failed ]]; then
     passed=${BASH_REMATCH[1]}
     failed=${BASH_REMATCH[2]}
+fi
+# the programs are built now: play does not ask for them once more
+if [ "$status" -eq 0 ]; then
+    mkdir -p target/since
+    touch -r "$began" target/since/paper target/since/vectors
 fi
 # a run that died has no count
 if [ "$failed" -eq 0 ] && { [ "$status" -ne 0 ] || [ "$passed" -eq 0 ]; }; then

@@ -190,7 +190,7 @@ def check_at_once(suite, copy):
         copy.forget()
         runs = [
             subprocess.Popen(
-                [copy.root / script], env=copy.env | {"RT_SECONDS": "1"}, stdin=open(copy.root / "examples" / "first.txt"),
+                [copy.root / script], env=copy.env | {"RT_SECONDS": "2"}, stdin=open(copy.root / "examples" / "first.txt"),
                 stdout=subprocess.PIPE, stderr=subprocess.PIPE,
             )
             for script in scripts

@@ -232,6 +232,8 @@ def main():
     programs = [given.program] if given.program else [built("paper"), ROOT / "play"]
     play, lines = second("play"), paper(given.seed)
     for program in programs:
+        # a first run may build, which nobody waits for below
+        output(program, b"")
         for test in TESTS:
             suite.check(f"{program.name}, {test.__name__.replace('_', ' ')}", test(program, play, lines))
     return suite.end()
