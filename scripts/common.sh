@@ -95,7 +95,7 @@ prove_and_build() {
         return 0
     fi
     count=$(crates_of "$crate")
-    mkdir -p "$root/target/since"
+    mkdir -p "$root/target/since" || die "cannot write below $(shown "$root/target")"
     touch "$root/target/since/$crate.new"
     : >"$build_log"
     say "proves and builds first what is not proved yet: $count crates, about seven minutes on two cores if it is all of them"

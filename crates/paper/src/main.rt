@@ -33,19 +33,31 @@ fn answer(area: &mut [u8], out: &mut [u8], line: &[u8]) -> bool {
     written
 }
 
-// Whether a line ends in CRLF, or begins with the first octet of a BOM, as an editor leaves them and no candidate types them.
-fn is_foreign(line: &[u8]) -> bool {
+// Says of a line that it ends in CRLF, or begins with the first octet of a BOM, as an editor leaves them and no candidate
+// types them; and whether it said so.
+fn note_foreign(line: &[u8]) -> bool {
     let n = line.len();
     if n == 0 {
         return false;
     }
     if line[n - 1] == b'\r' {
+        io::write_all(
+            2,
+            b"paper: note: lines end in CRLF; README.md says how to convert them\n",
+        );
         return true;
     }
-    line[0] == 0xEF
+    if line[0] == 0xEF {
+        io::write_all(
+            2,
+            b"paper: note: the paper has a BOM; README.md says how to take it off\n",
+        );
+        return true;
+    }
+    false
 }
 
-// Answers the line where what was taken made it whole. A foreign one is a bad line as any other, and the first is noted.
+// Answers the line where what was taken made it whole. A foreign one is a bad line as any other; the first is noted.
 fn answer_whole(area: &mut [u8], out: &mut [u8], line: &[u8], t: Taken, noted: bool) -> Playing
     ensures { λ r. ⌜ r .held ≤ t .held ⌝ }
 {
@@ -57,17 +69,11 @@ fn answer_whole(area: &mut [u8], out: &mut [u8], line: &[u8], t: Taken, noted: b
         };
     }
     let open = answer(area, out, window(line, 0, t.held));
-    let foreign = !noted && is_foreign(window(line, 0, t.held));
-    if foreign {
-        io::write_all(
-            2,
-            b"paper: note: lines end in CRLF, or begin with a BOM; README.md says how to convert\n",
-        );
-    }
+    let noted = noted || note_foreign(window(line, 0, t.held));
     Playing {
         held: 0,
         open,
-        noted: noted || foreign,
+        noted,
     }
 }
 
