@@ -99,19 +99,18 @@ prove_and_build() {
     touch "$root/target/since/$crate.new"
     : >"$build_log"
     say "proves and builds first what is not proved yet: $count crates, about seven minutes on two cores if it is all of them"
-    cd "$root" || return 1
-    rt check "$crate" </dev/null 2>&1 | told "$count"
+    (cd "$root" && rt check "$crate") </dev/null 2>&1 | told "$count"
     status=${PIPESTATUS[0]}
     if [ "$status" -eq 0 ] && [[ $file = *.a ]]; then
         say "makes the library, for which $crate is proved once more"
-        rt staticlib "$crate" </dev/null >>"$build_log" 2>&1
+        (cd "$root" && rt staticlib "$crate") </dev/null >>"$build_log" 2>&1
         status=$?
     fi
-    if [ "$status" -ne 0 ] || [ ! -e "$file" ]; then
+    if [ "$status" -ne 0 ] || [ ! -e "$root/$file" ]; then
         say "$crate is not built; the whole log is $(shown "$build_log")"
         return 1
     fi
-    mv "target/since/$crate.new" "target/since/$crate"
+    mv "$root/target/since/$crate.new" "$root/target/since/$crate"
     say "built in $((SECONDS - started)) s"
 }
 

@@ -239,6 +239,8 @@ def check_broken(suite, copy):
         (copy.root / "broken").touch()
         done = copy.run(script)
         suite.holds(f"{script}, a build that fails", failed_with(done, "whole log is target/build.log$"), f"{done}")
+        far = copy.run(script, cwd=copy.elsewhere)
+        suite.holds(f"{script}, from another folder", failed_with(far, r"whole log is /.*the\\ bench/target/build.log$"), f"{far}")
         suite.holds(f"{script}, what fails", b"dh NOT PROVED" in done.stderr, f"{done.stderr}")
         log = copy.root / "target" / "build.log"
         suite.holds(f"{script}, the log", log.exists() and "a line of the prover" in log.read_text())
