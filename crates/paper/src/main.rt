@@ -33,8 +33,8 @@ fn answer(area: &mut [u8], out: &mut [u8], line: &[u8]) -> bool {
     written
 }
 
-// Says of a line that it ends in CRLF, or begins with the first octet of a BOM, as an editor leaves them and no candidate
-// types them; and whether it said so.
+// Says of a line that it ends in CRLF, or begins with a BOM, as an editor leaves them and no candidate types them; and
+// whether it said so.
 fn note_foreign(line: &[u8]) -> bool {
     let n = line.len();
     if n == 0 {
@@ -47,7 +47,7 @@ fn note_foreign(line: &[u8]) -> bool {
         );
         return true;
     }
-    if line[0] == 0xEF {
+    if 2 < n && line[0] == 0xEF && line[1] == 0xBB && line[2] == 0xBF {
         io::write_all(
             2,
             b"paper: note: the paper has a BOM; README.md says how to take it off\n",
