@@ -28,7 +28,11 @@ def second(name):
 
 def output(program, octets):
     """What a program writes for an input, and the status that it ends with."""
-    ran = subprocess.run([program], input=octets, stdout=subprocess.PIPE, timeout=PATIENCE)
+    ran = subprocess.run([program], input=octets, capture_output=True, timeout=PATIENCE)
+    for line in ran.stderr.decode("ascii", "replace").splitlines():
+        # random lines end in CR now and then
+        if not line.startswith("paper: note: "):
+            print(line)
     return ran.stdout, ran.returncode
 
 

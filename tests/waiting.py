@@ -1,5 +1,5 @@
 #!/usr/bin/env python3
-"""The program `paper` before someone who waits for each answer, and at the ends of its input and output.
+"""The program `paper`, and `./play`, before someone who waits for each answer, and at the ends of its input and output.
 
     waiting.py [--program PATH] [--seed N]
 
@@ -16,7 +16,7 @@ import termios
 import time
 from pathlib import Path
 
-from programs import Suite, built, output, second
+from programs import ROOT, Suite, built, output, second
 
 LINES = 1000
 # an answer that takes longer than this, in seconds, was held back
@@ -50,7 +50,7 @@ class Talk:
             theirs_in, self.write_to = os.pipe()
             self.read_from, theirs_out = os.pipe()
             ends = {"stdin": theirs_in, "stdout": theirs_out}
-        self.process = subprocess.Popen([program], **ends, **more)
+        self.process = subprocess.Popen([program], **ends, stderr=subprocess.DEVNULL, **more)
         for end in set(ends.values()):
             os.close(end)
 
@@ -229,9 +229,13 @@ def main():
     parser.add_argument("--program", type=Path)
     parser.add_argument("--seed", type=int, default=1)
     given, suite = parser.parse_args(), Suite("waiting")
-    program, play, lines = given.program or built("paper"), second("play"), paper(given.seed)
-    for test in TESTS:
-        suite.check(test.__name__.replace("_", " "), test(program, play, lines))
+    programs = [given.program] if given.program else [built("paper"), ROOT / "play"]
+    play, lines = second("play"), paper(given.seed)
+    for program in programs:
+        # a first run may build, which nobody waits for below
+        output(program, b"")
+        for test in TESTS:
+            suite.check(f"{program.name}, {test.__name__.replace('_', ' ')}", test(program, play, lines))
     return suite.end()
 
 

@@ -11,10 +11,10 @@ use Rattle.paper.proofs.play_piece.Statement.{statement}
 use Rattle.paper.proofs.play_piece.Tie as tie
 
 abbrev Inv-loop : tie.InvT-loop
-Inv-loop area₀ out₀ line₀ held piece s₀ at₀ area out line s at = (s .held ≤ 2101) × (at ≤ length piece) × (length area ≡ length area₀) × (length out ≡ length out₀)
+Inv-loop area₀ out₀ line₀ held noted piece s₀ at₀ area out line s at = (s .held ≤ 2101) × (at ≤ length piece) × (length area ≡ length area₀) × (length out ≡ length out₀)
 
 abbrev μ-loop : tie.MeasureT-loop
-μ-loop area₀ out₀ line₀ held piece s₀ at₀ area out line s at = length piece - at
+μ-loop area₀ out₀ line₀ held noted piece s₀ at₀ area out line s at = length piece - at
 
 loop-holds : tie.Need-loop-holds Inv-loop μ-loop
 loop-holds c = search needs
