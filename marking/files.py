@@ -1,4 +1,5 @@
 """What the marking programs read, run and write. Whatever fails is one line on standard error and status 2."""
+import errno
 import os
 import subprocess
 import sys
@@ -81,16 +82,23 @@ def play(paper):
     return played
 
 
-def ended(program, work):
-    """Runs a program's work, which gives its status, and sees to it that all of its output was written."""
+def done(program, work):
+    """Runs a program's work, which gives its status and the lines that it says, and writes these: the status is 0 or 1 only where
+    all of them were written."""
     try:
-        if sys.stdout is None:
-            raise Cannot("there is no standard output to write to")
-        status = work()
-        sys.stdout.flush()
-        return status
+        status, said = work()
     except Cannot as fault:
         note(f"{program}: {fault}")
+        return CANNOT
+    except Exception as fault:  # status 1 would say that something differs
+        note(f"{program}: {type(fault).__name__}: {fault}")
+        return CANNOT
+    try:
+        if sys.stdout is None:
+            raise OSError(errno.EBADF, os.strerror(errno.EBADF))
+        sys.stdout.write("".join(line + "\n" for line in said))
+        sys.stdout.flush()
+        return status
     except OSError as fault:
         note(f"{program}: the output is lost: {fault.strerror}")
         # what is left in the buffer cannot be written either
