@@ -41,8 +41,9 @@ def version(header):
 
 def word_table(header):
     """The rows of the table of the word's bits: the first bit, the last, and what they are."""
-    rows = re.findall(r"^ \*   (\d+)(?: to (\d+))? +(\S.*?)(?: \*/)?$", header.partition("Its bits, for languages")[2].partition("*/")[0] + "*/", re.M)
-    return [(int(first), int(last or first), text.removesuffix("*/").strip()) for first, last, text in rows]
+    comment = header.partition("Its bits, for languages")[2].partition("*/")[0]
+    rows = re.findall(r"^ \*   (\d+)(?: to (\d+))? +(\S.*)$", comment, re.M)
+    return [(int(first), int(last or first), text.strip()) for first, last, text in rows]
 
 
 def word_functions(header):
@@ -62,7 +63,10 @@ def calls(header):
 # groups of names.rt whose names have a word more in the header
 PREFIXES = {"statuses": "STATUS_", "rf technology and mode": "MODE_"}
 # of the header, what stands there for messages
-OF_MESSAGES = r"NCI_(?:GID|OID|MT|STATUS|MODE|AT|LENGTH|SIZE|TO)_\w+|NCI_(?:FRAME_INTERFACE|LOOPBACK|MORE_FOLLOW|\w+_REQUEST|LINK_LOSS|HEADER_SIZE)"
+OF_MESSAGES = (
+    r"NCI_(?:(?:GID|OID|MT|STATUS|MODE|AT|LENGTH|SIZE|TO)_\w+"
+    r"|FRAME_INTERFACE|LOOPBACK|MORE_FOLLOW|\w+_REQUEST|LINK_LOSS|HEADER_SIZE)"
+)
 LIMITS = {"NCI_GID_MAX", "NCI_OID_MAX"}
 
 
@@ -95,11 +99,18 @@ def constants_differ(texts):
 
 
 # the functions by the definitions of Word; the answer has the low eight bits
-UNITS = {"dropped": "dropBit", "handed_out": "handedBit", "length": "lengthUnit", "put_down": "downUnit", "put_up": "upUnit", "rfu": "rfuUnit"}
+UNITS = {
+    "dropped": "dropBit",
+    "handed_out": "handedBit",
+    "length": "lengthUnit",
+    "put_down": "downUnit",
+    "put_up": "upUnit",
+    "rfu": "rfuUnit",
+}
 
 
 def word_differs(texts):
-    """The table has all 64 bits in order, each range of a function and 0 elsewhere; the functions take them where they are defined."""
+    """The table has all 64 bits in order, a row for each function and 0 elsewhere; the functions take bits as they are defined."""
     table, taken = word_table(texts["header"]), word_functions(texts["header"])
     bits = [bit for first, last, _ in table for bit in range(first, last + 1)]
     if bits != list(range(64)):
@@ -183,7 +194,8 @@ def unraised(header, noted):
         due = f"{first + 1}.0" if part == "first" else f"{first}.{second + 1}"
         if text == header or not any(f"due is {due}:" in wrong for wrong in version_differs(text, noted)):
             yield name
-    raised = header.replace(f'"{first}.{second}"', f'"{first}.{second + 1}"').replace(f"VERSION {number}u", f"VERSION {number + 1}u")
+    raised = header.replace(f'"{first}.{second}"', f'"{first}.{second + 1}"')
+    raised = raised.replace(f"VERSION {number}u", f"VERSION {number + 1}u")
     if not list(version_differs(raised, noted)):
         yield "a version raised for nothing"
 
@@ -193,7 +205,8 @@ def unraised(header, noted):
 
 def run(*command, **named):
     """What a command prints; a failure tells it."""
-    done = subprocess.run([str(word) for word in command], stdout=subprocess.PIPE, stderr=subprocess.STDOUT, text=True, timeout=PATIENCE, **named)
+    both = {"stdout": subprocess.PIPE, "stderr": subprocess.STDOUT, "text": True}
+    done = subprocess.run([str(word) for word in command], timeout=PATIENCE, **both, **named)
     if done.returncode != 0:
         raise AssertionError(f"{' '.join(map(str, command))}: status {done.returncode}\n{done.stdout[-2000:]}")
     return done.stdout
@@ -228,7 +241,8 @@ def check_pkg_config(suite, folder, prefix):
     """A program is built by the words of pkg-config, with the shared object and with the archive, and runs."""
     first, second, number = version(HEADER.read_text())
     environment = os.environ | {"PKG_CONFIG_PATH": str(prefix / "lib" / "pkgconfig")}
-    suite.equal("version of the package", run("pkg-config", "--modversion", "nci_bench", env=environment).strip(), f"{first}.{second}")
+    told = run("pkg-config", "--modversion", "nci_bench", env=environment)
+    suite.equal(f"{prefix.name}: version of the package", told, f"{first}.{second}\n")
     source = folder / "front.c"
     source.write_text(PROGRAM)
     builds = {
@@ -238,7 +252,8 @@ def check_pkg_config(suite, folder, prefix):
     for name, command in builds.items():
         run("bash", "-euc", command, cwd=folder, env=environment)
         paths = {"LD_LIBRARY_PATH": str(prefix / "lib")} if name == "the shared object" else {}
-        suite.equal(f"{prefix.name}: a program with {name}", run(folder / "front", env=os.environ | paths), f"{first}.{second} {number} 00\n")
+        told = run(folder / "front", env=os.environ | paths)
+        suite.equal(f"{prefix.name}: a program with {name}", told, f"{first}.{second} {number} 00\n")
         needed = "libnci_bench" in run("readelf", "-d", folder / "front")
         suite.equal(f"{prefix.name}: what it needs, with {name}", needed, name == "the shared object")
 

@@ -109,8 +109,8 @@ CHANGES = [
     ("first.txt", 3, "ev=push ans=6 drop=0 rfu=00 pkt= msg=", "", ["form, answers: an empty line\n"]),
     ("first.txt", 3, "ev=push ans=6 drop=0 rfu=00 pkt= msg=", "refused", ["form, answers: refused\n"]),
     ("first.txt", 11, "pkt=40040400040202", "pkt=40040400040203", ["create response, status OK"]),
-    ("side-by-side.txt", 45, "ev=bad", "ev=BAD", ["ev, answers: BAD, no value of this field", "ev, played: bad, no line of the sheet",
-     "the same but for capital and small letters"]),
+    ("side-by-side.txt", 45, "ev=bad", "ev=BAD", ["ev, answers: BAD, no value of this field",
+     "ev, played: bad, no line of the sheet", "the same but for capital and small letters"]),
 ]
 
 
@@ -178,8 +178,8 @@ def check_lengths(suite, folder):
     suite.equal("a blank line more", run(MARK, FIRST, blank), (said, "", 1))
     whole = (f"{len(text.splitlines())} lines alike\n", "", 0)
     suite.equal("no line end at the end", run(MARK, FIRST, folder.write("open", text.rstrip("\n"))), whole)
-    suite.equal("one line", run(MARK, folder.write("one", "ev=up arg="), folder.write("a", "ev=up ans=8 drop=0 rfu=00 pkt= msg=")),
-                ("1 line alike\n", "", 0))
+    one = [folder.write("one", "ev=up arg="), folder.write("its answer", "ev=up ans=8 drop=0 rfu=00 pkt= msg=")]
+    suite.equal("one line", run(MARK, *one), ("1 line alike\n", "", 0))
 
 
 def check_line_ends(suite, folder):
@@ -197,7 +197,8 @@ def check_line_ends(suite, folder):
         spoilt = folder.write("paper", octets)
         out, complaint, status = run(MARK, "--all", spoilt, answers_of(FIRST))
         suite.holds(f"a paper with {name} is told", f"{spoilt}: {words}" in complaint, complaint)
-        suite.holds(f"a paper with {name} differs", status == 1 and out.count("ev, played: bad, no line of the sheet") == count, out)
+        bad = out.count("ev, played: bad, no line of the sheet")
+        suite.equal(f"a paper with {name} differs", (bad, status), (count, 1))
 
 
 def check_files(suite, folder):
@@ -242,16 +243,17 @@ def check_play(suite, folder):
 
 
 def check_lost(suite, program, *words):
+    lost = f"{program.name}: the output is lost: "
     with open("/dev/full", "w") as full:
         _, complaint, status = run(program, *words, stdout=full)
-    suite.equal(f"{program.name}, a full disk", (complaint, status), (f"{program.name}: the output is lost: No space left on device\n", 2))
+    suite.equal(f"{program.name}, a full disk", (complaint, status), (lost + "No space left on device\n", 2))
     _, complaint, status = run("sh", "-c", '"$@" >&-', "sh", program, *words)
-    suite.equal(f"{program.name}, no output", (complaint, status), (f"{program.name}: the output is lost: Bad file descriptor\n", 2))
+    suite.equal(f"{program.name}, no output", (complaint, status), (lost + "Bad file descriptor\n", 2))
     reading, writing = os.pipe()
     os.close(reading)
     with os.fdopen(writing, "w") as gone:
         _, complaint, status = run(program, *words, stdout=gone)
-    suite.equal(f"{program.name}, a reader that has gone", (complaint, status), (f"{program.name}: the output is lost: Broken pipe\n", 2))
+    suite.equal(f"{program.name}, a reader that has gone", (complaint, status), (lost + "Broken pipe\n", 2))
 
 
 def check_places(suite, folder):
@@ -299,8 +301,10 @@ def check_stubs(suite, folder):
 
 def check_build(suite, folder):
     """The keys are made where they are not there, and again where a source is newer."""
-    made = 'printf \'#!/bin/sh\\necho made >>"$0.log"; tr = " "\\n\' >"$(dirname "$0")/../build/keys"; chmod +x "$(dirname "$0")/../build/keys"; '
-    inner = copies(folder, "built", build='mkdir -p "$(dirname "$0")/../build"; echo x >>"$(dirname "$0")/../count"; ' + made)
+    build = f"""cd "$(dirname "$0")/.." && mkdir -p build && echo x >>count
+printf '#!/bin/sh\\n%s\\n' "{ECHO}" >build/keys && chmod +x build/keys
+"""
+    inner = copies(folder, "built", build=build)
     counts = []
     for touched in (None, None, "front/keys.c", "include/nci_bench.h", "crates/a.rt"):
         if touched:
@@ -312,7 +316,8 @@ def check_build(suite, folder):
 
 def check_words(suite, folder):
     """With the keys as they are: a number first is the refusal that the sheet has, a word first a call that was taken."""
-    odd = folder.write("odd", "\n".join(NO_FORM[:3] + ["ev=quit arg=", "ev=send arg=02", "ev=up arg=", "ev=air arg=09", "ev=push"]) + "\n")
+    lines = ["quit", "push 2", "", "ev=quit arg=", "ev=send arg=02", "ev=up arg=", "ev=air arg=09", "ev=push"]
+    odd = folder.write("odd", "\n".join(lines) + "\n")
     for paper in [*EXAMPLES, odd]:
         lines = paper.read_text().splitlines()
         played = subprocess.run([ROOT / "play"], input=paper.read_bytes(), stdout=subprocess.PIPE, check=True).stdout.decode()
@@ -331,8 +336,8 @@ def main():
     with tempfile.TemporaryDirectory() as path:
         folder = Folder(path)
         check_alike(suite)
-        for check in (check_changes, check_small_letters, check_every_octet, check_all, check_lengths, check_line_ends, check_files,
-                      check_play, check_places, check_stubs, check_build, check_words):
+        marks = [check_changes, check_small_letters, check_every_octet, check_all, check_lengths, check_line_ends, check_files]
+        for check in [*marks, check_play, check_places, check_stubs, check_build, check_words]:
             check(suite, folder)
         check_lost(suite, MARK, FIRST, answers_of(FIRST))
         check_lost(suite, MARK, "--all", FIRST, "/dev/null")

@@ -4,9 +4,9 @@
     reference.py         runs all tests; the last line is 'reference: N passed, M failed'
     reference.py --all   prints every failure of a test, not the first few alone
 
-Numbers of messages, statuses, modes and RF states are held to the definitions; fields to the layouts, field by field; refusals to
-the card and to tests/data/refusals.txt. Every row on commands, RF states and air events is played. Then every number of the page's
-tables is changed once, and each change has to be noticed."""
+Numbers of messages, statuses, modes and RF states are held to the definitions; fields to the layouts, field by field; refusals
+to the card and to tests/data/refusals.txt. Every row on commands, RF states and air events is played. Then every number of the
+page's tables is changed once, and each change has to be noticed."""
 import re
 import sys
 
@@ -54,12 +54,18 @@ def ranges():
     yield "Activated notification", "ID", least_and_most(lambda n: air_taken("DISCOVERY", f"02{n:02X}0400"))
     yield "Discover notification", "n", least_and_most(lambda n: air_taken("DISCOVERY", "0101040002" + n * "00"), 64)
     yield "Activated notification", "n", least_and_most(lambda n: air_taken("DISCOVERY", "02010400" + n * "00"), 64)
-    yield "Discover notification", "type: 0 last, 1 last at a limit, 2 more follow", least_and_most(lambda n: air_taken("W4_ALL_DISCOVERIES", f"01020400{n:02X}"))
+    types = least_and_most(lambda n: air_taken("W4_ALL_DISCOVERIES", f"01020400{n:02X}"))
+    yield "Discover notification", "type: 0 last, 1 last at a limit, 2 more follow", types
     yield "Discover command", "how many modes", least_and_most(lambda n: discovers(f"{n:02X}" + n * " 00 01"), 64)
     polls, listens = [least_and_most(lambda n: discovers(f"01 {mode} {n:02X}")) for mode in ("00", "80")]
-    yield "Discover command", "frequency of the first", f"{polls}; {listens.split()[0]} for modes that listen" if listens == "01 to 01" else None
-    created = [answer_of.split()[-1] for n in range(4) for answer_of in packets(played(*IDLE, *(n * CREATE), *CREATE[:2])[-1]["pkt"])]
+    each = f"{polls}; 01 for modes that listen" if listens == "01 to 01" else None
+    yield "Discover command", "frequency of the first", each
+    created = [packets(played(*IDLE, *(n * CREATE), *CREATE[:2])[-1]["pkt"])[0].split()[-1] for n in range(4)]
     yield "Create response", "Conn ID", f"{created[0]} to {created[-1]}"
+    yield from ranges_of_commands()
+
+
+def ranges_of_commands():
     resets = [f"{n:02X}" for n in range(256) if answer("cold", f"20 00 01 {n:02X}")[0] == "40 00 01 00"]
     yield "Reset command", "type", "{} keeps the configuration, {} resets it".format(*resets) if len(resets) == 2 else None
     loops = [f"{n:02X}" for n in range(256) if answer("IDLE", f"20 04 02 {n:02X} 00")[0] != "40 04 01 01"]
@@ -104,18 +110,24 @@ def reported(profile):
     return played(f"ev=fresh arg={profile}", *IDLE, *CREATE, "ev=report arg=02")[-1]["msg"]
 
 
+def pushed(before, *lines):
+    """The packets that the last of some lines puts on wires."""
+    return played(*before, *lines)[-1]["pkt"]
+
+
+# an open loopback, and a message of one packet that went there and was consumed
+OPEN, LOOPED = BEFORE["one loopback"], ["ev=send arg=02AA", "ev=push arg=02", "ev=down arg=", "ev=consume arg=02"]
 # what the page says outside its tables, and what of it is played
 SENTENCES = {
     "Without flow control the first is FF and the last two are 00.": lambda: reported("2004FF0401") == "FF00000000",
-    "the first segment of a long command of group 0 has 30": lambda: played("ev=command arg=003F" + 33 * "00")[0]["pkt"].startswith("303F20"),
+    "the first segment of a long command of group 0 has 30": lambda: pushed([], "ev=command arg=003F" + 33 * "00").startswith("303F"),
     "it is answered with its own group and opcode and status 05": lambda: answer("cold", "2F 3E 00") == ["4F 3E 01 05"],
     "If it is not 00 it is the only one.": lambda: answer("four loopbacks", "20 04 02 01 00") == ["40 04 01 01"],
     "judged in this order: unknown, too short, wrong state, values": lambda: [
         answer("cold", packet)[0][-2:] for packet in ("20 3F 00", "21 03 01 09", "21 03 03 01 05 01")
     ] + answer("IDLE", "21 03 03 01 05 01") == ["05", "05", "06", "41 03 01 01"],
     "Octets to spare at the end of a command are ignored": lambda: answer("cold", "20 00 02 01 FF")[0] == "40 00 01 00",
-    "An empty message is one packet with no payload": lambda: played(*BEFORE["one loopback"], "ev=send arg=02", "ev=push arg=02")[-1]["pkt"]
-    == "020000",
+    "An empty message is one packet with no payload": lambda: pushed(OPEN, "ev=send arg=02", "ev=push arg=02") == "020000",
     "An event that is not taken is refused with 11": lambda: aired(IDLE, "08") == ["11"],
     "repeats an ID with its protocol": lambda: aired(ALL, "0101040002", "0101050002") == ["11", "0"],
     "or is the eighth and has type 2": lambda: aired(found_many(7), "0108040002", "0108040000") == ["11", "0"],
@@ -130,8 +142,7 @@ SENTENCES = {
         for state in STATES
     ),
     "Protocols are passed on as they are": lambda: all(air_taken("DISCOVERY", f"0101{n:02X}0002") for n in range(256)),
-    "Connection 0 alone owes credits": lambda: played(*BEFORE["one loopback"], "ev=send arg=02AA", "ev=push arg=02", "ev=down arg=",
-                                                      "ev=consume arg=02", "ev=credit arg=")[-1]["ans"] == "8",
+    "Connection 0 alone owes credits": lambda: played(*OPEN, *LOOPED, "ev=credit arg=")[-1]["ans"] == "8",
 }
 
 
@@ -205,8 +216,8 @@ def number_places(page):
         elif not line.startswith("|--"):
             start = at
             for name, cell in zip(head, cells):
-                if name not in TOLD:
-                    yield from ((start + found.start(), start + found.end()) for found in re.finditer(r"\b(?:[0-9A-F]{2}|\d+)\b", cell))
+                for found in re.finditer(r"\b(?:[0-9A-F]{2}|\d+)\b", cell) if name not in TOLD else []:
+                    yield start + found.start(), start + found.end()
                 start += len(cell) + 1
         at += len(line) + 1
 

@@ -60,8 +60,9 @@ def packets(value):
 
 def answer(before, packet):
     """What goes up for a command's packet."""
-    octets_ = bytes.fromhex(packet)
-    if len(octets_) != 3 + octets_[2] or octets_[0] >> 4 != 2:
+    given = bytes.fromhex(packet)
+    if len(given) != 3 + given[2] or given[0] >> 4 != 2:
         return ["no command"]
-    sent, taken = played(*BEFORE[before], f"ev=command arg={octets_[0] & 15:02X}{octets_[1]:02X}{octets_[3:].hex().upper()}", "ev=down arg=")[-2:]
+    argument = bytes([given[0] & 15, given[1], *given[3:]]).hex().upper()
+    sent, taken = played(*BEFORE[before], f"ev=command arg={argument}", "ev=down arg=")[-2:]
     return packets(taken["pkt"]) if packets(sent["pkt"]) == [packet] else [f"sent {sent}"]

@@ -26,8 +26,9 @@ def header_differs(texts):
     # going up the two low bits are credits, and no reserved bits
     low = reserved(rows, 3, "going down: reserved")
     yield from differ(reserved(rows, 3, "reserved") & ~low, int(masks["RFU_DATA_UP"], 0), "DATA_UP")
-    covered = [(row[0], bit) for row in rows for bits in [re.findall(r"\d+", row[1])] for bit in range(int(bits[-1]), int(bits[0]) + 1)]
-    yield from differ(sorted(covered), sorted((octet, bit) for octet in "012" for bit in range(8)), "bits")
+    ends = [(row[0], [int(bit) for bit in re.findall(r"\d+", row[1])]) for row in rows]
+    covered = sorted((octet, bit) for octet, bits in ends for bit in range(bits[-1], bits[0] + 1))
+    yield from differ(covered, [(octet, bit) for octet in "012" for bit in range(8)], "bits")
     # a message of two segments: the first has the bit at 1, the last at 0
     pushed = played(*BEFORE["one loopback"], "ev=send arg=02AABBCCDDEE", "ev=push arg=02", "ev=push arg=02")[-2:]
     bits = [int(answered["pkt"][:2], 16) >> 4 & 1 for answered in pushed]
@@ -175,6 +176,14 @@ LENGTHS = {
     "Credits notification": "ENTRY_SIZE",
 }
 LAYOUTS = {*DEFINED, *COMMANDS, "Credits notification"}
+# verdicts whose response has the status alone, by the command
+ALONE = {
+    "Resets type": "reset",
+    "Closes id": "close",
+    "Turns rf": "discover",
+    "Selects pair": "select",
+    "Deactivates type rf": "deactivate",
+}
 
 
 def layouts(texts):
@@ -248,6 +257,5 @@ def layouts_differ(texts):
     known = {constant for placed in PLACED.values() for constant in placed.values()} | set(LENGTHS.values())
     yield from differ(known, set(places(texts)), "constants")
     alone = re.search(r"^The responses to (.*) have the status alone", texts[PAGE], re.M)[1]
-    verdicts = {"Resets type": "reset", "Closes id": "close", "Turns rf": "discover", "Selects pair": "select", "Deactivates type rf": "deactivate"}
-    due = [words for verdict, words in verdicts.items() if f"responseOf p ({verdict}) = statusOk ∷ []\n" in texts[LAYOUT]]
+    due = [words for verdict, words in ALONE.items() if f"responseOf p ({verdict}) = statusOk ∷ []\n" in texts[LAYOUT]]
     yield from differ(re.split(", | and ", alone), due, "status alone")

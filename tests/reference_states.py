@@ -7,19 +7,29 @@ from reference_page import AIR, HEADER, RADIO, WRITING, differ, names, table
 # ---- octets of the RF messages
 
 
+# the first three modes have no names among the definitions
+UNNAMED = [["00", "poll NFC-A"], ["01", "poll NFC-B"], ["02", "poll NFC-F"]]
+MODES = {
+    "pollActive": "poll active",
+    "pollV": "poll NFC-V",
+    "listenA": "listen NFC-A",
+    "listenB": "listen NFC-B",
+    "listenF": "listen NFC-F",
+    "listenActive": "listen active",
+}
+DEACTIVATIONS = {"toIdle": "to idle", "toSleep": "to sleep", "toSleepAf": "to sleep AF", "toDiscovery": "to discovery"}
+REASONS = {"hostRequest": "the host asked", "endpointRequest": "the endpoint asked", "linkLoss": "the link was lost"}
+
+
 def rf_octets_differ(texts):
-    modes, types, reasons = table(texts, "technology and mode"), table(texts, "type of deactivation"), table(texts, "reason of deactivation")
-    numbers = names(texts, "RF technology")
-    due = {"poll active": "pollActive", "poll NFC-V": "pollV", "listen NFC-A": "listenA", "listen NFC-B": "listenB", "listen NFC-F": "listenF",
-           "listen active": "listenActive"}
-    first = [["00", "poll NFC-A"], ["01", "poll NFC-B"], ["02", "poll NFC-F"]]
-    yield from differ(modes, first + [[f"{numbers[name]:02X}", words] for words, name in due.items()], "modes")
-    yield from differ({n for n in range(256) if answer("IDLE", f"21 03 03 01 {n:02X} 01") == ["41 03 01 00"]}, {int(row[0], 16) for row in modes}, "modes taken")
-    numbers = names(texts, "deactivation")
-    yield from differ(types, [[f"{numbers[name]:02X}", words] for name, words in
-                              [("toIdle", "to idle"), ("toSleep", "to sleep"), ("toSleepAf", "to sleep AF"), ("toDiscovery", "to discovery")]])
-    yield from differ(reasons, [[f"{numbers[name]:02X}", words] for name, words in
-                                [("hostRequest", "the host asked"), ("endpointRequest", "the endpoint asked"), ("linkLoss", "the link was lost")]])
+    modes, numbers = table(texts, "technology and mode"), names(texts)
+    yield from differ(modes, UNNAMED + [[f"{numbers[name]:02X}", words] for name, words in MODES.items()], "modes")
+    taken = [f"{n:02X}" for n in range(256) if answer("IDLE", f"21 03 03 01 {n:02X} 01") == ["41 03 01 00"]]
+    yield from differ([row[0] for row in modes], taken, "modes")
+    for head, words in (("type of deactivation", DEACTIVATIONS), ("reason of deactivation", REASONS)):
+        yield from differ(table(texts, head), [[f"{numbers[name]:02X}", said] for name, said in words.items()])
+    yield from differ({*MODES}, {*names(texts, "RF technology")}, "modes")
+    yield from differ({*DEACTIVATIONS, *REASONS}, {*names(texts, "deactivation")}, "types and reasons")
 
 
 # ---- RF states and air events
@@ -33,22 +43,28 @@ def state_shown(lines):
     return [(last["ans"], last["pkt"]) for probe in probes for last in played(*lines, *probe)[-1:]]
 
 
+HAPPENS = {
+    "discover command, OK": command("01030200018001"),
+    "select command, OK": command("0104010401"),
+    "air 2": event("02010400"),
+    "air 3": event("03010480"),
+}
+
+
 def happens(what, before):
     """The lines for what happens in a row of the table of states, in each way that it stands for."""
     found = re.fullmatch(r"deactivate command, (?:any type|type (\d))", what)
     if found:
         active = before in ("POLL_ACTIVE", "LISTEN_ACTIVE")
         return [command(f"0106{n:02X}", 2 if active else 1) for n in ([int(found[1])] if found[1] else [0, 1, 2, 3, 4, 255])]
-    fixed = {"discover command, OK": command("01030200018001"), "select command, OK": command("0104010401"), "air 2": event("02010400"),
-             "air 3": event("03010480")}
     found = re.fullmatch(r"air (?:1, type (\d)|([4-7]))", what)
-    if what in fixed or not found:
-        return [fixed[what]] if what in fixed else []
+    if not found:
+        return [HAPPENS[what]] if what in HAPPENS else []
     return [event(f"01020400{int(found[1]):02X}" if found[1] else f"0{found[2]}")]
 
 
 def moves_differ(texts):
-    """Each row is played, and leaves a bench that behaves as one in the state that it names. Those that no row has change nothing."""
+    """Each row is played, and leaves a bench that behaves as one in the state that it names. What no row has changes nothing."""
     shown = {state: state_shown(BEFORE[state]) for state in STATES}
     yield from differ(len({str(show) for show in shown.values()}), len(STATES), "states that can be told apart")
     rows = table(texts, "from")
@@ -68,8 +84,8 @@ def moves_differ(texts):
 def unlisted(rows, shown):
     """What is taken in a state, changes it and has no row."""
     listed = {(before, what) for before, what, _ in rows}
-    kinds = ["air 2", "air 3", *(f"air 1, type {n}" for n in range(3)), *(f"air {n}" for n in range(4, 8)), "discover command, OK", "select command, OK",
-             *(f"deactivate command, type {n}" for n in range(5))]
+    kinds = [*HAPPENS, *(f"air 1, type {n}" for n in range(3)), *(f"air {n}" for n in range(4, 8))]
+    kinds += [f"deactivate command, type {n}" for n in range(5)]
     for before in STATES:
         for what in kinds:
             any_type = re.sub(r"command, type \d", "command, any type", what)
@@ -94,6 +110,11 @@ def defined_events(texts, state):
             yield kind
 
 
+def takes(state, way):
+    """Whether an event is taken in a state of the page."""
+    return state in BEFORE and played(*BEFORE[state], *way)[-2]["ans"] == "0"
+
+
 def states_differ(texts):
     """Numbers and names as the record has them, and the events that each takes: by the definitions, and played."""
     found = re.findall(r"^rfOctets \(?(\w+).*? = (\d) ∷", texts[WRITING], re.M)
@@ -105,11 +126,10 @@ def states_differ(texts):
         if number in due:
             yield from differ(kinds, list(defined_events(texts, due[number][1])), f"{name} takes")
         chosen = name + " with a selection" if "with a selection" in events else name
-        taken = [n for n in range(1, 9) if chosen in BEFORE and any(played(*BEFORE[chosen], *way)[-2]["ans"] == "0" for way in every_way(n))]
+        taken = [n for n in range(1, 9) if any(takes(chosen, way) for way in every_way(n))]
         yield from differ(kinds, taken, f"{name} takes, played,")
         types = re.findall(r"with type (\d)", events) or (["0", "1", "2"] if 1 in kinds else [])
-        first = [str(n) for n in range(3) if name in BEFORE and played(*BEFORE[name], *event(f"01020400{n:02X}"))[-2]["ans"] == "0"]
-        yield from differ(types, first, f"{name}, types")
+        yield from differ(types, [str(n) for n in range(3) if takes(name, event(f"01020400{n:02X}"))], f"{name}, types")
 
 
 def every_way(kind):
@@ -119,9 +139,16 @@ def every_way(kind):
 
 
 # where an event of each kind is taken, and its octets
-EVENTS = {"1": ("DISCOVERY", "0101040002"), "2": ("DISCOVERY", "02010400"), "3": ("DISCOVERY", "03010480"),
-          "4": ("W4_HOST_SELECT with a selection", "04"), "5": ("LISTEN_ACTIVE", "05"), "6": ("LISTEN_ACTIVE", "06"),
-          "7": ("LISTEN_ACTIVE", "07"), "8": ("LISTEN_ACTIVE", "0801")}
+EVENTS = {
+    "1": ("DISCOVERY", "0101040002"),
+    "2": ("DISCOVERY", "02010400"),
+    "3": ("DISCOVERY", "03010480"),
+    "4": ("W4_HOST_SELECT with a selection", "04"),
+    "5": ("LISTEN_ACTIVE", "05"),
+    "6": ("LISTEN_ACTIVE", "06"),
+    "7": ("LISTEN_ACTIVE", "07"),
+    "8": ("LISTEN_ACTIVE", "0801"),
+}
 
 
 def events_differ(texts):
