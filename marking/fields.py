@@ -1,5 +1,6 @@
 """The fields of an answer, and what their values mean in words. Numbers of refusals are worded as docs/CARD.md words them."""
 import re
+from functools import lru_cache
 
 from files import ROOT, Cannot, read
 
@@ -35,6 +36,7 @@ def parsed(line):
     return found if len(found) == len(words) else {}
 
 
+@lru_cache(maxsize=None)
 def card():
     """What the numbers of answers mean."""
     path = ROOT / "docs" / "CARD.md"

@@ -110,7 +110,7 @@ UNITS = {
 
 
 def word_differs(texts):
-    """The table has all 64 bits in order, a row for each function and 0 elsewhere; the functions take bits as they are defined."""
+    """The table has all 64 bits in order, a row for each function and 0 elsewhere; the functions take what is defined."""
     table, taken = word_table(texts["header"]), word_functions(texts["header"])
     bits = [bit for first, last, _ in table for bit in range(first, last + 1)]
     if bits != list(range(64)):
@@ -245,12 +245,10 @@ def check_pkg_config(suite, folder, prefix):
     suite.equal(f"{prefix.name}: version of the package", told, f"{first}.{second}\n")
     source = folder / "front.c"
     source.write_text(PROGRAM)
-    builds = {
-        "the shared object": 'eval "gcc front.c $(pkg-config --cflags --libs nci_bench) -o front"',
-        "the archive": 'eval "gcc front.c $(pkg-config --cflags nci_bench) $(pkg-config --variable=archive nci_bench) -o front"',
-    }
-    for name, command in builds.items():
-        run("bash", "-euc", command, cwd=folder, env=environment)
+    builds = re.findall(r"^    (eval .*)$", PAGE.read_text(), re.M)
+    suite.equal("builds that the page has", len(builds), 2)
+    for name, command in zip(["the shared object", "the archive"], builds):
+        run("sh", "-euc", command.replace("FILE.c", "front.c"), cwd=folder, env=environment)
         paths = {"LD_LIBRARY_PATH": str(prefix / "lib")} if name == "the shared object" else {}
         told = run(folder / "front", env=os.environ | paths)
         suite.equal(f"{prefix.name}: a program with {name}", told, f"{first}.{second} {number} 00\n")

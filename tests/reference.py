@@ -14,7 +14,7 @@ import programs
 from programs import ROOT, Suite
 from reference_bench import ALL, BEFORE, CREATE, DISCOVERY, IDLE, INIT, RESET, STATES, answer, event, marking, packets, played
 from reference_fields import header_differs, layouts, layouts_differ, messages_differ, statuses_differ
-from reference_page import CARD, PAGE, READ, REFUSALS, differ, table
+from reference_page import CARD, CONTROLLER, LAYOUT, NAMES, PAGE, READ, REFUSALS, TYPES, differ, table
 from reference_states import events_differ, moves_differ, rf_octets_differ, state_shown, states_differ
 
 # ---- commands
@@ -120,7 +120,7 @@ OPEN, LOOPED = BEFORE["one loopback"], ["ev=send arg=02AA", "ev=push arg=02", "e
 # what the page says outside its tables, and what of it is played
 SENTENCES = {
     "Without flow control the first is FF and the last two are 00.": lambda: reported("2004FF0401") == "FF00000000",
-    "the first segment of a long command of group 0 has 30": lambda: pushed([], "ev=command arg=003F" + 33 * "00").startswith("303F"),
+    "the first segment of a long command of group 0 has 30": lambda: pushed([], "ev=command arg=003F" + 33 * "00")[:4] == "303F",
     "it is answered with its own group and opcode and status 05": lambda: answer("cold", "2F 3E 00") == ["4F 3E 01 05"],
     "If it is not 00 it is the only one.": lambda: answer("four loopbacks", "20 04 02 01 00") == ["40 04 01 01"],
     "judged in this order: unknown, too short, wrong state, values": lambda: [
@@ -146,7 +146,37 @@ SENTENCES = {
 }
 
 
+# what the page says of the standard's tables, and the definitions whose comments name them
+TABLES = {
+    "message types": (TYPES, "Message types"),
+    "reset": (LAYOUT, "CORE_RESET"),
+    "init": (LAYOUT, "CORE_INIT"),
+    "create": (LAYOUT, "CORE_CONN_CREATE"),
+    "close": (CONTROLLER, "CORE_CONN_CLOSE"),
+    "credits": (LAYOUT, "CORE_CONN_CREDITS_NTF"),
+    "generic error": (LAYOUT, "CORE_GENERIC_ERROR_NTF"),
+    "discover": (LAYOUT, "RF_DISCOVER_NTF"),
+    "select": (CONTROLLER, "RF_DISCOVER_SELECT"),
+    "activated": (LAYOUT, "RF_INTF_ACTIVATED_NTF"),
+    "deactivate": (LAYOUT, "RF_DEACTIVATE_NTF"),
+    "statuses": (NAMES, "statuses"),
+    "modes": (NAMES, "RF technology and mode"),
+    "groups and opcodes": (NAMES, "GIDs and OIDs"),
+}
+
+
+def tables_differ(texts):
+    sentence = re.search(r"The standard's tables: (.*)\.$", texts[PAGE], re.M)[1]
+    said = {words: number for number, words in re.findall(r"([\d to]*\d) ([a-z ]+)", sentence)}
+    for words, (path, name) in TABLES.items():
+        due = re.search(rf"^-- (?:---- )?{name} \(003, Tables? ([\d to]+)\)", texts[path], re.M)
+        yield from differ(said.get(words), due and due[1], words)
+    # of protocols the bench has no definition
+    yield from differ({*said}, {*TABLES, "protocols"}, "tables")
+
+
 def sentences_differ(texts):
+    yield from tables_differ(texts)
     for sentence, holds in SENTENCES.items():
         if sentence not in texts[PAGE] or not holds():
             yield f"not said, or not so: {sentence}"
