@@ -19,6 +19,8 @@ FIRST = ROOT / "examples" / "first.txt"
 MARK, TRANSCRIPT = ROOT / "mark-paper", ROOT / "transcript"
 COPIED = ["mark-paper", "transcript", "marking", "docs/CARD.md"]
 SEED, SPOILT = 11, 40
+# output is lost when it is flushed, and not before
+BUFFERED = {name: value for name, value in os.environ.items() if name != "PYTHONUNBUFFERED"}
 
 
 def answers_of(paper):
@@ -27,7 +29,7 @@ def answers_of(paper):
 
 def run(program, *words, **named):
     """What a program says, what it complains of, and its status."""
-    named = {"stdout": subprocess.PIPE, **named}
+    named = {"stdout": subprocess.PIPE, "env": BUFFERED, **named}
     done = subprocess.run([program, *words], stderr=subprocess.PIPE, text=True, timeout=PATIENCE, **named)
     return done.stdout, done.stderr, done.returncode
 

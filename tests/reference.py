@@ -167,7 +167,7 @@ TABLES = {
 
 def tables_differ(texts):
     sentence = re.search(r"The standard's tables: (.*)\.$", texts[PAGE], re.M)[1]
-    said = {words: number for number, words in re.findall(r"([\d to]*\d) ([a-z ]+)", sentence)}
+    said = {words: number for number, words in re.findall(r"(\d+(?: to \d+)?) ([a-z ]+)", sentence)}
     for words, (path, name) in TABLES.items():
         due = re.search(rf"^-- (?:---- )?{name} \(003, Tables? ([\d to]+)\)", texts[path], re.M)
         yield from differ(said.get(words), due and due[1], words)
