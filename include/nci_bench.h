@@ -138,6 +138,17 @@ extern "C" {
 
 /* ---- the word that a call returns */
 
+/* Its bits, for languages that cannot use the functions below:
+ *   0 to 7    the answer: 0, or the refusal's number
+ *   8         the drop flag
+ *   9         1 if a message was handed out, also an empty one
+ *   10 to 15  0
+ *   16 to 31  how many octets the message has that was handed out
+ *   32 to 39  packets put on the down wire
+ *   40 to 47  packets put on the up wire
+ *   48 to 55  reserved bits at 1 of the packet that was read
+ *   56 to 63  0 */
+
 /* 0 if the call was taken, else the refusal's number. */
 static inline unsigned nci_word_answer(uint64_t word) { return (unsigned)(word & 0xFFu); }
 
@@ -338,5 +349,144 @@ uint64_t nci_read(const uint8_t *octets, size_t octets_len);
 #ifdef __cplusplus
 }
 #endif
+
+/* ---- the version of this header and of the library */
+
+/* The number is 100 times the first part of the string and the second part. The first part is
+ * raised when a call, its word, a number here or the record changes: a program that was built
+ * with another one is built anew. It is the number in the shared object's name. The second
+ * part is raised when something is added. */
+#define NCI_BENCH_VERSION 100u
+#define NCI_BENCH_VERSION_STRING "1.0"
+
+/* ---- packets: the header's octets (003, 3.4) */
+
+#define NCI_HEADER_SIZE 3u      /* octets before the payload */
+#define NCI_MT_DATA 0u          /* message types: bits 7 to 5 of octet 0 */
+#define NCI_MT_COMMAND 1u
+#define NCI_MT_RESPONSE 2u
+#define NCI_MT_NOTIFICATION 3u
+
+/* ---- groups and opcodes of messages (003, Table 139) */
+
+#define NCI_GID_CORE 0u
+#define NCI_GID_RF 1u
+#define NCI_OID_RESET 0u         /* of the group CORE */
+#define NCI_OID_INIT 1u          /* of CORE */
+#define NCI_OID_CONN_CREATE 4u   /* of CORE */
+#define NCI_OID_CONN_CLOSE 5u    /* of CORE */
+#define NCI_OID_CONN_CREDITS 6u  /* of CORE */
+#define NCI_OID_GENERIC_ERROR 7u /* of CORE */
+#define NCI_OID_DISCOVER 3u      /* of the group RF */
+#define NCI_OID_SELECT 4u        /* of RF */
+#define NCI_OID_ACTIVATED 5u     /* of RF */
+#define NCI_OID_DEACTIVATE 6u    /* of RF */
+
+/* ---- statuses (003, Table 129): the first octet of a response */
+
+#define NCI_STATUS_OK 0x00u
+#define NCI_STATUS_REJECTED 0x01u
+#define NCI_STATUS_SYNTAX_ERROR 0x05u
+#define NCI_STATUS_SEMANTIC_ERROR 0x06u
+#define NCI_STATUS_ALREADY_STARTED 0xA0u   /* discovery was started before */
+#define NCI_STATUS_ACTIVATION_FAILED 0xA1u /* in CORE_GENERIC_ERROR_NTF */
+
+/* ---- RF technology and mode (003, Table 131) */
+
+#define NCI_MODE_POLL_ACTIVE 0x03u   /* from 0x00 on: NFC-A, NFC-B, NFC-F, active */
+#define NCI_MODE_POLL_V 0x06u        /* NFC-V */
+#define NCI_MODE_LISTEN_A 0x80u
+#define NCI_MODE_LISTEN_B 0x81u
+#define NCI_MODE_LISTEN_F 0x82u
+#define NCI_MODE_LISTEN_ACTIVE 0x83u
+
+/* ---- other octets of messages (003, Tables 134, 13, 66 and 79 to 81) */
+
+#define NCI_FRAME_INTERFACE 0x01u  /* the one RF interface */
+#define NCI_LOOPBACK 0x01u         /* the one destination of CORE_CONN_CREATE_CMD */
+#define NCI_MORE_FOLLOW 2u         /* the last octet of RF_DISCOVER_NTF, if it is not the last */
+#define NCI_TO_IDLE 0x00u          /* types of deactivation */
+#define NCI_TO_SLEEP 0x01u
+#define NCI_TO_SLEEP_AF 0x02u
+#define NCI_TO_DISCOVERY 0x03u
+#define NCI_HOST_REQUEST 0x00u     /* reasons of deactivation */
+#define NCI_ENDPOINT_REQUEST 0x01u
+#define NCI_LINK_LOSS 0x02u
+
+/* ---- where fields stand in a payload, which starts behind the header, and how long it is */
+
+/* every response; alone in CORE_GENERIC_ERROR_NTF */
+#define NCI_AT_STATUS 0u
+#define NCI_LENGTH_STATUS 1u
+
+/* CORE_CONN_CREATE_CMD */
+#define NCI_AT_CREATE_DESTINATION 0u
+#define NCI_AT_CREATE_PARAMETERS 1u
+
+/* RF_DISCOVER_CMD: a count, then pairs of NCI_SIZE_CONFIG octets */
+#define NCI_AT_CONFIG_COUNT 0u
+#define NCI_AT_CONFIG_MODE 1u
+#define NCI_AT_CONFIG_FREQUENCY 2u
+#define NCI_SIZE_CONFIG 2u
+
+/* RF_DISCOVER_SELECT_CMD, behind the ID */
+#define NCI_AT_SELECT_PROTOCOL 1u
+#define NCI_AT_SELECT_INTERFACE 2u
+
+/* CORE_RESET_NTF */
+#define NCI_AT_RESET_TRIGGER 0u
+#define NCI_AT_RESET_CONFIG 1u
+#define NCI_AT_RESET_VERSION 2u
+#define NCI_AT_RESET_MAKER 3u
+#define NCI_LENGTH_RESET 5u
+
+/* CORE_INIT_RSP, behind the status and four octets of features */
+#define NCI_AT_INIT_CONNS 5u
+#define NCI_AT_INIT_ROUTES 6u
+#define NCI_AT_INIT_CONTROL 8u
+#define NCI_AT_INIT_HCI 9u
+#define NCI_AT_INIT_INTERFACES 13u
+#define NCI_AT_INIT_INTERFACE 14u
+#define NCI_AT_INIT_EXTENSIONS 15u
+#define NCI_LENGTH_INIT 16u
+
+/* CORE_CONN_CREATE_RSP, behind the status */
+#define NCI_AT_CREATE_PAYLOAD 1u
+#define NCI_AT_CREATE_CREDITS 2u
+#define NCI_AT_CREATE_CONN 3u
+#define NCI_LENGTH_CREATE 4u
+
+/* CORE_CONN_CREDITS_NTF: a count, then entries of NCI_SIZE_ENTRY octets */
+#define NCI_AT_ENTRY_COUNT 0u
+#define NCI_AT_ENTRY_CONN 1u
+#define NCI_AT_ENTRY_CREDITS 2u
+#define NCI_SIZE_ENTRY 2u
+
+/* RF_DISCOVER_NTF; the type stands behind the parameters, so many octets further,
+ * and the length is without them */
+#define NCI_AT_FOUND_ID 0u
+#define NCI_AT_FOUND_PROTOCOL 1u
+#define NCI_AT_FOUND_MODE 2u
+#define NCI_AT_FOUND_PARAMS_LENGTH 3u
+#define NCI_AT_FOUND_TYPE 4u
+#define NCI_LENGTH_FOUND 5u
+
+/* RF_INTF_ACTIVATED_NTF; what follows the parameters stands so many octets further,
+ * and the length is without them */
+#define NCI_AT_ACTIVATED_ID 0u
+#define NCI_AT_ACTIVATED_INTERFACE 1u
+#define NCI_AT_ACTIVATED_PROTOCOL 2u
+#define NCI_AT_ACTIVATED_MODE 3u
+#define NCI_AT_ACTIVATED_PAYLOAD 4u
+#define NCI_AT_ACTIVATED_CREDITS 5u
+#define NCI_AT_ACTIVATED_PARAMS_LENGTH 6u
+#define NCI_AT_ACTIVATED_EXCHANGE 7u
+#define NCI_AT_ACTIVATED_RATES 8u
+#define NCI_LENGTH_ACTIVATED 11u
+
+/* RF_DEACTIVATE_NTF */
+#define NCI_AT_DEACTIVATE_TYPE 0u
+#define NCI_AT_DEACTIVATE_REASON 1u
+#define NCI_LENGTH_DEACTIVATE 2u
 
 #endif
