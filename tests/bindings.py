@@ -260,7 +260,8 @@ def check_library(suite, folder):
     for name in ("usr", "a prefix with blanks", "quotes 'and\" others"):
         prefix = folder / name
         said = run(ROOT / "library", prefix)
-        suite.holds(f"{name}: the package is named", f"{prefix}/lib/pkgconfig/nci_bench.pc\n" in said, said)
+        named = re.search(r"^package: .*/lib/pkgconfig/nci_bench\.pc$", said, re.M)
+        suite.holds(f"{name}: the package is there, and named", named and (prefix / "lib/pkgconfig/nci_bench.pc").is_file(), said)
         check_names(suite, prefix)
         if shutil.which("pkg-config"):
             check_pkg_config(suite, folder, prefix)
