@@ -3,15 +3,15 @@
 use Prim.Native.Nat.{ℕ, _≤_}
 use native.Mathlib.Omega.{arith}
 use mathlib.Core.Path.{_≡_, refl, sym, ap, _∙_}
-use mathlib.Core.Bool.{Bool, true, false, not}
-use mathlib.Core.List.{List, [], _∷_, _++_}
+use mathlib.Core.Bool.{true, false}
+use mathlib.Core.List.{[], _∷_, _++_}
 use lib.ListN.{length, length-append}
 use Rattle.octets.specs.Octets.{Octets, pick, cut, splice}
 use Rattle.octets.proofs.Octets.{cut-same}
-use Rattle.calls.specs.Kinds.{Host, Pending, Counts, Record}
+use Rattle.calls.specs.Kinds.{Host, Pending, Record}
 use Rattle.calls.specs.Kinds.pending as pending
 use Rattle.state.specs.Conn.{placeOf}
-use Rattle.area.specs.Map.{messageSize, payloadSize, wireSlots, downAt, upAt, handAt, endpointAt}
+use Rattle.area.specs.Map.{messageSize, payloadSize, wireSlots, downAt, upAt, endpointAt}
 use Rattle.area.proofs.Rings.{length-packets}
 use Rattle.record.specs.Layout.{low, bit}
 use Rattle.record.specs.Fit.{Fit}
@@ -22,8 +22,7 @@ use Rattle.views.specs.View.{view, viewOf}
 use Rattle.views.proofs.Tests.{hand-some}
 use Rattle.model.specs.Effects.{Result, taken, refused}
 use Rattle.model.specs.Refusals.{first}
-use Rattle.calls.specs.Word.{wordOf}
-use Rattle.calls.specs.Outcome.{Outcome, decided, entryRules, called}
+use Rattle.calls.specs.Outcome.{decided, entryRules, called}
 use Rattle.calls.specs.Refines.{Good}
 use Rattle.calls.specs.Packet.{handedBy}
 use Rattle.calls.specs.Look.{trafficLook, inHand, connsLook, lookOf, lookSize, looked, stateCall, trafficSaid, connsSaid, stateSaid, Says}

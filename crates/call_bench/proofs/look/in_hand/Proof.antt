@@ -1,6 +1,5 @@
 -- `call_bench::look::in_hand` meets its contract, by the flag.
 -- Assumes nothing.
-use Prim.Native.Nat.{ℕ}
 use mathlib.Core.Path.{_≡_, refl, _∙_}
 use mathlib.Core.Bool.{Bool, true, false, _&&_}
 use Rattle.octets.specs.Octets.{pick}
