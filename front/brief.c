@@ -2,6 +2,7 @@
 
 #include <string.h>
 
+#include "config.h"
 #include "line.h"
 #include "message.h"
 #include "names.h"
@@ -252,4 +253,25 @@ void say_brief(const struct told *t) {
         say_taken(t);
     else
         say_refusal(t);
+}
+
+/* ---- parameters that the key more goes on with */
+
+/* The message that the line of a call is about: the command, or the first packet put, taken or read. */
+static struct packet subject(const struct told *t) {
+    if (t->call == COMMAND)
+        return read_command(t->arg.at, t->arg.length);
+    if (t->call == READ)
+        return read_packet(t->arg.at, t->arg.length);
+    return t->puts > 0 ? put_packet(t, 0) : read_packet(t->taken.at, t->taken.length);
+}
+
+size_t listed_in_brief(const struct told *t) {
+    struct packet p = subject(t);
+    return was_taken(t) && !(t->call == READ && nci_word_dropped(t->word)) ? listed_at_first(&p) : 0;
+}
+
+size_t say_listed_after(const struct told *t, size_t from) {
+    struct packet p = subject(t);
+    return say_listed_from(&p, from);
 }

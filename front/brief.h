@@ -11,4 +11,10 @@
 /* "9, no credit", "pushed 4 octets on 2, more", "got create OK, .." */
 void say_brief(const struct told *t);
 
+/* How many configuration parameters the brief line has, if some are left for the key more; else 0. */
+size_t listed_in_brief(const struct told *t);
+
+/* The configuration parameters of the call from one on. Gives the number of the next. */
+size_t say_listed_after(const struct told *t, size_t from);
+
 #endif

@@ -78,9 +78,9 @@ static void say_put(const struct told *t) {
     }
 }
 
-/* A command's packets are its segments: the last one has its name. */
+/* A command's packets are its segments: the whole is what was typed. */
 static void say_command(const struct told *t) {
-    struct packet p = kept_packet(&t->put[t->puts - 1]);
+    struct packet p = read_command(t->arg.at, t->arg.length);
     say_packet(&p);
     if (t->puts > 1)
         say(" in %u packets", t->puts);

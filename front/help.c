@@ -1,5 +1,7 @@
 #include "help.h"
 
+#include "config.h"
+
 /* ---- the card */
 
 /* Whether the card has a number: there is no 13. */
@@ -72,18 +74,57 @@ static void answer_key(struct answer *a, const struct key *key) {
     say("%s, %s", key->typed, key->does);
 }
 
+/* ---- help on configuration parameters */
+
+static size_t say_names_after(const struct told *t, size_t from) {
+    (void)t;
+    return say_names(from);
+}
+
+/* In full all of them, in brief some, and the key more goes on. */
+static void answer_parameters(struct answer *a) {
+    const struct parameter *parameter;
+    say_to(&a->full);
+    say("ev=help ans=0 says=\"");
+    for (size_t i = 0; (parameter = parameter_at(i)) != NULL; i++)
+        say("%s%02X %s", i > 0 ? ", " : "", parameter->id, parameter->name);
+    say("\"");
+    say_to(&a->brief);
+    a->rest = say_names_after;
+    a->from = say_names(0);
+}
+
+static void answer_parameter(struct answer *a, const struct parameter *parameter) {
+    say_to(&a->full);
+    say("ev=help ans=0 says=\"%02X %s\"", parameter->id, parameter->name);
+    say_to(&a->brief);
+    say_name_and_id(parameter);
+}
+
+/* ---- all of it */
+
+static void answer_asked(struct answer *a, struct text name) {
+    const struct key *asked = key_named(name);
+    const struct parameter *parameter = parameter_named(name);
+    enum group group = group_named(name);
+    if (asked != NULL)
+        answer_key(a, asked);
+    else if (group < GROUPS)
+        answer_group(a, group);
+    else if (is_named(name, "parameters"))
+        answer_parameters(a);
+    else if (parameter != NULL)
+        answer_parameter(a, parameter);
+    else
+        answer_bad(a, "no such key; help names the keys", "no such key");
+}
+
 void answer_help(struct answer *a, const struct key *key, struct text rest) {
     struct text name = next_word(&rest);
-    const struct key *asked = key_named(name);
-    enum group group = group_named(name);
     if (name.length == 0)
         answer_names(a);
     else if (next_word(&rest).length > 0)
         answer_untaken(a, key, "not understood");
-    else if (asked != NULL)
-        answer_key(a, asked);
-    else if (group < GROUPS)
-        answer_group(a, group);
     else
-        answer_bad(a, "no such key; help names the keys", "no such key");
+        answer_asked(a, name);
 }

@@ -1,5 +1,7 @@
 #include "key.h"
 
+#include "parameter.h"
+
 enum { MANY = OCTETS_MAX };
 
 static const struct key keys[] = {
@@ -9,6 +11,12 @@ static const struct key keys[] = {
     {"init", "init: CORE_INIT_CMD goes down",
      "init alone", "init command", COMMANDS,
      .call = COMMAND, .front = {4, {0, 1, 0, 0}}},
+    {"set", "set 08 01 20 0102, IDs and values, default for no value: CORE_SET_CONFIG_CMD goes down",
+     "set, ID, value or default", "set command, help parameters names IDs", COMMANDS,
+     .call = COMMAND, .front = {2, {0, 2}}, .form = IDS_AND_VALUES},
+    {"get", "get 08 20, IDs, or get for all parameters: CORE_GET_CONFIG_CMD goes down",
+     "get, or get and IDs", "get command, help parameters names IDs", COMMANDS,
+     .call = COMMAND, .front = {2, {0, 3}}, .form = IDS},
     {"create", "create: CORE_CONN_CREATE_CMD for a loopback goes down",
      "create alone", "create command for a loopback", COMMANDS,
      .call = COMMAND, .front = {4, {0, 4, 1, 0}}},
@@ -17,7 +25,8 @@ static const struct key keys[] = {
      .call = COMMAND, .front = {2, {0, 5}}, .least = 1, .most = 1},
     {"discover", "discover, or discover 00 80, modes: RF_DISCOVER_CMD goes down",
      "discover, or discover and modes", "discover command", COMMANDS,
-     .call = COMMAND, .front = {2, {1, 3}}, .instead = {2, {0x00, 0x80}}, .least = 1, .most = 127, .modes = true},
+     .call = COMMAND, .front = {2, {1, 3}}, .instead = {2, {0x00, 0x80}}, .least = 1, .most = 127,
+     .form = WITH_FREQUENCY},
     {"select", "select 1 4, ID and protocol: RF_DISCOVER_SELECT_CMD goes down",
      "select, ID, protocol", "select command", COMMANDS,
      .call = COMMAND, .front = {2, {1, 4}}, .back = {1, {1}}, .least = 2, .most = 2},
@@ -94,7 +103,7 @@ static const struct key keys[] = {
     {"octets", "octets: packets put by the last call, its message, the packet that it took, or what was typed",
      "octets alone", "packets of last call, octet by octet", SPEECH,
      .call = OCTETS},
-    {"more", "more: what comes next, after octets or state",
+    {"more", "more: what comes next, after octets, state, help parameters or a list of parameters",
      "more alone", "what comes next", SPEECH,
      .call = MORE},
     {"state", "state: RF state, unanswered command, connections, messages in hand, wires",
@@ -109,8 +118,8 @@ static const struct key keys[] = {
     {"card", "card 9: what number 9 of the card says",
      "card and number", "its line of the card", SPEECH,
      .call = CARD},
-    {"help", "help names the keys, help push tells how push is typed",
-     "help, or help and name", "groups, keys, how one is typed", SPEECH,
+    {"help", "help names the keys, help push tells how push is typed, help parameters names those of set and get",
+     "help, or help and name", "groups, keys, how one is typed, parameters", SPEECH,
      .call = HELP},
     {"quit", "quit: the end",
      "quit alone", "the end", SPEECH,
@@ -138,7 +147,7 @@ static bool takes(const struct key *key, size_t typed) {
     return (typed >= key->least && typed <= key->most) || (typed > key->most && typed == key->longer);
 }
 
-bool read_arguments(struct octets *arg, const struct key *key, struct text rest) {
+static bool read_typed(struct octets *arg, const struct key *key, struct text rest) {
     static struct octets typed;
     if (!read_octets(&typed, rest))
         return false;
@@ -146,15 +155,67 @@ bool read_arguments(struct octets *arg, const struct key *key, struct text rest)
         add_few(&typed, &key->instead);
     if (!takes(key, typed.length))
         return false;
-    arg->length = 0;
-    add_few(arg, &key->front);
-    if (key->modes)
+    if (key->form == WITH_FREQUENCY)
         add(arg, (unsigned)typed.length);
     for (size_t i = 0; i < typed.length; i++) {
         add(arg, typed.at[i]);
-        if (key->modes)
+        if (key->form == WITH_FREQUENCY)
             add(arg, 0x01);
     }
     add_few(arg, &key->back);
     return true;
+}
+
+/* ---- configuration parameters. A count that has no octet belongs to a payload that is too long, which
+ * the bench refuses. */
+
+/* All that there are, where none is typed. */
+static bool read_ids(struct octets *arg, struct text rest) {
+    size_t count = arg->length;
+    const struct parameter *parameter;
+    add(arg, 0);
+    for (struct text word = next_word(&rest); word.length > 0; word = next_word(&rest))
+        if (!add_id(arg, word))
+            return false;
+    if (arg->length == count + 1)
+        for (size_t i = 0; (parameter = parameter_at(i)) != NULL; i++)
+            add(arg, parameter->id);
+    arg->at[count] = (uint8_t)(arg->length - count - 1);
+    return true;
+}
+
+/* An ID, the length of its value, and the value. */
+static bool add_setting(struct octets *arg, struct text id, struct text value) {
+    size_t start = arg->length, length;
+    if (!add_id(arg, id) || arg->length != start + 1)
+        return false;
+    add(arg, 0);
+    if (is_named(value, "default"))
+        return true;
+    if (value.length == 0 || !add_word(arg, value))
+        return false;
+    length = arg->length - start - 2;
+    arg->at[start + 1] = (uint8_t)length;
+    return length <= 0xFF;
+}
+
+static bool read_settings(struct octets *arg, struct text rest) {
+    size_t count = arg->length;
+    unsigned settings = 0;
+    add(arg, 0);
+    for (struct text id = next_word(&rest); id.length > 0; id = next_word(&rest), settings++)
+        if (!add_setting(arg, id, next_word(&rest)))
+            return false;
+    arg->at[count] = (uint8_t)settings;
+    return settings > 0;
+}
+
+bool read_arguments(struct octets *arg, const struct key *key, struct text rest) {
+    arg->length = 0;
+    add_few(arg, &key->front);
+    switch (key->form) {
+    case IDS: return read_ids(arg, rest);
+    case IDS_AND_VALUES: return read_settings(arg, rest);
+    default: return read_typed(arg, key, rest);
+    }
 }

@@ -7,6 +7,10 @@
 /* Groups of keys, for help in one breath. */
 enum group { COMMANDS, MOVES, EVENTS, BENCH, SPEECH, GROUPS };
 
+/* What is typed behind a key: octets as they are; or with their count before them modes, each of
+ * which frequency 01 joins, or IDs of configuration parameters, or these and their values. */
+enum form { PLAIN, WITH_FREQUENCY, IDS, IDS_AND_VALUES };
+
 /* A few octets that a key gives by itself. */
 struct few {
     uint8_t length;
@@ -14,7 +18,7 @@ struct few {
 };
 
 /* A key is a call with some octets given: front, then what is typed, or instead where
- * nothing is typed, then back. */
+ * nothing is typed, then back. Of IDs as many may be typed as one likes. */
 struct key {
     const char *name, *help;  /* help: how it is typed, and what it does */
     const char *typed, *does; /* the same in brief */
@@ -23,7 +27,7 @@ struct key {
     struct few front, instead, back;
     unsigned least, most; /* octets typed */
     unsigned longer;      /* or so many, where there is another form */
-    bool modes;           /* each octet typed is a mode: frequency 01 joins it, their count goes first */
+    enum form form;
 };
 
 /* The profile of a bench for which none is typed, as the paper sheet's. */

@@ -19,8 +19,6 @@ struct session {
     struct told told;     /* the last call */
     struct answer answer; /* the last answer */
     bool is_brief;        /* the form that is written */
-    bool of_state;        /* whether more goes on with the state, or else with octets */
-    size_t octets_said, clauses_said;
     FILE *log;            /* where calls are written as lines of the sheet, or NULL */
     const char *log_name;
     bool failed;          /* an answer, or a line of the log, is lost */
@@ -39,8 +37,6 @@ static void call(struct session *s, enum call call, const struct octets *arg) {
     s->told.arg = *arg;
     make_call(&s->bench, &s->told, call);
     answer_call(&s->answer, &s->told);
-    s->of_state = false;
-    s->octets_said = 0;
     log_call(s);
 }
 
@@ -53,35 +49,18 @@ static void answer_sheet(struct session *s, struct text line) {
         answer_bad(&s->answer, "no line of the sheet", "no line of the sheet");
 }
 
-static void answer_octets(struct session *s, const char *name, size_t said) {
-    static struct line text;
-    s->of_state = false;
-    say_to(&text);
-    s->octets_said = say_octets_after(&s->told, said);
-    answer_text(&s->answer, name, text.at);
-}
+static size_t say_state_after(const struct told *t, size_t from) { return say_state(&t->state, from); }
 
-static void answer_state(struct session *s, const char *name, size_t said) {
-    static struct line text;
-    s->of_state = true;
-    say_to(&text);
-    s->clauses_said = say_state(&s->told.state, said);
-    answer_text(&s->answer, name, text.at);
-}
-
-static void answer_more(struct session *s) {
-    if (s->of_state)
-        answer_state(s, "more", s->clauses_said);
-    else
-        answer_octets(s, "more", s->octets_said);
+static void answer_parts(struct session *s, const char *name, say_part *part, size_t from) {
+    answer_part(&s->answer, name, &s->told, part, from);
 }
 
 /* Answers a key with its octets. */
 static void answer_key(struct session *s, const struct key *key, const struct octets *arg) {
     switch (key->call) {
-    case OCTETS: answer_octets(s, "octets", 0); break;
-    case MORE: answer_more(s); break;
-    case STATE: answer_state(s, "state", 0); break;
+    case OCTETS: answer_parts(s, "octets", say_octets_after, 0); break;
+    case MORE: answer_parts(s, "more", s->answer.rest, s->answer.from); break;
+    case STATE: answer_parts(s, "state", say_state_after, 0); break;
     case QUIT: answer_text(&s->answer, "quit", "the end"); break;
     default: call(s, key->call, arg); break;
     }

@@ -1,7 +1,9 @@
 #include "message.h"
 
+#include "config.h"
 #include "line.h"
 #include "names.h"
+#include "nci_bench.h"
 
 /* ---- the payloads of commands. A form that is not its own is said by its length alone. */
 
@@ -197,20 +199,23 @@ static bool say_deactivated(const uint8_t *p, size_t n) {
 static const struct spoken {
     unsigned gid, oid;
     const char *name;
-    /* what stands behind the name or the status, or is the whole; false, with nothing said, for
-     * another form than its own */
-    bool (*command)(const uint8_t *, size_t), (*ok)(const uint8_t *, size_t), (*notice)(const uint8_t *, size_t);
+    /* what stands behind the name, behind the status OK or invalid parameter, or is the whole; false,
+     * with nothing said, for another form than its own */
+    bool (*command)(const uint8_t *, size_t), (*ok)(const uint8_t *, size_t), (*invalid)(const uint8_t *, size_t),
+        (*notice)(const uint8_t *, size_t);
 } spoken[] = {
-    {0, 0, "reset", say_reset, NULL, say_was_reset},
-    {0, 1, "init", say_init, say_inited, NULL},
-    {0, 4, "create", say_create, say_created, NULL},
-    {0, 5, "close", say_close, NULL, NULL},
-    {0, 6, "credits", NULL, NULL, say_notice},
-    {0, 7, "error", NULL, NULL, say_error},
-    {1, 3, "discover", say_discover, NULL, say_found},
-    {1, 4, "select", say_select, NULL, NULL},
-    {1, 5, "activated", NULL, NULL, say_activated},
-    {1, 6, "deactivate", say_deactivate, NULL, say_deactivated},
+    {0, 0, "reset", say_reset, NULL, NULL, say_was_reset},
+    {0, 1, "init", say_init, say_inited, NULL, NULL},
+    {0, 2, "set", say_set, say_was_set, say_not_set, NULL},
+    {0, 3, "get", say_get, say_got, say_got, NULL},
+    {0, 4, "create", say_create, say_created, NULL, NULL},
+    {0, 5, "close", say_close, NULL, NULL, NULL},
+    {0, 6, "credits", NULL, NULL, NULL, say_notice},
+    {0, 7, "error", NULL, NULL, NULL, say_error},
+    {1, 3, "discover", say_discover, NULL, NULL, say_found},
+    {1, 4, "select", say_select, NULL, NULL, NULL},
+    {1, 5, "activated", NULL, NULL, NULL, say_activated},
+    {1, 6, "deactivate", say_deactivate, NULL, NULL, say_deactivated},
 };
 
 static const struct spoken *spoken_of(unsigned gid, unsigned oid) {
@@ -250,8 +255,19 @@ void say_arguments(unsigned gid, unsigned oid, const uint8_t *payload, size_t le
     say_command(gid, oid, payload, length, "");
 }
 
-static void say_response(const struct packet *p) {
+/* What stands behind the status; false for another form than the response's own. A status other than
+ * OK may always stand alone. */
+static bool say_behind(const struct packet *p) {
     const struct spoken *s = spoken_of(p->id, p->oid);
+    bool is_alone = p->length == 1;
+    if (p->payload[0] == NCI_STATUS_OK && s != NULL && s->ok != NULL)
+        return s->ok(p->payload, p->length);
+    if (p->payload[0] == NCI_STATUS_INVALID_PARAM && s != NULL && s->invalid != NULL && !is_alone)
+        return s->invalid(p->payload, p->length);
+    return is_alone;
+}
+
+static void say_response(const struct packet *p) {
     say_name(p->id, p->oid);
     if (p->length == 0) {
         say(" response, empty");
@@ -259,7 +275,7 @@ static void say_response(const struct packet *p) {
     }
     say(" ");
     say_status(p->payload[0]);
-    if (p->length > 1 && (p->payload[0] != 0 || s == NULL || s->ok == NULL || !s->ok(p->payload, p->length)))
+    if (!say_behind(p))
         say_length(p->length);
 }
 

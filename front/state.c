@@ -2,6 +2,7 @@
 
 #include <string.h>
 
+#include "breath.h"
 #include "line.h"
 #include "message.h"
 #include "names.h"
@@ -115,24 +116,13 @@ static void say_clauses(const uint8_t *state) {
 
 /* ---- in breaths */
 
-enum { BREATH = 78 }; /* characters that are heard in 8 seconds, with the pauses between clauses */
-
-/* Clauses from one on, at least one of them, and the number of the next. */
-static size_t say_breath(const char *clauses, size_t from) {
-    size_t next = 0, said = 0;
-    for (const char *end; (end = strchr(clauses, *CLAUSE_END)) != NULL; clauses = end + 1, next++) {
-        size_t length = (size_t)(end - clauses);
-        if (next < from)
-            continue;
-        if (said > 0 && said + length > BREATH) {
-            say(", more");
-            return next;
-        }
-        say("%s%.*s", said > 0 ? ", " : "", (int)length, clauses);
-        said += length + 4;
-    }
-    say(said == 0 ? "no more" : "");
-    return next;
+static bool say_clause_of(const void *clauses, size_t number) {
+    const char *from = clauses, *end;
+    while ((end = strchr(from, *CLAUSE_END)) != NULL && number-- > 0)
+        from = end + 1;
+    if (end != NULL)
+        say("%.*s", (int)(end - from), from);
+    return end != NULL;
 }
 
 size_t say_state(const struct kept *state, size_t from) {
@@ -143,5 +133,5 @@ size_t say_state(const struct kept *state, size_t from) {
     else
         say_clauses(state->at);
     say_on(line);
-    return say_breath(clauses.at, from);
+    return say_breath(say_clause_of, clauses.at, from);
 }

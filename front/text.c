@@ -34,15 +34,12 @@ bool take_text(struct text *rest, const char *front) {
     return true;
 }
 
+static char small(char c) { return c >= 'A' && c <= 'Z' ? (char)(c - 'A' + 'a') : c; }
+
 bool is_named(struct text word, const char *name) {
     size_t i = 0;
-    for (; i < word.length && name[i] != '\0'; i++) {
-        char c = word.at[i];
-        if (c >= 'A' && c <= 'Z')
-            c = (char)(c - 'A' + 'a');
-        if (c != name[i])
-            return false;
-    }
+    while (i < word.length && name[i] != '\0' && small(word.at[i]) == small(name[i]))
+        i++;
     return i == word.length && name[i] == '\0';
 }
 

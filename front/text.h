@@ -28,7 +28,7 @@ struct text next_word(struct text *rest);
 /* Takes a text off the front of another; false if it is not there. */
 bool take_text(struct text *rest, const char *front);
 
-/* Whether a word is a name; capitals are taken for small letters. */
+/* Whether a word is a name; capitals and small letters are the same. */
 bool is_named(struct text word, const char *name);
 
 /* The value of a hex digit, or -1. */

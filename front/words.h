@@ -21,11 +21,14 @@ struct packet {
 /* Reads a packet. Of fewer octets than its header states it has what is there. */
 struct packet read_packet(const uint8_t *octets, size_t length);
 
+/* A command as one packet, of the octets of its call: GID, OID, payload. */
+struct packet read_command(const uint8_t *octets, size_t length);
+
 bool is_credit_notice(const struct packet *p);
 
 /* Its name and what its payload says, as "CORE_CONN_CREATE_RSP ok, connection 2, payload 4,
- * credits 2" or "data on connection 2, 4 octets, more follows". Data that carries credits
- * says so at its end, as ", 1 credit". */
+ * credits 2", "CORE_SET_CONFIG_CMD PA_BAIL_OUT 01, PF_BIT_RATE default" or "data on connection 2,
+ * 4 octets, more follows". Data that carries credits says so at its end, as ", 1 credit". */
 void say_packet(const struct packet *p);
 
 /* Why octets are no packet, as "fewer than 3 octets". */

@@ -83,7 +83,7 @@ extern "C" {
 /* Says which octet of an area is what; docs/AREA.md has the map. A front end that keeps
  * areas in files keeps this number with them. It is raised when the map or the record
  * changes: an area that was kept with another number is not to be used. */
-#define NCI_LAYOUT 1u
+#define NCI_LAYOUT 2u
 
 /* ---- reserved bits of a packet's octet 1 */
 
@@ -225,6 +225,19 @@ uint64_t nci_power(uint8_t *area, size_t area_len, uint8_t *out, size_t out_len)
 
 /* The host sends a command: a GID of 0 to 15, an OID of 0 to 63 and a payload of at most
  * 255 octets. All its segments go on the down wire; the word says how many.
+ * Two commands list configuration parameters, by the IDs NCI_PA_BAIL_OUT to
+ * NCI_PACM_BIT_RATE. Their payloads, and those of their responses:
+ *   CORE_SET_CONFIG_CMD  how many, then of each the ID, the length of its value, the value;
+ *                        length 0 restores its default
+ *   CORE_SET_CONFIG_RSP  00 00; or 09, how many are invalid, then their IDs: all others are
+ *                        set; or 06 alone, and none is set, if it names one of the IDs in
+ *                        another RF state than IDLE
+ *   CORE_GET_CONFIG_CMD  how many, then the ID of each
+ *   CORE_GET_CONFIG_RSP  00, how many, then of each the ID, the length of its value, the
+ *                        value; or 09, how many are not known, then of each of those the ID
+ *                        and 00; or 0A alone, if it would have more than 255 octets
+ * Either response is 05 alone if the list is cut short, else 06 alone before CORE_INIT.
+ * CORE_RESET of type 1, nci_power and nci_fresh restore all defaults.
  * Refusals in order: 3, if GID, OID or payload is outside its limit; 4, if the down wire
  * has too few free slots for all segments; 5, if a command is unanswered. */
 uint64_t nci_command(uint8_t *area, size_t area_len, uint8_t *out, size_t out_len, uint8_t gid, uint8_t oid,
@@ -356,8 +369,8 @@ uint64_t nci_read(const uint8_t *octets, size_t octets_len);
  * raised when a call, its word, a number here or the record changes: a program that was built
  * with another one is built anew. It is the number in the shared object's name. The second
  * part is raised when something is added. */
-#define NCI_BENCH_VERSION 100u
-#define NCI_BENCH_VERSION_STRING "1.0"
+#define NCI_BENCH_VERSION 200u
+#define NCI_BENCH_VERSION_STRING "2.0"
 
 /* ---- packets: the header's octets (003, 3.4) */
 
@@ -373,6 +386,8 @@ uint64_t nci_read(const uint8_t *octets, size_t octets_len);
 #define NCI_GID_RF 1u
 #define NCI_OID_RESET 0u         /* of the group CORE */
 #define NCI_OID_INIT 1u          /* of CORE */
+#define NCI_OID_SET_CONFIG 2u    /* of CORE */
+#define NCI_OID_GET_CONFIG 3u    /* of CORE */
 #define NCI_OID_CONN_CREATE 4u   /* of CORE */
 #define NCI_OID_CONN_CLOSE 5u    /* of CORE */
 #define NCI_OID_CONN_CREDITS 6u  /* of CORE */
@@ -388,8 +403,29 @@ uint64_t nci_read(const uint8_t *octets, size_t octets_len);
 #define NCI_STATUS_REJECTED 0x01u
 #define NCI_STATUS_SYNTAX_ERROR 0x05u
 #define NCI_STATUS_SEMANTIC_ERROR 0x06u
-#define NCI_STATUS_ALREADY_STARTED 0xA0u   /* discovery was started before */
-#define NCI_STATUS_ACTIVATION_FAILED 0xA1u /* in CORE_GENERIC_ERROR_NTF */
+#define NCI_STATUS_INVALID_PARAM 0x09u         /* of CORE_SET_CONFIG and CORE_GET_CONFIG */
+#define NCI_STATUS_MESSAGE_SIZE_EXCEEDED 0x0Au /* of CORE_GET_CONFIG */
+#define NCI_STATUS_ALREADY_STARTED 0xA0u       /* discovery was started before */
+#define NCI_STATUS_ACTIVATION_FAILED 0xA1u     /* in CORE_GENERIC_ERROR_NTF */
+
+/* ---- IDs of the configuration parameters (003, Table 138), and by Tables 24 to 32 the octets
+ * that a value may have, in hexadecimal digits. A value is one octet, but that of PI_B_H_INFO. */
+
+#define NCI_PA_BAIL_OUT 0x08u        /* 00 or 01; by default 00 */
+#define NCI_PA_DEVICES_LIMIT 0x09u   /* any; by default 08 */
+#define NCI_PB_AFI 0x10u             /* any; by default 00 */
+#define NCI_PB_BAIL_OUT 0x11u        /* 00 or 01; by default 00 */
+#define NCI_PB_SENSB_REQ_PARAM 0x13u /* any; by default 00 */
+#define NCI_PB_DEVICES_LIMIT 0x14u   /* any; by default 08 */
+#define NCI_PF_BIT_RATE 0x18u        /* 01 or 02; by default 01 */
+#define NCI_PF_BAIL_OUT 0x19u        /* 00 or 01; by default 00 */
+#define NCI_PF_DEVICES_LIMIT 0x1Au   /* any; by default 08 */
+#define NCI_PI_B_H_INFO 0x20u        /* 0 to 15 octets, any; by default none */
+#define NCI_PI_BIT_RATE 0x21u        /* 00 to 03; by default 00 */
+#define NCI_PN_NFC_DEP_PSL 0x28u     /* 00 or 01; by default 00 */
+#define NCI_PN_ATR_REQ_CONFIG 0x2Au  /* any; by default 30 */
+#define NCI_PV_DEVICES_LIMIT 0x2Fu   /* any; by default 08 */
+#define NCI_PACM_BIT_RATE 0x68u      /* 00 to 06, 20, or 80 to FE; by default 01 */
 
 /* ---- RF technology and mode (003, Table 131) */
 

@@ -9,6 +9,8 @@ TYPES = ["data", "command", "response", "notification"]
 MESSAGES = {
     (0, 0): "reset",
     (0, 1): "init",
+    (0, 2): "set configuration",
+    (0, 3): "get configuration",
     (0, 4): "create",
     (0, 5): "close",
     (0, 6): "credits",
@@ -23,6 +25,8 @@ STATUSES = {
     0x01: "rejected",
     0x05: "syntax error",
     0x06: "semantic error",
+    0x09: "invalid parameter",
+    0x0A: "message size exceeded",
     0xA0: "discovery already started",
     0xA1: "target activation failed",
 }

@@ -11,8 +11,8 @@ import re
 import sys
 
 from area_map import (
-    CODE_MAP, CODE_PLACES, CODE_RUNS, CONN, FILES, JUDGE, LAYOUT, MAP, PARTS, PLACES, PROFILE, RUNS, SIZES, WRITING, Area,
-    code_problems, distances_differ, sums_differ,
+    CODE_MAP, CODE_PLACES, CODE_RUNS, CODE_TABLE, CONN, FILES, JUDGE, LAYOUT, MAP, PARTS, PLACES, PROFILE, RUNS, SIZES, STORED,
+    TABLE, WRITING, Area, code_problems, distances_differ, parameters_differ, sums_differ,
 )
 from definitions import definition, split, value
 from programs import ROOT, Suite
@@ -70,6 +70,8 @@ VALUES = {
     "controller.phase": (None, JUDGE, "leb (getD s controllerPlace 0) 2"),
     "controller.rf": (None, JUDGE, "rfKnown tag selected = leb tag 6 && (not (eqb tag 3) || leb selected 1)"),
     "host.pending": (None, JUDGE, "flagOk s (hostPlace + pendingPart)"),
+    # the parameters have a table of their own
+    "configAt": (None, JUDGE, "parametersOk (configOctets area)"),
 }
 
 
@@ -105,7 +107,30 @@ def slot_rows(area, slots, starts):
 def record_rows(area):
     for field, length in area.fields(apart=APART).items():
         yield [both(area.at(field)), str(length), f"`{field}`", None, values_of(area, field)]
-    yield [both(area.at("end")), str(area.names["recordRoom"] - area.names["recordEnd"]), "", None, None]
+    config, end = area.names["configAt"], area.names["configEnd"]
+    yield [both(config), str(end - config), "`configAt`", None, None]
+    yield [both(end), str(area.names["areaSize"] - end), "", None, None]
+
+
+def octets_said(ranges):
+    """The octets that a value may have."""
+    for low, high in ranges:
+        if (low, high) == (0, OCTET):
+            yield "any"
+        else:
+            between = "or" if high - low == 1 else "to"
+            yield f"0x{low:02X}" if low == high else f"0x{low:02X} {between} 0x{high:02X}"
+
+
+def config_rows(area):
+    for start, length, parameter, is_length in area.config():
+        place = [both(start), str(length), f"0x{parameter.id:02X}"]
+        if is_length:
+            yield [*place, f"length of {parameter.name}", f"{parameter.least} to {parameter.most}", str(parameter.least)]
+        elif parameter.least == parameter.most:
+            yield [*place, parameter.name, ", ".join(octets_said(parameter.ranges)), f"0x{parameter.default:02X}"]
+        else:
+            yield [*place, parameter.name, ", ".join(octets_said(parameter.ranges)) + "; 0 past its length", "none"]
 
 
 def conn_rows(area):
@@ -139,6 +164,7 @@ def tables(area):
         "Parts by connection": [[None] * 5, *([conns[p], *(both(part(p)) for part in by_place)] for p in places)],
         "Slots of the stores": [[None, *conns], *slot_rows(area, names["storeSlots"], stores)],
         "The record": [[None] * 5, *record_rows(area)],
+        "The configuration": [[None] * 6, *config_rows(area)],
         "The unanswered command": list(case_rows(area, "pendingOctets", "host.pending")),
         "The controller's phase": list(case_rows(area, "phaseOctet", "controller.phase")),
         "The RF state": list(case_rows(area, "rfOctets", "controller.rf")),
@@ -250,6 +276,7 @@ def compared(texts, area):
         MAP: list(sums_differ(area, texts[MAP])),
         LAYOUT: list(sums_differ(area, texts[LAYOUT])),
         WRITING: list(distances_differ(area)),
+        TABLE: list(parameters_differ(area, texts)),
         **code_problems(area, texts),
         HEADER: list(sizes_differ(texts[HEADER], area)),
         "where values are from": list(unsaid(texts)),
@@ -274,6 +301,9 @@ COUNTED = {
     CODE_RUNS: r"^pub const .*",
     CODE_MAP: r"^(?:pub )?const .*",
     CODE_PLACES: r"^(?:pub )?const .*",
+    TABLE: r"^(?:rowCount|configSize|noRow|allowedBy BitRates) .*|^    (?:∷ )?row .*",
+    STORED: r"^(?:lead|sizeIn) .*",
+    CODE_TABLE: r"^pub const .*|^        (?:id|at|least|most|default|values): .*",
 }
 
 
@@ -286,8 +316,8 @@ def unnoticed(texts, path):
     """Numbers of a file that may be one more."""
     text, due = texts[path], tables(Area(texts)) if path == PAGE else None
     for line in re.finditer(COUNTED[path], text, re.M):
-        for found in re.finditer(r"0x([0-9A-F]{4})|(?<![\w])\d+", line[0]):
-            more = f"0x{int(found[1], 16) + 1:04X}" if found[1] else str(int(found[0]) + 1)
+        for found in re.finditer(r"0x([0-9A-F]{4}|[0-9A-F]{2})(?!\w)|(?<![\w])\d+", line[0]):
+            more = f"0x{int(found[1], 16) + 1:0{len(found[1])}X}" if found[1] else str(int(found[0]) + 1)
             start = line.start() + found.start()
             spoiled = texts | {path: text[:start] + more + text[start + len(found[0]) :]}
             if not noticed(spoiled, due if line[0].startswith("|") else None):

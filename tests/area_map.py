@@ -1,5 +1,6 @@
 """The map of the area as the definitions have it: numbers of crates/area/specs/Map.antt and crates/record/specs/Layout.antt,
-the record's octets in the order of Writing.antt, and the same numbers in the code."""
+the record's octets in the order of Writing.antt, the parameters' by the table of crates/config/specs/Table.antt, and the same
+numbers in the code."""
 import hashlib
 import re
 from collections import namedtuple
@@ -9,8 +10,10 @@ from definitions import coded, defined, split, value
 RUNS, PROFILE, CONN = (f"crates/state/specs/{name}.antt" for name in ("Runs", "Profile", "Conn"))
 MAP, LAYOUT = "crates/area/specs/Map.antt", "crates/record/specs/Layout.antt"
 WRITING, JUDGE = "crates/record/specs/Writing.antt", "crates/record/specs/Judge.antt"
+TABLE, STORED = "crates/config/specs/Table.antt", "crates/config/specs/Stored.antt"
 CODE_RUNS, CODE_MAP, CODE_PLACES = "crates/state/src/runs.rt", "crates/area/src/map.rt", "crates/record/src/places.rt"
-FILES = (RUNS, PROFILE, CONN, MAP, LAYOUT, WRITING, JUDGE, CODE_RUNS, CODE_MAP, CODE_PLACES)
+CODE_TABLE = "crates/config/src/table.rt"
+FILES = (RUNS, PROFILE, CONN, MAP, LAYOUT, WRITING, JUDGE, TABLE, STORED, CODE_RUNS, CODE_MAP, CODE_PLACES, CODE_TABLE)
 
 SIZES = ("areaSize", "slotSize", "wireSlots", "wireSize", "storeSlots", "storeSize", "messageSize", "controlSize", "places")
 # the parts of the area in their order, and what those are called of a place that have one for each
@@ -26,6 +29,8 @@ CASES = ("pendingOctets", "phaseOctet", "rfOctets")
 WORDS = {"gid": "GID", "oid": "OID", "aim": "aim", "id": "ID", "protocol": "protocol", "mode": "mode"}
 # what an octet of a number, and of yes or no, is
 FORMS = r"^(?:high|low|bit) .* = .*$"
+# and what the octets of a parameter are
+STORED_FORMS = r"^(?:isFixed|lead|room|sizeIn|formOf) .* = .*$"
 
 # each name of Layout as the distance from one field to another: where a field ends the next one starts
 DISTANCES = {
@@ -97,12 +102,47 @@ class Written:
             yield ", ".join([named, *map(str.lower, rest)]), octets
 
 
+# ---- the configuration parameters, in the order of the table
+
+# a row of the definitions, and one of the code: ID, place, least and greatest length, default, values
+ROW = r"row (\w+) (\d+) (\d+) (\d+) (\w+) (\(Range \w+ \w+\)|BitRates)"
+CODE_ROW = r",\s+".join((
+    r"Row \{\s+id: (\w+)", r"at: (\d+)", r"least: (\d+)", r"most: (\d+)", r"default: (\w+)", r"values: Values::([\w(), ]+)", r"\}",
+))
+# the bit rates that are not reserved
+RATES = r"^allowedBy BitRates x = leb x (\w+) \|\| eqb x (\w+) \|\| \(leb (\w+) x && leb x (\w+)\)$"
+
+# the ranges are those of the octets that a value may have
+Parameter = namedtuple("Parameter", ("name", "id", "at", "least", "most", "default", "ranges"))
+
+
+def row(cells):
+    """A row as numbers, with the word for its values among them."""
+    words = re.findall(r"\w+", " ".join(cells))
+    return [int(word, 0) if word[0].isdigit() else word for word in words]
+
+
+def parameters(text):
+    """The rows of the definitions, named by the words behind them."""
+    rates = re.search(RATES, text, re.M)
+    if not rates:
+        raise LookupError("the bit rates are not defined")
+    last, alone, low, high = (int(number, 0) for number in rates.groups())
+    for *cells, name in re.findall(rf"^    (?:∷ )?{ROW} +-- (\w+)$", text, re.M):
+        *numbers, values = row(cells)[:6]
+        ranges = [(0, last), (alone, alone), (low, high)] if values == "BitRates" else [tuple(row(cells)[6:])]
+        yield Parameter(name, *numbers, ranges)
+
+
 class Area:
-    """The map: the numbers by their names, the record's octets, and the connections by place."""
+    """The map: the numbers by their names, the record's octets, the parameters behind them, and the connections by place."""
 
     def __init__(self, texts):
-        self.names = defined(*(texts[path] for path in (RUNS, PROFILE, MAP, LAYOUT)))
+        self.names = defined(*(texts[path] for path in (RUNS, PROFILE, MAP, TABLE, LAYOUT)))
+        self.names["configEnd"] = self.names["configAt"] + self.names["configSize"]
+        self.parameters = list(parameters(texts[TABLE]))
         self.written, self.forms = Written(texts[WRITING]), re.findall(FORMS, texts[LAYOUT], re.M)
+        self.forms += re.findall(STORED_FORMS, texts[STORED], re.M)
         leaves = [Leaf(leaf.field.removeprefix("ends."), leaf.form) for leaf in self.written.octets("encodeOf", [""])]
         self.leaves = [*leaves, Leaf("end", "")]
         by_place = {int(place): conn for conn, place in re.findall(PLACES, texts[CONN])}
@@ -128,10 +168,21 @@ class Area:
                 found[name] = found.get(name, 0) + 1
         return found
 
+    def config(self):
+        """The octets of the parameters, by place: where they start in the area, how many they are, the parameter, and whether
+        they are its length, which stands before a value whose length varies."""
+        for parameter in sorted(self.parameters, key=lambda parameter: parameter.at):
+            start = self.names["configAt"] + parameter.at
+            if parameter.least != parameter.most:
+                yield start, 1, parameter, True
+                start += 1
+            yield start, parameter.most, parameter, False
+
     def checksum(self):
         """Of all that the octets of an area mean."""
         numbers = [f"{name} {self.names[name]}" for name in (*SIZES, *PARTS)]
         octets = [f"{self.names['recordAt'] + i} {leaf.field} {leaf.form}" for i, leaf in enumerate(self.leaves)]
+        octets += [f"{at} {n} {p.id:02X} {p.name} {'length' if length else 'value'}" for at, n, p, length in self.config()]
         cases = [f"{name} {' '.join(octets)}" for case in CASES for name, octets in self.written.cases(case)]
         return hashlib.sha256("\n".join(numbers + octets + cases + self.forms + self.conns).encode()).hexdigest()[:16]
 
@@ -158,10 +209,24 @@ def distances_differ(area):
             yield f"{name} is {area.names[name]}, and by what is written {number}"
 
 
+def parameters_differ(area, texts):
+    """A table that is not as long as it says, octets that do not follow one another, and rows that the code has otherwise."""
+    if len(area.parameters) != area.names["rowCount"]:
+        yield f"rowCount is {area.names['rowCount']}, and there are {len(area.parameters)} rows"
+    starts = [start for start, *_ in area.config()] + [area.names["configEnd"]]
+    for (start, length, parameter, _), following in zip(area.config(), starts[1:]):
+        if start + length != following:
+            yield f"{parameter.name} ends at {start + length}, and {following} is next"
+    forms = {TABLE: ROW, CODE_TABLE: CODE_ROW}
+    rows, of_code = ([row(cells) for cells in re.findall(form, texts[path])] for path, form in forms.items())
+    if rows != of_code:
+        yield "the code's rows are not those of the definitions"
+
+
 # names that the code has otherwise
 CODED = {
     "AREA": "areaSize", "PAYLOAD": "payloadSize", "SLOT": "slotSize", "WIRE": "wireSlots", "STORE": "storeSlots",
-    "MESSAGE": "messageSize", "CONTROL": "controlSize", "END": "recordEnd",
+    "MESSAGE": "messageSize", "CONTROL": "controlSize", "END": "recordEnd", "ROWS": "rowCount",
 }
 
 
@@ -187,7 +252,8 @@ def code_differs(area, found):
 
 
 def code_problems(area, texts):
-    runs = coded(texts[CODE_RUNS], {})
+    runs, table = coded(texts[CODE_RUNS], {}), coded(texts[CODE_TABLE], {})
     code_map = coded(texts[CODE_MAP], runs)
-    found = {CODE_RUNS: runs, CODE_MAP: code_map, CODE_PLACES: coded(texts[CODE_PLACES], code_map)}
+    places = coded(texts[CODE_PLACES], code_map | table)
+    found = {CODE_RUNS: runs, CODE_MAP: code_map, CODE_TABLE: table, CODE_PLACES: places}
     return {path: list(code_differs(area, constants)) for path, constants in found.items()}

@@ -19,7 +19,7 @@ from programs import PATIENCE, ROOT, Suite
 
 HEADER = ROOT / "include" / "nci_bench.h"
 NAMES, FIELDS, TYPES = "crates/state/src/names.rt", "crates/state/src/fields.rt", "crates/packets/specs/Types.antt"
-WORD = "crates/calls/specs/Word.antt"
+WORD, TABLE, FRONT = "crates/calls/specs/Word.antt", "crates/config/specs/Table.antt", "front/parameter.c"
 NOTED = ROOT / "tests" / "data" / "interface.txt"
 PAGE = ROOT / "docs" / "FRONT-ENDS.md"
 LIB = ROOT / "build" / "lib"
@@ -64,7 +64,7 @@ def calls(header):
 PREFIXES = {"statuses": "STATUS_", "rf technology and mode": "MODE_"}
 # of the header, what stands there for messages
 OF_MESSAGES = (
-    r"NCI_(?:(?:GID|OID|MT|STATUS|MODE|AT|LENGTH|SIZE|TO)_\w+"
+    r"NCI_(?:(?:GID|OID|MT|STATUS|MODE|AT|LENGTH|SIZE|TO|PA|PB|PF|PI|PN|PV|PACM)_\w+"
     r"|FRAME_INTERFACE|LOOPBACK|MORE_FOLLOW|\w+_REQUEST|LINK_LOSS|HEADER_SIZE)"
 )
 LIMITS = {"NCI_GID_MAX", "NCI_OID_MAX"}
@@ -84,7 +84,30 @@ def due_constants(texts):
     for name, said in re.findall(r"^mt(\w+) = (\d+)$", texts[TYPES], re.M):
         if name != "Rfu":
             due[f"NCI_MT_{name.upper()}"] = int(said)
-    return due
+    return due | {f"NCI_{name}": number for name, number, _ in parameters(texts)}
+
+
+# a row of the table: ID, place, least and greatest length, default, values, name
+ROW = r"row (0x\w\w) \d+ (\d+) (\d+) (0x\w\w) (?:\(Range (0x\w\w) (0x\w\w)\)|(BitRates)) +-- (\w+)$"
+
+
+def parameters(texts):
+    """The configuration parameters by their table: name, ID, and what the header says of the value."""
+    for number, least, most, default, low, high, rates, name in re.findall(ROW, texts[TABLE], re.M):
+        low, high, default = low[2:], high[2:], default[2:]
+        between = "or" if rates or int(high, 16) - int(low, 16) == 1 else "to"
+        said = "00 to 06, 20, or 80 to FE" if rates else "any" if (low, high) == ("00", "FF") else f"{low} {between} {high}"
+        if least != most:
+            said, default = f"{least} to {most} octets, {said}", "none"
+        yield name, int(number, 0), f"{said}; by default {default}"
+
+
+def names_differ(texts):
+    """The front end names the parameters of the table, in its order."""
+    said = re.findall(r'^    \{NCI_(\w+), "(\w+)", ', texts[FRONT], re.M)
+    due = [(name, name) for name, _, _ in parameters(texts)]
+    if said != due:
+        yield f"the front end names {said}, the table {due}"
 
 
 def constants_differ(texts):
@@ -93,6 +116,10 @@ def constants_differ(texts):
     for name in sorted(found.keys() | due.keys()):
         if found.get(name) != due.get(name):
             yield f"{name} is {found.get(name)}, defined as {due.get(name)}"
+    said = dict(re.findall(r"^#define NCI_(\w+) 0x\w\wu +/\* (.*; by default .*) \*/$", texts["header"], re.M))
+    values = {name: words for name, _, words in parameters(texts)}
+    if said != values:
+        yield f"values of parameters are {said}, defined as {values}"
 
 
 # ---- the word
@@ -293,9 +320,10 @@ def check_examples(suite, folder):
 def main():
     if "--write" in sys.argv:
         return write()
-    texts = {name: (ROOT / name).read_text() for name in (NAMES, FIELDS, TYPES, WORD)} | {"header": HEADER.read_text()}
+    texts = {name: (ROOT / name).read_text() for name in (NAMES, FIELDS, TYPES, WORD, TABLE, FRONT)} | {"header": HEADER.read_text()}
     suite = Suite("bindings")
     suite.check("the header's constants", list(constants_differ(texts)))
+    suite.check("the front end's names of parameters", list(names_differ(texts)))
     suite.check("the bits of the word", list(word_differs(texts)))
     suite.check("the version", list(version_differs(texts["header"], NOTED.read_text())))
     suite.check("a change is noticed", list(unnoticed_changes(texts)))

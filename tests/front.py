@@ -8,7 +8,7 @@ the next key is typed.
 A session with its answers is in tests/data/keys.txt, one with packets that have reserved bits at 1 in
 tests/data/forged-keys.txt; the second implementation's lists, typed as keys, have to give the same fields; the card has to
 be that of docs/CARD.md; any octets have to be answered line by line, also under the sanitizers and valgrind, where they are
-at hand. tests/keys.py has the brief form and all that is for the ear."""
+at hand. tests/front_config.py has configuration messages, tests/keys.py the brief form and all that is for the ear."""
 import random
 import re
 import shutil
@@ -17,6 +17,7 @@ import sys
 import tempfile
 from pathlib import Path
 
+from front_config import MOST_OF_CONFIG, PARAMETERS, check_config, config_said, is_config, listed
 from programs import ROOT, Suite
 from worked import FIELDS, HEX, KEYS, NOTE, SEED, Worked, check_session, fed, session
 
@@ -79,10 +80,24 @@ def discover_of(p):
     return "discover " + p[1::2].hex(" ") if fits else None
 
 
+def set_of(p):
+    """Every other parameter by its name, where it has one."""
+    found, rest = listed(p, values=True)
+    names = [PARAMETERS.get(number, f"{number:02x}") if n % 2 else f"{number:X}" for n, (number, _) in enumerate(found)]
+    pairs = " ".join(f"{name} {value.hex() or 'default'}" for name, (_, value) in zip(names, found))
+    return f"set {pairs}" if found and rest == b"" else None
+
+
+def get_of(p):
+    return f"get {p[1:].hex()}" if p and len(p) == 1 + p[0] > 1 else None
+
+
 # of each command that has a key: the key for a payload, where there is one
 COMMANDS = {
     (0, 0): lambda p: f"reset {p.hex()}" if len(p) == 1 else None,
     (0, 1): lambda p: "init" if p == bytes([0, 0]) else None,
+    (0, 2): set_of,
+    (0, 3): get_of,
     (0, 4): lambda p: "create" if p == bytes([1, 0]) else None,
     (0, 5): lambda p: f"close {p[0]:X}" if len(p) == 1 else None,
     (1, 3): discover_of,
@@ -115,9 +130,9 @@ def lists():
 
 
 NAMES = {
-    (0, 0): "CORE_RESET", (0, 1): "CORE_INIT", (0, 4): "CORE_CONN_CREATE", (0, 5): "CORE_CONN_CLOSE",
-    (0, 6): "CORE_CONN_CREDITS", (0, 7): "CORE_GENERIC_ERROR", (1, 3): "RF_DISCOVER", (1, 4): "RF_DISCOVER_SELECT",
-    (1, 5): "RF_INTF_ACTIVATED", (1, 6): "RF_DEACTIVATE",
+    (0, 0): "CORE_RESET", (0, 1): "CORE_INIT", (0, 2): "CORE_SET_CONFIG", (0, 3): "CORE_GET_CONFIG",
+    (0, 4): "CORE_CONN_CREATE", (0, 5): "CORE_CONN_CLOSE", (0, 6): "CORE_CONN_CREDITS", (0, 7): "CORE_GENERIC_ERROR",
+    (1, 3): "RF_DISCOVER", (1, 4): "RF_DISCOVER_SELECT", (1, 5): "RF_INTF_ACTIVATED", (1, 6): "RF_DEACTIVATE",
 }
 
 
@@ -128,17 +143,29 @@ def data_said(conn, more, credits, length):
 
 
 def named(octets):
-    """What is said first of each packet in a field pkt, and of data all."""
+    """What is said first of each packet in a field pkt, and of data and configuration messages all."""
     while octets:
         mt, low, oid, length = octets[0] >> 5, octets[0] & 15, octets[1] & 63, octets[2]
         kind = ["data", "CMD", "RSP", "NTF"][mt]
         if mt == 0:
             yield data_said(low, octets[0] & 16, octets[1] & 3, length)
+        elif is_config(octets):
+            yield f"{NAMES[low, oid]}_{kind}{config_said(mt, oid, octets[3:3 + length])}"
         elif (low, oid) in NAMES:
             yield f"{NAMES[low, oid]}_{kind}"
         else:
             yield f"GID {low:X} OID {oid:02X} {kind}"
         octets = octets[3 + length:]
+
+
+def command_said(octets):
+    """What is said of the segments of a command."""
+    payload, count = b"", 0
+    first = octets
+    while octets:
+        payload, octets, count = payload + octets[3:3 + octets[2]], octets[3 + octets[2]:], count + 1
+    whole = next(named(bytes([first[0] & 0xEF, first[1], len(payload)]) + payload))
+    return whole + (f" in {count} packets" if count > 1 else "")
 
 
 def plural(count, word):
@@ -150,7 +177,7 @@ def counted(length):
 
 
 def says_packet(part, name):
-    return part == name if name.startswith("data ") else part.startswith(name)
+    return part == name if name.startswith("data ") or "_CONFIG_" in name else part.startswith(name)
 
 
 def reserved_said(rfu):
@@ -205,9 +232,9 @@ def says_right(key, line, card):
         return says == f"{answer}: {card[int(answer)]}"
     if event == "read":
         return says_read(says, bytes.fromhex(key.removeprefix("read ")), dropped == "1", int(rfu, 16))
-    names = list(named(bytes.fromhex(packets)))
     if event == "command":
-        return says == names[0] + (f" in {len(names)} packets" if len(names) > 1 else "")
+        return says == command_said(bytes.fromhex(packets))
+    names = list(named(bytes.fromhex(packets)))
     parts = says.removeprefix("looped back ").split("; ")
     handed = [f"{counted(len(message.strip('-')) // 2)} handed out"] if message and event != "report" else []
     in_order = len(parts) >= len(names) and all(map(says_packet, parts, names))
@@ -223,7 +250,7 @@ def check_lists(suite, card):
     suite.equal("lists, exit status", (complaints, status), ("", 0))
     for key, line, answer in zip(keys, lines, answers):
         same = LINE.fullmatch(line) and line.split(" says=")[0] == answer
-        most = MOST_OF_FRESH if line.startswith("ev=fresh ") else MOST_HEARD
+        most = MOST_OF_FRESH if line.startswith("ev=fresh ") else MOST_OF_CONFIG if "_CONFIG_" in line else MOST_HEARD
         good = same and len(heard(line)) <= most and says_right(key, line, card)
         suite.holds(f"lists, {key}", good, f"{line}, expected\n  {answer}")
     met = {line.split()[0] for line in lines}
@@ -254,7 +281,7 @@ def check_help(suite):
     with Worked(suite, terminal=False) as worked:
         answer = worked.press("help")
         names = answer.removeprefix('ev=help ans=0 says="').removesuffix('"').split()
-        suite.equal("number of keys", len(names), 37)
+        suite.equal("number of keys", len(names), 39)
         grouped = [worked.press(f"help {group}").split('"')[1].split(", ") for group in GROUPS]
         suite.equal("keys by group", sorted(sum(grouped, [])), sorted(names))
         document = (ROOT / "docs" / "FRONT-ENDS.md").read_text()
@@ -275,6 +302,8 @@ NO_KEYS = [
     "credit 2", "found 1 4 0", "poll 1 4", "listen 1 4", "failed 1", "sleeps 1", "lost 1", "releases 1", "says hello",
     "air", "reply 0", "report", "read 20C00", "read 20 C0 0G", "power 1", "quit 1", "push\0 2",
     "push\u00a02", "again 1", "octets 1", "more 1", "state 0", "brief 1", "full 1",
+    "set", "set 08", "set 08 01 18", "set default", "set 0818 01", "set 08 010", "set PA_BAIL 01", "set 08 defaults",
+    "set 08 PA_BAIL_OUT", "get 0g", "get 008", "get PA_BAIL_OUT_", "get default", "set 20 " + "00" * 256,
     # no lines of the sheet
     "ev=down", "ev=down arg=0", "ev=down  arg=", " ev=down arg=", "ev=push arg=0a", "ev=push arg=02 ", "EV=down arg=",
     "ev=push arg=", "ev=help arg=", "ev=state arg=", "ev=fresh arg=20",
@@ -286,6 +315,12 @@ SAME_KEYS = [
     ("fresh 20 0402 0402 0402 0402 0401", "fresh"), ("fresh 200402040204020402ffFF", "fresh 20 0402 FFFF"),
     ("reset 1", "reset"), ("command 0 3f 4a4B", "Command 003F 4A 4B"), ("deactivate 00", "deactivate"),
     ("close 2", "command 0 5 2"), ("create", "command 0 4 01 00"), ("read 20 c0 0", "Read 20C000"),
+    ("set 8 1", "command 0 2 01 08 01 01"), ("set 8 1 20 0102 7F 0", "command 0 2 03 080101 20020102 7F0100"),
+    ("set 18 default", "command 0 2 01 18 00"), ("SET pf_bit_rate Default", "set 18 default"),
+    ("get 8 20", "command 0 3 02 08 20"), ("get 0820", "get PA_BAIL_OUT pi_b_h_info"),
+    ("get", "get 08091011 131418191A 20 21 28 2A 2F 68"),
+    ("set 20 " + "00" * 252, "command 0 2 01 20 FC " + "00" * 252), ("set 20 " + "00" * 253, "command 0 0 " + "00" * 256),
+    ("get " + "8" * 510, "command 0 0 " + "00" * 256), ("set" + " 8 1" * 85, "command 0 0 " + "00" * 256),
 ]
 
 
@@ -386,6 +421,7 @@ def main():
     check_lists(suite, card)
     check_card(suite, card)
     check_help(suite)
+    check_config(suite)
     check_no_keys(suite)
     check_lengths(suite)
     check_any(suite, "any octets", [KEYS], 50000)

@@ -45,7 +45,7 @@ PAST_255 = 100
 # and at least so many packets with reserved bits at 1 are taken, of each kind and each way
 RESERVED = 250
 # groups of cases on benches made by hand
-GROUPS = 26
+GROUPS = 43
 # octets of stack that suffice for every call
 STACK = 12_288
 

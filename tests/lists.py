@@ -7,7 +7,7 @@
 
 Each paper becomes the statement that the model gives the same answers; `rt check opinions` proves it by computing. A paper
 that has read in it does not: the model has no such call. Together they meet every call and every refusal, every number of
-credits inside a data packet, both lengths of a profile, and what read tells."""
+credits inside a data packet, both lengths of a profile, every status of a set and of a get, and what read tells."""
 import re
 import sys
 import textwrap
@@ -40,8 +40,10 @@ READ = {"read": (0, True)}
 READS = ("control", "data", "drop")
 # octets of a profile
 PROFILES = (5, 11)
+# CORE_SET_CONFIG_RSP and CORE_GET_CONFIG_RSP by the first octets of a packet, and the statuses of each
+CONFIGS = {b"\x40\x02": ("set", (0x00, 0x05, 0x06, 0x09)), b"\x40\x03": ("get", (0x00, 0x05, 0x06, 0x09, 0x0A))}
 # what crates/opinions/specs/Shown.antt lends to the statements
-SHOWN = ["hex", "line", "refusal", "done", "puts", "hands", "start", "lines"]
+SHOWN = ["line", "refusal", "done", "puts", "hands", "start", "lines"]
 
 
 # ---- the papers
@@ -107,8 +109,8 @@ def read_kind(call):
 
 def missing(papers):
     """Calls never taken, refusals that a call never met, numbers of credits that no data packet carried up, numbers of
-    octets that no profile had, taken or refused, and what read never met. Refusals 1 and 2 are about areas, which the model
-    does not have."""
+    octets that no profile had, taken or refused, statuses that no set or get was answered with, and what read never met.
+    Refusals 1 and 2 are about areas, which the model does not have."""
     calls = [call for paper in papers for call in paper.calls]
     met = Counter((call.name, call.answer) for call in calls)
     table = refusals.load()
@@ -119,6 +121,11 @@ def missing(papers):
     lacking = [f"no paper has {name} with answer {answer}" for name, answer in due if not met[name, answer]]
     lacking += [f"no paper has data that carries {n} credits" for n in range(4) if n not in carried]
     lacking += [f"no paper has fresh of {n} octets with answer {answer}" for n, answer in unmet]
+    statuses = {(call.packets[:2], call.packets[3]) for call in calls if call.name == "down" and call.packets}
+    lacking += [
+        f"no paper has a {name} with status {status:02X}"
+        for response, (name, due) in CONFIGS.items() for status in due if (response, status) not in statuses
+    ]
     reads = {read_kind(call) for call in calls if call.name in READ}
     return lacking + [f"no paper has read meet {kind}" for kind in READS if kind not in reads]
 
@@ -192,6 +199,7 @@ def statements(papers):
         "use mathlib.Core.Path.{_≡_, refl}",
         use("mathlib.Core.Bool", ["true", "false"], words),
         "use mathlib.Core.List.{[], _∷_}",
+        "use Rattle.octets.specs.Hex.{hex}",
         use("Rattle.model.specs.Effects", CALLS, words),
         use("Rattle.opinions.specs.Shown", SHOWN, words),
     ]

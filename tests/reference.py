@@ -12,9 +12,11 @@ import sys
 
 import programs
 from programs import ROOT, Suite
-from reference_bench import ALL, BEFORE, CREATE, DISCOVERY, IDLE, INIT, RESET, STATES, answer, event, marking, packets, played
-from reference_fields import header_differs, layouts, layouts_differ, messages_differ, statuses_differ
-from reference_page import CARD, CONTROLLER, LAYOUT, NAMES, PAGE, READ, REFUSALS, TYPES, differ, table
+from reference_bench import (
+    ALL, BEFORE, CREATE, DISCOVERY, IDLE, INIT, RESET, STATES, answer, command, event, marking, packets, played, shown,
+)
+from reference_fields import header_differs, layouts, layouts_differ, messages_differ, parameters_differ, statuses_differ
+from reference_page import CARD, CONFIG, CONTROLLER, LAYOUT, NAMES, PAGE, PARAMETERS, READ, REFUSALS, TYPES, differ, table
 from reference_states import events_differ, moves_differ, rf_octets_differ, state_shown, states_differ
 
 # ---- commands
@@ -117,12 +119,27 @@ def pushed(before, *lines):
 
 # an open loopback, and a message of one packet that went there and was consumed
 OPEN, LOOPED = BEFORE["one loopback"], ["ev=send arg=02AA", "ev=push arg=02", "ev=down arg=", "ev=consume arg=02"]
+# 08 is set to 00 and to 01, then to a value that it may not have; 09 is set to 0A
+SET = IDLE + command("00020408010008010108010209010A")
+KEPT = {0x08: "01", 0x09: "0A"}
 # what the page says outside its tables, and what of it is played
 SENTENCES = {
     "Without flow control the first is FF and the last two are 00.": lambda: reported("2004FF0401") == "FF00000000",
     "the first segment of a long command of group 0 has 30": lambda: pushed([], "ev=command arg=003F" + 33 * "00")[:4] == "303F",
     "it is answered with its own group and opcode and status 05": lambda: answer("cold", "2F 3E 00") == ["4F 3E 01 05"],
-    "If it is not 00 it is the only one.": lambda: answer("four loopbacks", "20 04 02 01 00") == ["40 04 01 01"],
+    "If it is neither 00 nor 09 it is the only one.": lambda: answer("four loopbacks", "20 04 02 01 00") == ["40 04 01 01"],
+    "Any other ID is not known to it": lambda: [n for n in range(256) if shown(IDLE, n) == "09"]
+    == [n for n in range(256) if n not in bytes.fromhex("08091011131418191A2021282A2F68")],
+    "what is invalid is listed, as often as it is given, and all others are set": lambda: shown(SET, 8, 9) == KEPT
+    and answer("IDLE", "20 02 0A 03 08 01 02 09 01 0A 08 01 02") == ["40 02 04 09 02 08 08"],
+    "of a parameter that is given twice the last valid value stays": lambda: shown(SET, 8)[8] == "01",
+    "A length of 00 restores the default": lambda: shown(SET + command("0002010900"), 8, 9) == {8: "01", 9: "08"},
+    "If the list is cut short, or the status is 06, nothing is set": lambda: [
+        shown(SET + lines, 8, 9) for lines in (command("00020208010009"), command("0103010001") + command("000201080100"))
+    ] == [KEPT, KEPT],
+    "A reset command of type 01 that is OK restores all defaults, as power and fresh do; type 00 keeps all values": lambda: [
+        shown(SET + lines + INIT, 8, 9) for lines in (RESET, ["ev=power arg="] + RESET, command("000000", 2), command("000002"))
+    ] == [{8: "00", 9: "08"}] * 2 + [KEPT] * 2 and shown(SET + ["ev=fresh arg=2004020401"] + IDLE, 8, 9) == {8: "00", 9: "08"},
     "judged in this order: unknown, too short, wrong state, values": lambda: [
         answer("cold", packet)[0][-2:] for packet in ("20 3F 00", "21 03 01 09", "21 03 03 01 05 01")
     ] + answer("IDLE", "21 03 03 01 05 01") == ["05", "05", "06", "41 03 01 01"],
@@ -151,6 +168,10 @@ TABLES = {
     "message types": (TYPES, "Message types"),
     "reset": (LAYOUT, "CORE_RESET"),
     "init": (LAYOUT, "CORE_INIT"),
+    "set configuration": (CONFIG, "CORE_SET_CONFIG_CMD"),
+    "get configuration": (CONFIG, "CORE_GET_CONFIG_CMD"),
+    "configuration parameters": (PARAMETERS, "The configuration parameters"),
+    "parameter identifiers": (PARAMETERS, "The configuration parameters"),
     "create": (LAYOUT, "CORE_CONN_CREATE"),
     "close": (CONTROLLER, "CORE_CONN_CLOSE"),
     "credits": (LAYOUT, "CORE_CONN_CREDITS_NTF"),
@@ -169,8 +190,8 @@ def tables_differ(texts):
     sentence = re.search(r"The standard's tables: (.*)\.$", texts[PAGE], re.M)[1]
     said = {words: number for number, words in re.findall(r"(\d+(?: to \d+)?) ([a-z ]+)", sentence)}
     for words, (path, name) in TABLES.items():
-        due = re.search(rf"^-- (?:---- )?{name} \(003, Tables? ([\d to]+)\)", texts[path], re.M)
-        yield from differ(said.get(words), due and due[1], words)
+        due = re.search(rf"^-- (?:---- )?{name} \(003, Tables? ([\d to]+)(?:; IDs by Table (\d+))?\)", texts[path], re.M)
+        yield from differ(said.get(words), due and due[2 if words == "parameter identifiers" else 1], words)
     # of protocols the bench has no definition
     yield from differ({*said}, {*TABLES, "protocols"}, "tables")
 
@@ -211,6 +232,7 @@ CHECKS = {
     "messages": messages_differ,
     "statuses": statuses_differ,
     "fields": layouts_differ,
+    "configuration parameters": parameters_differ,
     "ranges of fields": ranges_differ,
     "octets of the RF messages": rf_octets_differ,
     "commands and what answers them": commands_differ,

@@ -34,6 +34,7 @@ BEFORE = {
     "cold": [],
     "reset": RESET,
     "IDLE": IDLE,
+    "15 octets in 20": IDLE + command("000201200F" + 15 * "AA"),
     "one loopback": IDLE + CREATE,
     "four loopbacks": IDLE + 4 * CREATE,
     "DISCOVERY": DISCOVERY,
@@ -47,6 +48,16 @@ BEFORE = {
     "LISTEN_SLEEP": DISCOVERY + event("03010480") + event("05"),
 }
 STATES = [name for name in BEFORE if name.isupper() or name.endswith("selection")]
+
+
+def shown(lines, *ids):
+    """The values of parameters, as a get shows them after some lines; its status where that is not OK."""
+    asked = bytes(ids).hex().upper()
+    payload = bytes.fromhex(played(*lines, f"ev=command arg=0003{len(ids):02X}{asked}", "ev=down arg=")[-1]["pkt"])[3:]
+    found, left = {}, payload[2:]
+    while left and payload[0] == 0:
+        found[left[0]], left = left[2 : 2 + left[1]].hex().upper(), left[2 + left[1] :]
+    return found or f"{payload[0]:02X}"
 
 
 def packets(value):

@@ -1,9 +1,12 @@
 """Packets, messages, statuses and fields of docs/REFERENCE.md, held to their definitions, field by field."""
 import re
 
+from bindings import parameters
 from definitions import definition
-from reference_bench import BEFORE, marking, played
-from reference_page import CONTROLLER, FIELDS, HEADER, LAYOUT, NAMES, PAGE, TYPES, differ, names, octets, places, table, tables
+from reference_bench import BEFORE, IDLE, marking, played, shown
+from reference_page import (
+    CONFIG, CONTROLLER, FIELDS, HEADER, LAYOUT, NAMES, PAGE, TYPES, differ, names, octets, places, table, tables,
+)
 
 # ---- packets, messages, statuses
 
@@ -45,6 +48,8 @@ KINDS = {"CMD": (1, "command"), "RSP": (2, "response"), "NTF": (3, "notification
 MESSAGES = {
     "reset": ("gidCore", "oidReset", "CORE_RESET", "CMD RSP NTF"),
     "init": ("gidCore", "oidInit", "CORE_INIT", "CMD RSP"),
+    "set configuration": ("gidCore", "oidSetConfig", "CORE_SET_CONFIG", "CMD RSP"),
+    "get configuration": ("gidCore", "oidGetConfig", "CORE_GET_CONFIG", "CMD RSP"),
     "create": ("gidCore", "oidConnCreate", "CORE_CONN_CREATE", "CMD RSP"),
     "close": ("gidCore", "oidConnClose", "CORE_CONN_CLOSE", "CMD RSP"),
     "credits": ("gidCore", "oidConnCredits", "CORE_CONN_CREDITS", "NTF"),
@@ -74,6 +79,8 @@ STATUSES = {
     "rejected": "rejected",
     "syntaxError": "syntax error",
     "semanticError": "semantic error",
+    "invalidParam": "invalid parameter",
+    "sizeExceeded": "message size exceeded",
     "alreadyStarted": "discovery already started",
     "activationFailed": "target activation failed",
 }
@@ -175,7 +182,15 @@ LENGTHS = {
     "Discover command": "CONFIG_SIZE",
     "Credits notification": "ENTRY_SIZE",
 }
-LAYOUTS = {*DEFINED, *COMMANDS, "Credits notification"}
+# lists of configuration parameters: what the heading says of the length, what the definition has for an entry, and how many octets
+# stand before the first
+LISTS = {
+    "Set configuration command": ("1 octet, and for each parameter 2 and its value", "paramAt m n + 2 + getD m", 1),
+    "Get configuration command": ("1 octet and 1 for each parameter", "askedIn m n = getD m (1 + n) 0", 1),
+    "Set configuration response": ("2 octets and 1 for each invalid parameter", "(idIn m n ∷ [])", 2),
+    "Get configuration response": ("2 octets, and for each parameter 2 and its value", "id ∷ length (valueIn b (rowOf id)) ∷", 2),
+}
+LAYOUTS = {*DEFINED, *COMMANDS, *LISTS, "Credits notification"}
 # verdicts whose response has the status alone, by the command
 ALONE = {
     "Resets type": "reset",
@@ -237,6 +252,11 @@ def layout_differs(texts, name, length, rows):
     """One message: its places in a row, its octets and its length as they are defined, its fields where the code has them."""
     found, wrong, count = row_octets(rows)
     yield from wrong
+    if name in LISTS:
+        said, entry, before = LISTS[name]
+        yield from differ(length, said, "length")
+        yield from differ((entry in texts[CONFIG], count), (True, before + (2 if "its value" in said else 1)), entry)
+        return
     if name in DEFINED:
         yield from differ(found, list(defined_octets(texts, DEFINED[name])), "octets")
         yield from differ(count, places(texts)[LENGTHS[name]], "length")
@@ -257,5 +277,20 @@ def layouts_differ(texts):
     known = {constant for placed in PLACED.values() for constant in placed.values()} | set(LENGTHS.values())
     yield from differ(known, set(places(texts)), "constants")
     alone = re.search(r"^The responses to (.*) have the status alone", texts[PAGE], re.M)[1]
-    due = [words for verdict, words in ALONE.items() if f"responseOf p ({verdict}) = statusOk ∷ []\n" in texts[LAYOUT]]
+    due = [words for verdict, words in ALONE.items() if f"responseOf p b m ({verdict}) = statusOk ∷ []\n" in texts[LAYOUT]]
     yield from differ(re.split(", | and ", alone), due, "status alone")
+
+
+# ---- configuration parameters
+
+
+def parameters_differ(texts):
+    """The table of the page has the rows of the definition's, and each parameter has its default in IDLE."""
+    due = []
+    for name, number, said in parameters(texts):
+        values, default = said.split("; by default ")
+        size, _, rest = values.partition(" octets, ")
+        due.append([f"{number:02X}", name, size if rest else "1", default, rest or values])
+    yield from differ(table(texts, "ID", "parameter"), due)
+    defaults = {int(row[0], 16): row[3].removeprefix("none") for row in due}
+    yield from differ(shown(IDLE, *defaults), defaults, "shown")

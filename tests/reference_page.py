@@ -5,7 +5,8 @@ PAGE, CARD, REFUSALS, HEADER = "docs/REFERENCE.md", "docs/CARD.md", "tests/data/
 NAMES, RADIO, TYPES = "crates/state/specs/Names.antt", "crates/state/specs/Radio.antt", "crates/packets/specs/Types.antt"
 FIELDS, LAYOUT, WRITING = "crates/state/src/fields.rt", "crates/messages/specs/Layout.antt", "crates/record/specs/Writing.antt"
 CONTROLLER, AIR = "crates/nfcc/specs/Controller.antt", "crates/air/specs/Air.antt"
-READ = (PAGE, CARD, REFUSALS, HEADER, NAMES, RADIO, TYPES, FIELDS, LAYOUT, WRITING, CONTROLLER, AIR)
+CONFIG, PARAMETERS = "crates/config/specs/Commands.antt", "crates/config/specs/Table.antt"
+READ = (PAGE, CARD, REFUSALS, HEADER, NAMES, RADIO, TYPES, FIELDS, LAYOUT, WRITING, CONTROLLER, AIR, CONFIG, PARAMETERS)
 
 
 def tables(page):

@@ -140,6 +140,7 @@ SHORT = {
     "RF_DISCOVER": "RF_DISCOVER",
     "selection": "RF_DISCOVER_SELECT",
     "DEACTIVATE": "RF_DEACTIVATE",
+    "SET": "CORE_SET_CONFIG",
     "GET": "CORE_GET_CONFIG",
 }
 TYPES = {"data": 0, "CMD": 1, "command": 1, "RSP": 2, "response": 2, "NTF": 3, "notification": 3}
@@ -165,6 +166,7 @@ STATUS = {
     "STATUS_SEMANTIC_ERROR": 0x06,
     "semantic error": 0x06,
     "STATUS_INVALID_PARAM": 0x09,
+    "STATUS_MESSAGE_SIZE_EXCEEDED": 0x0A,
     "STATUS_OK_4_BIT": 0x14,
     "DISCOVERY_ALREADY_STARTED": 0xA0,
     "DISCOVERY_TARGET_ACTIVATION_FAILED": 0xA1,

@@ -192,7 +192,7 @@ impl Both {
             self.past_grant.count(&sums);
         }
         if let Some(bench) = &self.second {
-            self.tally.count_opening(call, &outcome, bench);
+            self.tally.count_command(call, &outcome, bench);
         }
         self.count_replaced(stored, &outcome);
         if let (Some((way, packet)), true) = (first, outcome.taken()) {

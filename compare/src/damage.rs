@@ -8,9 +8,10 @@ use exam_bench::player::{octets_to_read, Random};
 use exam_bench::profile::LONG_PROFILE;
 
 use crate::lists::Lists;
+use crate::made::{INFO_LENGTH, PF_BIT_RATE};
 use crate::record::{
-    AREA, DOWN_AT, DOWN_RING, RECORD, RECORD_AT, RECORD_ROOM, SLOT, STORES_AT, STORE_SLOTS, UP_AT, UP_RING,
-    WIRE_SLOTS,
+    AREA, DOWN_AT, DOWN_RING, INFO_ROOM, RECORD, RECORD_AT, RECORD_ROOM, SAID, SLOT, STORES_AT, STORE_SLOTS,
+    UP_AT, UP_RING, VALUES, WIRE_SLOTS,
 };
 
 /// Calls of a list before its bench is damaged, damaged copies of that bench, most
@@ -25,9 +26,18 @@ const SLOTS: usize = 2 * WIRE_SLOTS + 5 * STORE_SLOTS;
 
 /// Packets near those that are written here, data with credits and packets with reserved
 /// bits at 1 among them.
-const PACKETS: [&[u8]; 38] = [
+const PACKETS: [&[u8]; 51] = [
     &[0x20, 0x00, 1, 0],
+    &[0x20, 0x00, 1, 1],
     &[0x20, 0x01, 2, 0, 0],
+    &[0x20, 0x02, 4, 1, 0x08, 1, 1],
+    &[0x20, 0x02, 9, 2, 0x18, 1, 2, 0x20, 3, 7, 8, 9],
+    &[0x20, 0x02, 7, 2, 0x12, 1, 9, 0x68, 1, 7],
+    &[0x20, 0x02, 5, 2, 0x20, 0, 0x2A, 0],
+    &[0x30, 0x02, 2, 1, 0x21],
+    &[0x20, 0x03, 3, 2, 0x08, 0x20],
+    &[0x20, 0x03, 16, 15, 8, 9, 0x10, 0x11, 0x13, 0x14, 0x18, 0x19, 0x1A, 0x20, 0x21, 0x28, 0x2A, 0x2F, 0x68],
+    &[0x20, 0x03, 3, 2, 0x08, 0x12],
     &[0x20, 0x04, 2, 1, 0],
     &[0x30, 0x04, 1, 1],
     &[0x20, 0x05, 1, 2],
@@ -36,6 +46,10 @@ const PACKETS: [&[u8]; 38] = [
     &[0x21, 0x06, 1, 0],
     &[0x40, 0x00, 1, 0],
     &[0x40, 0x01, 16, 0, 0, 0, 0, 0, 4, 0, 0, 64, 0, 0, 0, 0, 1, 1, 0],
+    &[0x40, 0x02, 2, 0, 0],
+    &[0x40, 0x02, 3, 9, 1, 0x08],
+    &[0x40, 0x03, 7, 0, 2, 0x08, 1, 1, 0x20, 0],
+    &[0x40, 0x03, 4, 9, 1, 0x12, 0],
     &[0x40, 0x04, 4, 0, 4, 2, 2],
     &[0x40, 0x04, 4, 0, 1, 255, 5],
     &[0x50, 0x04, 2, 0, 4],
@@ -130,17 +144,18 @@ impl Damage {
 
     fn change(&mut self, octets: &mut [u8]) {
         let random = &mut self.random;
-        let record = RECORD_AT..RECORD_AT + RECORD;
-        match random.below(17) {
-            0 => octets[RECORD_AT + random.below(RECORD)] = random.octet(),
+        let record = RECORD_AT..RECORD_AT + SAID;
+        match random.below(18) {
+            0 => octets[RECORD_AT + random.below(SAID)] = random.octet(),
             1 => several(random, &mut octets[record], Random::octet),
-            2..=4 => octets[RECORD_AT + random.below(RECORD)] = small(random),
+            2..=4 => octets[RECORD_AT + random.below(SAID)] = small(random),
             5 => several(random, &mut octets[record], small),
             6 => fill(random, &mut octets[RECORD_AT..]),
             7..=8 => forge(random, octets),
             12..=14 => reshape(random, &mut octets[record]),
             15 => fill_grant(random, octets),
             16 => set_reserved(random, octets),
+            17 => reconfigure(random, &mut octets[record]),
             9 => {
                 let place = random.below(SLOTS);
                 fill(random, slot(place, octets));
@@ -197,7 +212,7 @@ fn several(random: &mut Random, octets: &mut [u8], value: fn(&mut Random) -> u8)
 /// together may be.
 fn reshape(random: &mut Random, record: &mut [u8]) {
     for _ in 0..1 + random.below(30) {
-        let place = random.below(RECORD);
+        let place = random.below(SAID);
         record[place] = random.below(usize::from(most(place)) + 1) as u8;
     }
     if random.chance(90) {
@@ -205,8 +220,19 @@ fn reshape(random: &mut Random, record: &mut [u8]) {
     }
 }
 
+/// All values of parameters become others that they may well be, one of them at times any.
+fn reconfigure(random: &mut Random, record: &mut [u8]) {
+    for (place, octet) in record.iter_mut().enumerate().skip(RECORD) {
+        *octet = random.below(usize::from(most(place)) + 1) as u8;
+    }
+    mend(record);
+    if random.chance(50) {
+        record[RECORD + random.below(VALUES)] = random.octet();
+    }
+}
+
 /// What must hold between octets: least sizes, credits up to the grant, positions up to
-/// the length.
+/// the length, nothing past the length of PI_B_H_INFO.
 fn mend(record: &mut [u8]) {
     for size in [0, 11] {
         record[size] = record[size].max(32);
@@ -226,6 +252,9 @@ fn mend(record: &mut [u8]) {
         conn[14] = conn[14].min(conn[13]);
         mend_length(&mut conn[17..19]);
     }
+    record[PF_BIT_RATE] = record[PF_BIT_RATE].max(1);
+    let length = usize::from(record[INFO_LENGTH]).min(INFO_ROOM);
+    record[INFO_LENGTH + 1..][length..INFO_ROOM].fill(0);
 }
 
 fn mend_hand(hand: &mut [u8]) {
@@ -240,8 +269,8 @@ fn mend_length(length: &mut [u8]) {
     length.copy_from_slice(&most);
 }
 
-/// The most that an octet of the record mostly is: both ends and the wires, in the order
-/// of the record. Lengths are kept under 256 or at 1,024.
+/// The most that an octet of the record mostly is: both ends, the wires and the values of
+/// parameters, in the order of the record. Lengths are kept under 256 or at 1,024.
 fn most(place: usize) -> u8 {
     const PROFILE: [u8; LONG_PROFILE] = [255, 255, 8, 255, 8, 255, 8, 255, 8, 255, 8];
     const HOST: [u8; 5] = [255, 1, 1, 6, 6];
@@ -250,6 +279,8 @@ fn most(place: usize) -> u8 {
     const HAND: [u8; 5] = [1, 4, 0, 4, 0];
     const CONN: [u8; 20] = [1, 255, 8, 8, 1, 4, 0, 4, 0, 4, 0, 1, 1, 8, 8, 7, 8, 4, 0, 1];
     const WIRES: [u8; 4] = [15, 16, 15, 16];
+    const BEFORE_INFO: [u8; 10] = [1, 255, 255, 1, 255, 255, 2, 1, 255, INFO_ROOM as u8];
+    const AFTER_INFO: [u8; 5] = [3, 1, 255, 255, 6];
     match place {
         0..11 => PROFILE[place],
         11..16 => HOST[place - 11],
@@ -258,7 +289,10 @@ fn most(place: usize) -> u8 {
         45..51 => RUN[place - 45],
         51..56 => HAND[place - 51],
         56..156 => CONN[(place - 56) % 20],
-        _ => WIRES[place - 156],
+        156..160 => WIRES[place - 156],
+        160..170 => BEFORE_INFO[place - 160],
+        170..185 => 255,
+        _ => AFTER_INFO[place - 185],
     }
 }
 
@@ -377,6 +411,9 @@ fn profile(random: &mut Random) -> Vec<u8> {
 }
 
 fn command(random: &mut Random) -> Call {
+    if random.chance(20) {
+        return config_command(random);
+    }
     let known = [(0, 0), (0, 1), (0, 4), (0, 5), (0, 5), (1, 3), (1, 4), (1, 6)];
     let (gid, oid) = if random.chance(80) {
         random.pick(&known)
@@ -391,6 +428,24 @@ fn command(random: &mut Random) -> Call {
         payload = random.octets(octets);
     }
     Call::Command { gid, oid, payload }
+}
+
+/// A set or a get, the lists of either, one of them longer than a response can be, or cut short.
+fn config_command(random: &mut Random) -> Call {
+    let many = [vec![85], vec![0x09; 85]].concat();
+    let payload: &[u8] = random.pick(&[
+        &[0],
+        &[1, 0x08, 1, 1],
+        &[3, 0x20, 2, 7, 7, 0x68, 1, 0x20, 0x18, 0],
+        &[2, 0x12, 0, 0x08],
+        &[15, 8, 9, 0x10, 0x11, 0x13, 0x14, 0x18, 0x19, 0x1A, 0x20, 0x21, 0x28, 0x2A, 0x2F, 0x68],
+        &many,
+    ]);
+    let mut payload = payload.to_vec();
+    if random.chance(20) {
+        payload.truncate(random.below(payload.len()));
+    }
+    Call::Command { gid: 0, oid: random.pick(&[2, 3]), payload }
 }
 
 fn event(random: &mut Random) -> Vec<u8> {

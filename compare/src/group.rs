@@ -6,7 +6,8 @@ use std::collections::BTreeMap;
 use exam_bench::call::{Call, Outcome};
 
 use crate::both::Both;
-use crate::made::{self, Made, ASKED, ENDPOINT, PAIRS, RF};
+use crate::made::{self, Made, ASKED, ENDPOINT, INFO_LENGTH, PAIRS, RF};
+use crate::record::INFO_ROOM;
 
 pub struct Group {
     name: &'static str,
@@ -30,7 +31,11 @@ impl Group {
         let outcome = self.both.outcome.clone();
         let writes = !matches!(call, Call::Report(_) | Call::Read(_));
         if writes && outcome.as_ref().is_some_and(Outcome::taken) {
-            check_unused(bench.record(), made::record(self.both.lent.octets()));
+            let after = self.both.lent.octets();
+            check_unused(bench.record(), made::record(after));
+            let zeroed =
+                matches!(call, Call::Fresh(_)) && made::left_over(after).iter().all(|octet| *octet == 0);
+            assert!(zeroed || made::left_over(after) == made::left_over(bench.octets()));
         }
         self.cases += 1;
         *self.met.entry(came_to(call, outcome.as_ref())).or_default() += 1;
@@ -49,6 +54,12 @@ impl Group {
     /// A packet that is first on the up wire, taken off it.
     pub fn hear(&mut self, bench: &Made) -> Option<Outcome> {
         self.case(bench, &Call::Up)
+    }
+
+    /// A response that is first on the up wire: whether it answers the command that the host awaits.
+    pub fn answers(&mut self, bench: &Made) -> bool {
+        self.hear(bench);
+        self.both.second.as_ref().is_some_and(|bench| !bench.host.awaits_response())
     }
 
     pub fn name(&self) -> &str {
@@ -80,8 +91,9 @@ fn came_to(call: &Call, outcome: Option<&Outcome>) -> String {
     }
 }
 
-/// Octets of the record that its state does not use: those of an unanswered command and of an RF
-/// state are written 0; those of what is closed, not in hand or not listed are 0 or stay.
+/// Octets of the record that its state does not use: those of an unanswered command, of an RF
+/// state and past the length of PI_B_H_INFO are written 0; those of what is closed, not in hand or
+/// not listed are 0 or stay.
 fn check_unused(before: &[u8], after: &[u8]) {
     let mut zero = Vec::new();
     if after[ASKED] == 0 {
@@ -92,6 +104,8 @@ fn check_unused(before: &[u8], after: &[u8]) {
         made::W4_HOST_SELECT if after[RF + 1] == 1 => {}
         _ => zero.extend(RF + 1..RF + 4),
     }
+    let info = INFO_LENGTH + 1;
+    zero.extend(info + usize::from(after[INFO_LENGTH])..info + INFO_ROOM);
     let mut spare: Vec<usize> = (PAIRS + 2 * usize::from(after[made::FOUND])..made::FOUND).collect();
     if after[ENDPOINT] == 0 {
         spare.extend(ENDPOINT + 1..ENDPOINT + 5);

@@ -3,7 +3,10 @@
 
 use exam_bench::profile::LONG_PROFILE;
 
-use crate::record::{AREA, DOWN_AT, DOWN_RING, RECORD, RECORD_AT, SLOT, UP_AT, UP_RING};
+use crate::record::{
+    AREA, ASKING_AT, DOWN_AT, DOWN_RING, HEARING_AT, RECORD, RECORD_AT, RECORD_ROOM, SAID, SLOT, UP_AT,
+    UP_RING, VALUES,
+};
 
 // Where the parts of the record begin.
 pub const SIZE: usize = 11;
@@ -18,6 +21,10 @@ pub const ASKING: usize = 45;
 pub const ENDPOINT: usize = 51;
 pub const DOWN: usize = 156;
 pub const UP: usize = 158;
+/// The parameters' values, among them the length of PI_B_H_INFO, and PF_BIT_RATE.
+pub const CONFIG: usize = RECORD;
+pub const INFO_LENGTH: usize = CONFIG + 9;
+pub const PF_BIT_RATE: usize = CONFIG + 6;
 
 /// The sides of the connection at a place, of which there are five.
 pub const fn host_side(place: usize) -> usize {
@@ -36,6 +43,16 @@ pub const AT_HOST: [u8; 12] = [1, 1, 8, 8, 1, 2, 88, 1, 44, 1, 2, 0];
 pub const AT_CONTROLLER: [u8; 8] = [1, 6, 2, 6, 3, 2, 1, 0];
 /// 255 of 700 octets of the endpoint's message are gone.
 pub const SPOKEN: [u8; 5] = [1, 2, 188, 0, 255];
+
+/// The values as fresh, power and a reset of type 1 leave them.
+pub const DEFAULTS: [u8; VALUES] =
+    [0, 8, 0, 0, 0, 8, 1, 0, 8, 0, 0, 0, 0, 0, 0, 0, 0, 0, 0, 0, 0, 0, 0, 0, 0, 0, 0, 0x30, 8, 1];
+const LEFT_OVER: u8 = 0xEE;
+/// Another value of each parameter, seven octets of PI_B_H_INFO.
+pub const OTHERS: [u8; VALUES] = [
+    1, 3, 0x5A, 1, 0x10, 0, 2, 1, 255, 7, 0xA1, 0xA2, 0xA3, 0xA4, 0xA5, 0xA6, 0xA7, 0, 0, 0, 0, 0, 0, 0, 0,
+    3, 1, 0x2F, 9, 0x82,
+];
 
 pub const COLD: u8 = 0;
 pub const RESET: u8 = 1;
@@ -65,13 +82,14 @@ pub struct Made {
 }
 
 impl Made {
-    /// Cold, with empty wires.
+    /// Cold, with empty wires. What is left over of the record's room says nothing.
     pub fn cold(profile: &[u8; LONG_PROFILE]) -> Made {
-        Made { octets: vec![0; AREA] }.with(0, profile).with(SIZE, &[32])
+        let made = Made { octets: vec![0; AREA] }.with(0, profile).with(SIZE, &[32]).with(CONFIG, &DEFAULTS);
+        made.with(SAID, &[LEFT_OVER; RECORD_ROOM - SAID])
     }
 
     /// In the middle of things: a command unanswered, messages in reassembly, packets on both
-    /// wires.
+    /// wires, all parameters set.
     pub fn around(profile: &[u8; LONG_PROFILE]) -> Made {
         Made::cold(profile)
             .with(SIZE, &[64, 1, 0, 5, 3])
@@ -79,6 +97,7 @@ impl Made {
             .with(ASKING, &[1, 0, 4, 0, 40, 0])
             .with(DOWN, &[3, 5])
             .with(UP, &[9, 11])
+            .with(CONFIG, &OTHERS)
     }
 
     /// Octets of the record from a place on.
@@ -94,6 +113,18 @@ impl Made {
 
     pub fn up_first(self, packet: &[u8]) -> Made {
         self.first(UP_AT, UP_RING, packet)
+    }
+
+    /// The controller has these octets of a command in reassembly.
+    pub fn asking(mut self, gid: u8, oid: u8, octets: &[u8]) -> Made {
+        self.octets[ASKING_AT..][..octets.len()].copy_from_slice(octets);
+        self.with(ASKING, &[1, gid, oid, 0, octets.len() as u8, 0])
+    }
+
+    /// The host has these octets of a control message in reassembly.
+    pub fn hearing(mut self, mt: u8, gid: u8, oid: u8, octets: &[u8]) -> Made {
+        self.octets[HEARING_AT..][..octets.len()].copy_from_slice(octets);
+        self.with(HEARING, &[mt, gid, oid, 0, octets.len() as u8, 0])
     }
 
     fn first(mut self, slots: usize, ring: usize, packet: &[u8]) -> Made {
@@ -112,9 +143,14 @@ impl Made {
     }
 }
 
-/// The octets of a bench's record that say anything.
+/// The octets of a bench's record that say anything, the parameters' values behind it too.
 pub fn record(area: &[u8]) -> &[u8] {
-    &area[RECORD_AT..][..RECORD]
+    &area[RECORD_AT..][..SAID]
+}
+
+/// The octets behind them, which no call but fresh writes.
+pub fn left_over(area: &[u8]) -> &[u8] {
+    &area[RECORD_AT + SAID..][..RECORD_ROOM - SAID]
 }
 
 /// A controller's state.
@@ -186,6 +222,11 @@ impl State {
     pub fn commanded(&self, gid: u8, oid: u8, payload: &[u8]) -> Made {
         let packet = [&[0x20 | gid, oid, payload.len() as u8], payload].concat();
         self.made().with(ASKING, &[0; 6]).down_first(&packet)
+    }
+
+    /// The same with these values of parameters.
+    pub fn configured(&self, values: &[u8; VALUES], oid: u8, payload: &[u8]) -> Made {
+        self.commanded(0, oid, payload).with(CONFIG, values)
     }
 
     /// The same with empty wires, as an activation asks, and with no message of the endpoint

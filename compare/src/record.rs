@@ -3,6 +3,7 @@
 //! as a bench of the second implementation.
 
 use exam_bench::bench::Bench;
+use exam_bench::config::Values;
 use exam_bench::connection::{CONN_IDS, LAST_DYNAMIC};
 use exam_bench::controller::{self, Activation, Controller, Pair, Phase, Rf};
 use exam_bench::host::{self, Host, Unanswered};
@@ -13,8 +14,11 @@ use std::collections::VecDeque;
 /// Octets of an area, and of the record at its end.
 pub const AREA: usize = 36864;
 pub const RECORD_ROOM: usize = 512;
-/// Octets of the record that say anything.
+/// Octets of the record, of the parameters' values behind it, and of both: those of the
+/// record's room that say anything.
 pub const RECORD: usize = 160;
+pub const VALUES: usize = 30;
+pub const SAID: usize = RECORD + VALUES;
 /// Where the record begins.
 pub const RECORD_AT: usize = AREA - RECORD_ROOM;
 
@@ -33,12 +37,19 @@ const HANDS_AT: usize = STORES_AT + 5 * STORE_SLOTS * SLOT;
 const ENDPOINT_AT: usize = HANDS_AT + 5 * MESSAGE;
 const HOST_RUNS_AT: usize = ENDPOINT_AT + MESSAGE;
 const CONTROLLER_RUNS_AT: usize = HOST_RUNS_AT + 5 * MESSAGE;
-const ASKING_AT: usize = CONTROLLER_RUNS_AT + 5 * MESSAGE;
-const HEARING_AT: usize = ASKING_AT + CONTROL;
+pub const ASKING_AT: usize = CONTROLLER_RUNS_AT + 5 * MESSAGE;
+pub const HEARING_AT: usize = ASKING_AT + CONTROL;
 
 /// Where the record has a wire's ring: the slot of its first packet, then how many there are.
 pub const DOWN_RING: usize = RECORD_AT + RECORD - 4;
 pub const UP_RING: usize = DOWN_RING + 2;
+
+/// The parameters whose values have one octet each, before PI_B_H_INFO and after it. That has
+/// an octet with its length, and fifteen.
+pub const BEFORE_INFO: [u8; 9] = [0x08, 0x09, 0x10, 0x11, 0x13, 0x14, 0x18, 0x19, 0x1A];
+pub const INFO: u8 = 0x20;
+pub const AFTER_INFO: [u8; 5] = [0x21, 0x28, 0x2A, 0x2F, 0x68];
+pub const INFO_ROOM: usize = 15;
 
 /// What a record says.
 pub struct Said {
@@ -69,6 +80,8 @@ pub fn read(area: &[u8]) -> Option<Said> {
     let down_wire = reader.ring(DOWN_AT, WIRE_SLOTS)?;
     let up_wire = reader.ring(UP_AT, WIRE_SLOTS)?;
     debug_assert_eq!(reader.at, RECORD_AT + RECORD);
+    controller.config = reader.values()?;
+    debug_assert_eq!(reader.at, RECORD_AT + SAID);
     let bench = Bench { profile, down_wire, up_wire, host, controller };
     Some(Said { bench, past_grant: reader.past_grant })
 }
@@ -245,6 +258,23 @@ impl Reader<'_> {
         };
         Some((0..count).map(packet).collect())
     }
+
+    /// Each value is one that a set leaves; octets past the length of PI_B_H_INFO are 0.
+    fn values(&mut self) -> Option<Values> {
+        let mut values = Values::defaults();
+        for id in BEFORE_INFO {
+            only_if(values.set(id, &[self.octet()]))?;
+        }
+        let length = usize::from(self.octet());
+        let room = self.part(self.at, INFO_ROOM);
+        self.at += INFO_ROOM;
+        let (info, past) = room.split_at_checked(length)?;
+        only_if(values.set(INFO, info) && past.iter().all(|octet| *octet == 0))?;
+        for id in AFTER_INFO {
+            only_if(values.set(id, &[self.octet()]))?;
+        }
+        Some(values)
+    }
 }
 
 /// The first part in which two benches differ, or none.
@@ -263,6 +293,7 @@ pub fn difference(one: &Bench, other: &Bench) -> Option<&'static str> {
         ("the controller's phase", one.controller.phase == other.controller.phase),
         ("the RF state", one.controller.rf == other.controller.rf),
         ("the pairs", one.controller.pairs == other.controller.pairs),
+        ("the values of parameters", one.controller.config == other.controller.config),
         ("the Conn ID last given", one.controller.last_given == other.controller.last_given),
         ("the controller's connections", one.controller.connections == other.controller.connections),
         ("the controller's run", same_run(&one.controller.control_run, &other.controller.control_run)),

@@ -84,6 +84,12 @@ fn command(gid: u8, oid: u8, payload: &[u8]) -> Call {
 /// Small packets, so that a long message is in hand for long.
 const PROFILE: [u8; 5] = [32, 32, 8, 32, 8];
 
+/// What a set names: PA_BAIL_OUT, and fifteen octets for PI_B_H_INFO.
+const SETTINGS: [u8; 21] = [2, 0x08, 1, 1, 0x20, 15, 7, 7, 7, 7, 7, 7, 7, 7, 7, 7, 7, 7, 7, 7, 7];
+/// What a get names.
+const PARAMETERS: [u8; 16] =
+    [15, 0x08, 0x09, 0x10, 0x11, 0x13, 0x14, 0x18, 0x19, 0x1A, 0x20, 0x21, 0x28, 0x2A, 0x2F, 0x68];
+
 /// Up to an open loopback, 2, and an activation.
 fn opening() -> Vec<Call> {
     let mut calls = vec![Call::Fresh(PROFILE.to_vec())];
@@ -138,10 +144,23 @@ pub fn cases() -> Vec<Case> {
         from("report", consumed, Call::Report(2)),
     ];
     cases.extend(full_wires());
+    cases.extend(configs());
     cases.push(from("read, 3 octets", vec![], Call::Read(vec![0x02, 0xFF, 0])));
     cases.push(from("read, 258 octets", vec![], Call::Read(full_data(1))));
     cases.push(from("a refusal", vec![], Call::Push(2)));
     cases
+}
+
+/// Down of a set and of a get in IDLE, where a set is taken.
+fn configs() -> [Case; 2] {
+    let case = |name, asked| {
+        let before = [opening()[..9].to_vec(), vec![asked]].concat();
+        Case { name, before, filled: None, call: Call::Down }
+    };
+    [
+        case("down, a set", command(0, 2, &SETTINGS)),
+        case("down, a get of all parameters", command(0, 3, &PARAMETERS)),
+    ]
 }
 
 /// A data packet of connection 2 as long as they get, with so many credits.
@@ -208,10 +227,10 @@ fn time<T, A>(all: &mut [T], mut act: impl FnMut(&mut T) -> A) -> Duration {
 }
 
 /// A paper of random lists, as the second implementation's player deals them. Profiles
-/// have five octets and nothing is read alone, so that times compare with those of papers
-/// that knew neither.
+/// have five octets, nothing is read alone and nothing is configured, so that times compare
+/// with those of papers that knew none of it.
 pub fn mixed_paper(calls: usize, seed: u64, lengths: Lengths) -> Vec<Call> {
-    let mut player = Player::new(seed, lengths).with_short_profiles().without_reads();
+    let mut player = Player::new(seed, lengths).with_short_profiles().without_reads().without_configs();
     let mut bench = Bench::new(&PROFILE).expect("the profile is inside its limits");
     let mut paper = Vec::new();
     while paper.len() < calls {

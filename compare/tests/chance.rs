@@ -3,8 +3,8 @@
 
 use compare::group::Group;
 use compare::made::{controller_side, host_side, Made, LISTEN_ACTIVE, POLL_ACTIVE, W4_HOST_SELECT};
-use compare::made::{ASKED, ASKING, DOWN, ENDPOINT, FOUND, HEARING, PAIRS, PHASE, RF, SIZE};
-use compare::record::RECORD;
+use compare::made::{ASKED, ASKING, CONFIG, DOWN, ENDPOINT, FOUND, HEARING, PAIRS, PHASE, RF, SIZE};
+use compare::record::{INFO_ROOM, RECORD, SAID};
 use exam_bench::call::Call;
 use exam_bench::player::Random;
 
@@ -54,6 +54,20 @@ fn connection(random: &mut Random, made: Made, place: usize) -> Made {
         .with(controller_side(place), &[&controller[..], &store, &run(random, 1024)].concat())
 }
 
+/// A value for each parameter, PI_B_H_INFO of any length.
+fn values(random: &mut Random) -> Vec<u8> {
+    let length = random.below(INFO_ROOM + 1);
+    let mut info = random.octets(length);
+    info.resize(INFO_ROOM, 0);
+    let rate = random.pick(&[0, 1, 2, 3, 4, 5, 6, 0x20, 0x80, 0xFE]);
+    let mut values = vec![up_to(random, 1), random.octet(), random.octet(), up_to(random, 1)];
+    values.extend([random.octet(), random.octet(), 1 + up_to(random, 1), up_to(random, 1), random.octet()]);
+    values.push(length as u8);
+    values.extend(info);
+    values.extend([up_to(random, 3), up_to(random, 1), random.octet(), random.octet(), rate]);
+    values
+}
+
 fn sound(random: &mut Random) -> Made {
     let rf = up_to(random, 6);
     let chosen = if rf == W4_HOST_SELECT { up_to(random, 1) } else { random.octet() };
@@ -67,7 +81,8 @@ fn sound(random: &mut Random) -> Made {
         .with(FOUND, &[up_to(random, 8)])
         .with(ASKING, &control_run(random))
         .with(ENDPOINT, &hand(random))
-        .with(DOWN, &[up_to(random, 15), up_to(random, 16), up_to(random, 15), up_to(random, 16)]);
+        .with(DOWN, &[up_to(random, 15), up_to(random, 16), up_to(random, 15), up_to(random, 16)])
+        .with(CONFIG, &values(random));
     for place in 0..5 {
         made = connection(random, made, place);
     }
@@ -103,15 +118,15 @@ fn records_by_chance() {
         unused += u64::from(![W4_HOST_SELECT, POLL_ACTIVE, LISTEN_ACTIVE].contains(&record[RF]));
         assert!(judge(&mut group, &made), "{record:02X?}");
         if number % 2 == 1 {
-            let place = random.below(RECORD);
+            let place = random.below(SAID);
             changed_sound += u64::from(judge(&mut group, &made.with(place, &[random.octet()])));
         }
     }
     for _ in 0..ANY {
-        let any = Made::cold(&[32; 11]).with(0, &random.octets(RECORD));
+        let any = Made::cold(&[32; 11]).with(0, &random.octets(SAID));
         assert!(!judge(&mut group, &any));
     }
     let records = group.cases() / calls().len() as u64;
     println!("cases={records} group={:?} changed-sound={changed_sound} unused={unused}", group.name());
-    assert_eq!((records, changed_sound, unused), (425, 65, 252));
+    assert_eq!((records, changed_sound, unused), (425, 58, 260));
 }

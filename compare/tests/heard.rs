@@ -11,15 +11,19 @@ const NOTIFICATION: u8 = 3;
 
 /// GID, OID and payload of a message of each kind, as the controller writes it; the last two
 /// are of no command that there is.
-const RESPONSES: [(u8, u8, &[u8]); 9] = [
+const RESPONSES: [(u8, u8, &[u8]); 13] = [
     (0, 0, &[0]),
     (0, 1, &[0, 0, 0, 0, 0, 4, 0, 0, 32, 0, 0, 0, 0, 1, 1, 0]),
+    (0, 2, &[0, 0]),
+    (0, 2, &[9, 3, 0x12, 0x08, 0x12]),
+    (0, 3, &[0, 4, 0x08, 1, 1, 0x20, 0, 0x18, 1, 2, 0x20, 2, 0, 255]),
+    (0, 3, &[9, 2, 0x12, 0, 0x03, 0]),
     (0, 4, &[0, 4, 2, 3]),
     (0, 5, &[0]),
     (1, 3, &[0]),
     (1, 4, &[0]),
     (1, 6, &[0]),
-    (0, 2, &[0]),
+    (0, 0x0B, &[0]),
     (5, 63, &[0]),
 ];
 /// The same of notifications; the last is none that there is.
@@ -77,7 +81,7 @@ fn variants(message: &[u8]) -> Vec<Vec<u8>> {
 }
 
 /// Each response to each command, with each status, and values of INIT, CONN_CREATE and
-/// CONN_CLOSE at and past their limits.
+/// CONN_CLOSE at and past their limits; those of sets and gets are below.
 #[test]
 fn responses() {
     let mut group = Group::new("responses at the host");
@@ -114,7 +118,111 @@ fn responses() {
         response(&mut group, AtHost::alone(opened).awaiting(0, 0, 2), 0, 0, &[0]);
         response(&mut group, AtHost::alone(opened).awaiting(0, 4, 2), 0, 4, &[0, 4, 2, 3]);
     }
-    group.end(1432, &[("dropped", 90), ("taken", 1342)]);
+    group.end(1777, &[("dropped", 178), ("taken", 1599)]);
+}
+
+/// A response to a set or a get at a host that awaits it: whether it answers.
+fn answers(group: &mut Group, oid: u8, payload: &[u8]) -> u64 {
+    u64::from(group.answers(&awaiting(0, oid).given(&packet(RESPONSE, 0, oid, payload))))
+}
+
+/// Lists of IDs: each count with as many, one less and one more, after each status.
+#[test]
+fn set_responses() {
+    let (mut group, mut answered) = (Group::new("set responses at the host"), 0);
+    for status in STATUSES {
+        for count in 0..=253_u8 {
+            for ids in [count.saturating_sub(1), count, (count + 1).min(253)] {
+                let list: Vec<u8> = (0..ids).map(|place| place.wrapping_mul(7)).collect();
+                answered += answers(&mut group, 2, &[&[status, count], &list[..]].concat());
+            }
+        }
+    }
+    for id in 0..=255 {
+        answered += answers(&mut group, 2, &[9, 1, id]);
+        answered += answers(&mut group, 2, &[9, 3, 0x08, id, id]);
+        answered += answers(&mut group, 2, &[0, 1, id]);
+    }
+    // 00 00, where one less is the same; 1 to 127 after 09; each ID twice
+    assert_eq!(answered, 2 + 127 + 2 * 256);
+    group.end(12 * 254 * 3 + 3 * 256, &[("taken", 12 * 254 * 3 + 3 * 256)]);
+}
+
+/// Every ID with each octet for a value, without one, and with other numbers of octets; after OK and
+/// after 09.
+#[test]
+fn values_in_get_responses() {
+    let (mut group, mut answered) = (Group::new("values in get responses at the host"), 0);
+    for id in 0..=255 {
+        for octet in 0..=255 {
+            answered += answers(&mut group, 3, &[0, 1, id, 1, octet]);
+        }
+        for length in [0, 2, 14, 15, 16, 251] {
+            answered += answers(&mut group, 3, &[&[0, 1, id, length], &vec![1; length.into()][..]].concat());
+        }
+        for length in [0, 1, 2] {
+            answered += answers(&mut group, 3, &[&[9, 1, id, length], &vec![1; length.into()][..]].concat());
+        }
+    }
+    // eight take every octet, four take two, others 2, 4 and 135; PI_B_H_INFO also has 0, 2, 14 and 15
+    // octets; after 09 the unknown ones without any
+    assert_eq!(answered, 8 * 256 + 4 * 2 + 2 + 4 + 135 + 4 + 241);
+    group.end(265 * 256, &[("taken", 265 * 256)]);
+}
+
+/// Lists of each kind, as long as they get: each count, one entry less and more, each octet cut off, octets
+/// to spare, and one entry among them that was never written.
+#[test]
+fn lists_in_get_responses() {
+    let (mut group, mut answered) = (Group::new("lists in get responses at the host"), 0);
+    let (one, none, unknown) = (&[0x09, 1, 7][..], &[0x20, 0][..], &[0x12, 0][..]);
+    for (status, entry, most) in [(0, one, 84_usize), (0, none, 126), (9, unknown, 126)] {
+        for count in [0, 1, 2, 3, 50, most - 1, most, most + 1, 255] {
+            for entries in [count.min(most), count.saturating_sub(1).min(most), (count + 1).min(most)] {
+                answered +=
+                    answers(&mut group, 3, &[&[status, count as u8], &entry.repeat(entries)[..]].concat());
+            }
+        }
+        let list = [vec![status, 5], entry.repeat(5)].concat();
+        for length in 0..list.len() {
+            answered += answers(&mut group, 3, &list[..length]);
+        }
+        for past in [&[0][..], &[0x09], one, none, unknown] {
+            answered += answers(&mut group, 3, &[&list[..], past].concat());
+        }
+        for place in 0..5 {
+            for wrong in [&[0x08, 1, 2][..], &[0x08, 0], &[0x12, 1, 0], one, none, unknown, &[0x12, 255]] {
+                let mut entries = vec![entry; 5];
+                entries[place] = wrong;
+                answered += answers(&mut group, 3, &[vec![status, 5], entries.concat()].concat());
+            }
+        }
+    }
+    // of each count its own list, that of none and the longest twice, but none after 09; 09 alone; and an
+    // entry of the same kind among them
+    assert_eq!(answered, 9 + 9 + 7 + 1 + 10 + 10 + 5);
+    group.end(242, &[("taken", 242)]);
+}
+
+/// What is heard in segments is judged when it is whole.
+#[test]
+fn lists_in_segments() {
+    let mut group = Group::new("lists of parameters in segments");
+    let cases: [(u8, &[u8], bool); 5] = [
+        (2, &[9, 2, 0x08, 0x12], true),
+        (2, &[9, 3, 0x08, 0x12], false),
+        (3, &[0, 2, 0x08, 1, 1, 0x20, 0], true),
+        (3, &[0, 2, 0x08, 1, 2, 0x20, 0], false),
+        (3, &[9, 1, 0x12, 0], true),
+    ];
+    for (oid, whole, written) in cases {
+        for cut in 0..=whole.len() {
+            let rest = awaiting(0, oid).given(&packet(RESPONSE, 0, oid, &whole[cut..]));
+            let answered = group.answers(&rest.hearing(RESPONSE, 0, oid, &whole[..cut]));
+            assert_eq!(answered, written, "{whole:02X?}");
+        }
+    }
+    group.end(31, &[("taken", 31)]);
 }
 
 /// Activations and discoveries with each field at and past its limits.
@@ -239,5 +347,5 @@ fn other_packets() {
         group.hear(&heard(awaiting(0, 1).made(), &packet));
     }
     group.hear(&alone().given(&[0, 0, 1, 0xAA]));
-    group.end(56, &[("dropped", 51), ("taken", 5)]);
+    group.end(76, &[("dropped", 71), ("taken", 5)]);
 }

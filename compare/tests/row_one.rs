@@ -6,8 +6,8 @@ use compare::group::Group;
 use compare::lent::{Room, BUFFER, PAST};
 use compare::made::{controller_side, host_side, Made};
 use compare::made::{ASKED, ASKING, ENDPOINT, FOUND, GIVEN, HEARING, PAIRS, PHASE, READY, RESET, RF, SIZE};
-use compare::made::{DOWN, UP};
-use compare::record::{AREA, RECORD, RECORD_AT};
+use compare::made::{CONFIG, DEFAULTS, DOWN, INFO_LENGTH, OTHERS, PF_BIT_RATE, UP};
+use compare::record::{AREA, INFO_ROOM, RECORD, RECORD_AT, SAID, VALUES};
 use compare::word;
 use exam_bench::call::Call;
 use exam_bench::profile::LONG_PROFILE;
@@ -20,8 +20,16 @@ const LEAST: Profile = [32, 1, 1, 1, 1, 1, 1, 1, 1, 1, 1];
 /// 2 tight, 3 loose, 4 without flow control, 5 and 0 between them.
 const UNLIKE: Profile = [64, 1, 1, 255, 8, 100, 255, 16, 3, 32, 4];
 const EIGHT: [u8; 16] = [1, 4, 2, 5, 3, 0x80, 254, 255, 5, 0, 6, 6, 7, 1, 8, 2];
-/// Of the records of `every_octet_of_some_records`.
-const SOUND: u64 = 50_094;
+/// The greatest values: all of PI_B_H_INFO, PACM_BIT_RATE FE.
+const GREATEST: [u8; VALUES] = [
+    1, 255, 255, 1, 255, 255, 2, 1, 255, 15, 255, 255, 255, 255, 255, 255, 255, 255, 255, 255, 255, 255, 255,
+    255, 255, 3, 1, 255, 255, 0xFE,
+];
+/// Of the records of `every_octet_of_some_records`: those of the record proper, and those of the values,
+/// by PI_B_H_INFO without octets, with seven and with fifteen.
+const SOUND: u64 = 50_094 + 3 * OTHER_VALUES + (16 + 15) + (9 + 7 * 256 + 8) + (1 + 15 * 256);
+/// Seven of one octet take any, four take two, PF_BIT_RATE, PI_BIT_RATE and PACM_BIT_RATE some.
+const OTHER_VALUES: u64 = 7 * 256 + 4 * 2 + 2 + 4 + 135;
 
 /// Every call but fresh, which looks at no record.
 fn calls() -> Vec<Call> {
@@ -131,7 +139,8 @@ fn full() -> Made {
         .with(HEARING, &[3, 15, 63, 0, 255, 1])
         .with(ASKING, &[1, 15, 63, 0, 255, 1])
         .with(ENDPOINT, &hand(1024, 1024))
-        .with(DOWN, &[15, 16, 15, 16]);
+        .with(DOWN, &[15, 16, 15, 16])
+        .with(CONFIG, &GREATEST);
     let more = More {
         in_hand: hand(1024, 1024),
         at_host: run(1024, 1),
@@ -156,7 +165,8 @@ fn busy() -> Made {
         .with(HEARING, &[2, 1, 6, 0, 17, 0])
         .with(ASKING, &[1, 0, 4, 0, 40, 0])
         .with(ENDPOINT, &hand(700, 255))
-        .with(DOWN, &[3, 5, 9, 11]);
+        .with(DOWN, &[3, 5, 9, 11])
+        .with(CONFIG, &OTHERS);
     let more = More {
         in_hand: hand(600, 300),
         at_host: run(258, 0),
@@ -252,12 +262,32 @@ fn control_runs_and_wires() -> Vec<Made> {
     benches
 }
 
+/// Values at their limits, and PI_B_H_INFO of each length, of zeros and of other octets.
+fn values() -> Vec<Made> {
+    let with = |values: &[u8; VALUES]| ready(&FIRST).with(CONFIG, values);
+    let mut benches = vec![with(&DEFAULTS), with(&OTHERS), with(&GREATEST)];
+    for (place, limits) in [(0, &[0, 1][..]), (1, &[0, 255]), (6, &[1, 2]), (25, &[0, 3]), (27, &[0, 255])] {
+        benches.extend(limits.iter().map(|value| with(&DEFAULTS).with(CONFIG + place, &[*value])));
+    }
+    for rate in [0x00, 0x06, 0x20, 0x80, 0xFE] {
+        benches.push(with(&DEFAULTS).with(CONFIG + VALUES - 1, &[rate]));
+    }
+    for length in 0..=INFO_ROOM {
+        for octet in [0x00, 0x01, 0xFF] {
+            let info = [vec![length as u8], vec![octet; length]].concat();
+            benches.push(with(&DEFAULTS).with(INFO_LENGTH, &info));
+        }
+    }
+    benches
+}
+
 #[test]
 fn good_records() {
     let mut records = Records::new("good records", calls());
-    let parts = [bases().to_vec(), profiles(), rf_states(), connections(), control_runs_and_wires()];
+    let parts =
+        [bases().to_vec(), profiles(), rf_states(), connections(), control_runs_and_wires(), values()];
     parts.iter().flatten().for_each(|made| records.judge(made));
-    records.end(80, 0);
+    records.end(80 + 3 + 10 + 5 + 3 * 16, 0);
 }
 
 // ---- records at and past their limits
@@ -268,11 +298,32 @@ fn every_octet_of_some_records() {
     let few = vec![Call::Credit, Call::Up, Call::Report(2)];
     let mut records = Records::new("every octet of some records", few);
     for base in bases() {
-        for place in 0..RECORD {
+        for place in 0..SAID {
             (0..=255).for_each(|value| records.judge(&base.clone().with(place, &[value])));
         }
     }
-    records.end(SOUND, 3 * 160 * 256 - SOUND);
+    records.end(SOUND, 3 * 190 * 256 - SOUND);
+}
+
+/// Each length of PI_B_H_INFO, with each of its octets at 0 and another, and with all of them.
+#[test]
+fn lengths_of_pi_b_h_info() {
+    let mut records = Records::new("lengths of PI_B_H_INFO in the record", calls());
+    let base = ready(&FIRST);
+    for length in 0..=255 {
+        let with = |octets: [u8; INFO_ROOM]| {
+            base.clone().with(INFO_LENGTH, &[length]).with(INFO_LENGTH + 1, &octets)
+        };
+        records.judge(&with([0; INFO_ROOM]));
+        records.judge(&with([0xA7; INFO_ROOM]));
+        for place in 0..INFO_ROOM {
+            let mut octets = [0; INFO_ROOM];
+            octets[place] = 1;
+            records.judge(&with(octets));
+        }
+    }
+    // zeros under every length that there is, all others under 15; each octet under those past its place
+    records.end(16 + 1 + 120, 17 * 256 - 137);
 }
 
 /// Messages in hand and in reassembly, judged by two octets and by one another.
@@ -356,15 +407,18 @@ fn octets_that_are_judged_together() {
 
 // ---- areas
 
-/// Areas of twelve lengths, with a good record, with one that row 1 refuses, and with less than
+/// Areas of thirteen lengths, with a good record, with some that row 1 refuses, and with less than
 /// a whole one.
 #[test]
 fn lengths_of_the_area() {
     let (mut both, mut answers) = (Both::default(), [0_u64; 3]);
     let whole = busy().record().to_vec();
-    let bad = [&whole[..RECORD - 1], &[0x11]].concat();
-    let records = [&whole[..], &bad, &[0; RECORD], &[], &whole[..77], &whole[..RECORD - 1]];
-    let short = [0, 1, RECORD, 512, RECORD_AT, RECORD_AT + 1, RECORD_AT + RECORD, AREA - 1];
+    let but = |place: usize, octet: u8| [&whole[..place], &[octet], &whole[place + 1..]].concat();
+    let (bad_ring, bad_value) = (but(RECORD - 1, 0x11), but(PF_BIT_RATE, 0));
+    let parts = [&whole[..77], &whole[..RECORD - 1], &whole[..RECORD]];
+    let records = [&whole[..], &bad_ring, &bad_value, &[0; SAID], &[], parts[0], parts[1], parts[2]];
+    let ends = [RECORD_AT, RECORD_AT + 1, RECORD_AT + RECORD, RECORD_AT + SAID, AREA - 1];
+    let short = [&[0, 1, RECORD, 512][..], &ends].concat();
     for area in short.into_iter().chain([AREA, AREA + 1, AREA + PAST - 1, AREA + PAST]) {
         for record in records {
             let mut octets = vec![0xA5; AREA];
@@ -385,5 +439,5 @@ fn lengths_of_the_area() {
         }
     }
     println!("cases={} group=\"lengths of the area\" answered={answers:?}", answers.iter().sum::<u64>());
-    assert_eq!(answers, [4, 20, 48]);
+    assert_eq!(answers, [4, 28, 72]);
 }

@@ -6,7 +6,7 @@ use std::collections::BTreeMap;
 use compare::both::Both;
 use compare::group::Group;
 use compare::made::{controller_side, host_side, rf_state, rf_states, AtHost, State, FOUND_PAIRS};
-use compare::made::{COLD, DISCOVERY, IDLE, LISTEN_SLEEP, RESET, W4_HOST_SELECT};
+use compare::made::{COLD, CONFIG, DEFAULTS, DISCOVERY, IDLE, LISTEN_SLEEP, RESET, W4_HOST_SELECT};
 use exam_bench::call::Call;
 use exam_bench::host::Host;
 
@@ -18,13 +18,16 @@ fn octets(hexes: &str) -> Vec<u8> {
     digits.chunks(2).map(octet).collect()
 }
 
-/// The octets of the vectors of sections B to F, by their numbers.
+/// The sections whose vectors are control messages.
+const SECTIONS: &str = "BCDEFH";
+
+/// Their octets, by the vectors' numbers.
 fn vectors() -> BTreeMap<&'static str, Vec<u8>> {
     let (mut vectors, mut section) = (BTreeMap::new(), ' ');
     for line in VECTORS.lines() {
         if line.starts_with("# ") && line.get(3..5) == Some(". ") {
             section = line.chars().nth(2).expect("a letter");
-        } else if ('B'..='F').contains(&section) && !line.is_empty() && !line.starts_with('#') {
+        } else if SECTIONS.contains(section) && !line.is_empty() && !line.starts_with('#') {
             let fields: Vec<&str> = line.split(" | ").collect();
             vectors.insert(fields[0], octets(fields[2]));
         }
@@ -132,8 +135,55 @@ fn deactivations() -> Vec<Command> {
     commands
 }
 
+/// SET_CONFIG and GET_CONFIG on defaults.
+fn config_commands() -> Vec<Command> {
+    let idle = rf_state("idle");
+    let mut commands = Vec::new();
+    for (told, response) in [
+        ("097", "098"),
+        ("099", "100"),
+        ("101", "098"),
+        ("102", "098"),
+        ("103", "100"),
+        ("104", "119"),
+        ("117", "098"),
+        ("118", "119"),
+        ("121", "098"),
+        ("122", "123"),
+        ("124", "125"),
+        ("107", "108"),
+        ("109", "110"),
+        ("111", "112"),
+        ("200303021203", "113"),
+        ("114", "115"),
+        (LONG_GET, "116"),
+        ("128", "129"),
+        ("130", "131"),
+        ("133", "134"),
+    ] {
+        commands.push((told, idle.clone(), response, ""));
+    }
+    for phase in [COLD, RESET] {
+        let early = State { phase, ..State::default() };
+        for (told, response) in [("097", "120"), ("104", "119"), ("107", "132"), ("130", "131")] {
+            commands.push((told, early.clone(), response, ""));
+        }
+    }
+    for (_, state) in rf_states().into_iter().filter(|(_, state)| state.rf[0] != IDLE) {
+        commands.extend([("097", state.clone(), "120", ""), ("107", state.clone(), "108", "")]);
+        commands.extend([("117", state.clone(), "098", ""), ("104", state, "119", "")]);
+    }
+    commands
+}
+
+/// PA_BAIL_OUT asked for 85 times.
+const LONG_GET: &str =
+    "2003565508080808080808080808080808080808080808080808080808080808080808080808080808080808\
+    080808080808080808080808080808080808080808080808080808080808080808080808080808080808080808";
+
 fn commands() -> Vec<Command> {
-    [core_commands(), conn_commands(), discovery_commands(), deactivations()].concat()
+    let parts = [core_commands(), conn_commands(), discovery_commands(), deactivations(), config_commands()];
+    parts.concat()
 }
 
 #[test]
@@ -147,11 +197,60 @@ fn commands_are_answered_with_the_packets_named() {
             due[0][14..16].fill(0);
         }
         due.extend(vectors.get(notification).cloned());
-        let outcome = group.command(&state.commanded(told[0] & 15, told[1], &told[3..]));
+        let made = state.commanded(told[0] & 15, told[1], &told[3..]).with(CONFIG, &DEFAULTS);
+        let outcome = group.command(&made);
         assert_eq!(outcome.up, due, "{told:02X?} in {state:02X?}");
     }
-    let due = [("status 00", 38), ("status 01", 10), ("status 05", 12), ("status 06", 20), ("status A0", 15)];
-    group.end(95, &due);
+    let due = [
+        ("status 00", 78),
+        ("status 01", 10),
+        ("status 05", 34),
+        ("status 06", 39),
+        ("status 09", 6),
+        ("status 0A", 1),
+        ("status A0", 15),
+    ];
+    group.end(183, &due);
+}
+
+/// A set in two segments, sets followed by gets, and what resets of both types leave, from fresh on.
+#[test]
+fn values_are_set_and_shown_by_the_packets_named() {
+    let (vectors, mut both, mut count) = (vectors(), Both::default(), 0);
+    both.begin(&octets("2004020401")).unwrap();
+    let reset = ("013", "015");
+    for (told, response) in [
+        reset,
+        ("024", ""),
+        ("105", "098"),
+        ("109", "4003190003200F1112131415161718191A1B1C1D1E1F2A0130180101"),
+        ("124", "125"),
+        ("126", "127"),
+        ("102", "098"),
+        ("097", "098"),
+        ("133", "4003080002080101080101"),
+        ("014", "015"),
+        ("024", ""),
+        ("126", "127"),
+        reset,
+        ("024", ""),
+        ("114", "115"),
+    ] {
+        let segments = if told == "105" { vec!["105", "106"] } else { vec![told] };
+        let payload: Vec<u8> = segments.iter().flat_map(|number| vectors[number][3..].to_vec()).collect();
+        let (gid, oid) = (vectors[told][0] & 15, vectors[told][1]);
+        both.step(&Call::Command { gid, oid, payload }).unwrap();
+        let due: Vec<Vec<u8>> = segments.iter().map(|number| vectors[number].clone()).collect();
+        assert_eq!(both.outcome.as_ref().unwrap().down, due, "{told}");
+        segments.iter().for_each(|_| both.step(&Call::Down).unwrap());
+        let put = both.outcome.clone().unwrap().up;
+        let due = vectors.get(response).cloned().unwrap_or_else(|| octets(response));
+        assert!(due.is_empty() || put[0] == due, "{told}: {:02X?}", put[0]);
+        put.iter().for_each(|_| both.step(&Call::Up).unwrap());
+        count += 1;
+    }
+    println!("cases={count} group=\"sets and gets of the standard in turn\"");
+    assert_eq!(count, 15);
 }
 
 #[test]
@@ -213,7 +312,8 @@ const HEARD: [(&str, &[&str]); 8] = [
         "answered",
         &[
             "021", "028", "029", "030", "032", "034", "035", "042", "047", "057", "059", "060", "061", "066",
-            "068", "069", "079", "088", "089", "090", "091", "092",
+            "068", "069", "079", "088", "089", "090", "091", "092", "098", "100", "108", "110", "112", "113",
+            "115", "116", "119", "120", "123", "125", "127", "129", "131", "132", "134",
         ],
     ),
     ("opens", &["037", "038"]),
@@ -265,13 +365,15 @@ fn each_packet_is_heard_as_what_it_is() {
         }
     }
     println!("cases={count} group=\"packets of the standard at the host\"");
-    assert_eq!(count, 56);
+    assert_eq!(count, 73);
 }
 
-/// Each vector of these sections is a command to the controller or a packet to the host.
+/// Each vector of these sections is a command to the controller or a packet to the host; some sets and
+/// gets come in turn alone.
 #[test]
 fn every_vector_is_used() {
     let mut vectors = vectors();
+    ["105", "106", "126"].iter().for_each(|told| drop(vectors.remove(told)));
     commands().iter().for_each(|(told, ..)| drop(vectors.remove(told)));
     HEARD.iter().flat_map(|(_, numbers)| *numbers).for_each(|number| drop(vectors.remove(number)));
     assert!(vectors.is_empty(), "{:?}", vectors.keys());

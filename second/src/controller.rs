@@ -1,10 +1,12 @@
 //! The controller: its answers to commands, the RF states and the air, its store
 //! and the credits it owes (document 01, "What the controller answers" and "The
-//! air", and document 02, "Credits inside data packets"; 003, chapters 4, 5.2 and 7).
+//! air", and document 02, "Credits inside data packets" and "Configuration commands";
+//! 003, chapters 4, 5.2 and 7).
 
 use std::collections::VecDeque;
 
 use crate::air::{AirEvent, FOUND_MORE};
+use crate::config::{self, Values};
 use crate::connection::{
     dynamic_after, is_dynamic, place_of, CONN_IDS, FIRST_DYNAMIC, LAST_DYNAMIC, STATIC_RF,
 };
@@ -132,6 +134,7 @@ pub struct Controller {
     pub phase: Phase,
     pub rf: Rf,
     pub pairs: Vec<Pair>,
+    pub config: Values,
     /// The Conn ID last given by CONN_CREATE; 5 at first, so that 2 comes next.
     pub last_given: u8,
     pub connections: [Option<Connection>; 5],
@@ -147,6 +150,7 @@ impl Controller {
             phase: Phase::Cold,
             rf: Rf::Idle,
             pairs: Vec::new(),
+            config: Values::defaults(),
             last_given: LAST_DYNAMIC,
             connections: [const { None }; 5],
             control_run: ControlRun::new(),
@@ -164,6 +168,11 @@ impl Controller {
 
     pub fn pairs(&self) -> &[Pair] {
         &self.pairs
+    }
+
+    /// The values that the parameters have.
+    pub fn config(&self) -> &Values {
+        &self.config
     }
 
     /// The connection if it is open at the controller.
@@ -269,6 +278,8 @@ impl Controller {
             Command::Reset { reset_type } => self.reset(reset_type),
             Command::Init => self.init(),
             _ if self.phase != Phase::Initialised => Err(STATUS_SEMANTIC_ERROR),
+            Command::SetConfig { settings } => self.set_config(&settings),
+            Command::GetConfig { ids } => self.get_config(ids),
             Command::ConnCreate { destination, parameters } => self.conn_create(destination, parameters),
             Command::ConnClose { conn } => self.conn_close(conn),
             Command::Discover { entries } => self.discover(entries),
@@ -286,6 +297,9 @@ impl Controller {
             self.close(conn);
         }
         self.enter_idle();
+        if reset_type == RESET_CONFIGURATION {
+            self.config = Values::defaults();
+        }
         self.phase = Phase::Reset;
         self.last_given = LAST_DYNAMIC;
         Ok(vec![write_status(CORE, CORE_RESET, STATUS_OK), write_reset_ntf(reset_type)])
@@ -297,6 +311,36 @@ impl Controller {
         }
         self.phase = Phase::Initialised;
         Ok(vec![write_init_rsp(self.profile.control_payload)])
+    }
+
+    /// Parameters of the discovery are set in IDLE alone (003, 5.2.1): a set that names one
+    /// elsewhere sets nothing. Those that are not invalid are set, in the order given.
+    fn set_config(&mut self, settings: &[Setting]) -> Result<Vec<Vec<u8>>, u8> {
+        if self.rf != Rf::Idle && settings.iter().any(|(id, _)| config::is_known(*id)) {
+            return Err(STATUS_SEMANTIC_ERROR);
+        }
+        let mut invalid = Vec::new();
+        for (id, value) in settings {
+            if !self.config.set(*id, value) {
+                invalid.push(*id);
+            }
+        }
+        Ok(vec![write_set_config_rsp(&invalid)])
+    }
+
+    /// The values asked for, or, where some are unknown, those alone. Decision on get responses
+    /// that would be too long: of either kind there is the status alone.
+    fn get_config(&self, ids: &[u8]) -> Result<Vec<Vec<u8>>, u8> {
+        let values: Option<Vec<Setting>> = ids.iter().map(|id| Some((*id, self.config.of(*id)?))).collect();
+        let response = match values {
+            Some(values) => write_get_config_rsp(STATUS_OK, &values),
+            None => {
+                let unknown = ids.iter().filter(|id| !config::is_known(**id));
+                let unknown: Vec<Setting> = unknown.map(|id| (*id, &[][..])).collect();
+                write_get_config_rsp(STATUS_INVALID_PARAM, &unknown)
+            }
+        };
+        Ok(vec![response.ok_or(STATUS_MESSAGE_SIZE_EXCEEDED)?])
     }
 
     /// Decision on CONN_CREATE: any content other than 01 00 is rejected. A
@@ -590,6 +634,12 @@ enum Command<'a> {
         reset_type: u8,
     },
     Init,
+    SetConfig {
+        settings: Vec<Setting<'a>>,
+    },
+    GetConfig {
+        ids: &'a [u8],
+    },
     ConnCreate {
         destination: u8,
         parameters: u8,
@@ -616,6 +666,12 @@ impl<'a> Command<'a> {
         let command = match (gid, oid, payload) {
             (CORE, CORE_RESET, [reset_type, ..]) => Command::Reset { reset_type: *reset_type },
             (CORE, CORE_INIT, [_, _, ..]) => Command::Init,
+            (CORE, CORE_SET_CONFIG, list) => {
+                Command::SetConfig { settings: read_settings(list).ok_or(STATUS_SYNTAX_ERROR)?.0 }
+            }
+            (CORE, CORE_GET_CONFIG, list) => {
+                Command::GetConfig { ids: read_ids(list).ok_or(STATUS_SYNTAX_ERROR)? }
+            }
             (CORE, CORE_CONN_CREATE, [destination, parameters, ..]) => {
                 Command::ConnCreate { destination: *destination, parameters: *parameters }
             }

@@ -211,7 +211,7 @@ impl Host {
 
     fn heed_response(&mut self, response: Response, command: Unanswered) {
         match response {
-            Response::Refused | Response::RfDone => {}
+            Response::Refused | Response::Config | Response::RfDone => {}
             Response::Reset => self.forget_controller(),
             Response::Init { control_payload } => self.control_size = control_payload,
             Response::Created { conn, terms } => self.open(conn, terms),

@@ -5,14 +5,17 @@
 //! known, so the host reads exactly that and anything else has no effect. The
 //! readers below answer None for such contents.
 
+use crate::config;
 use crate::connection::{is_dynamic, place_of, CONN_IDS};
-use crate::packet::{self, MessageType};
+use crate::packet::{self, MessageType, MOST_CONTROL_MESSAGE};
 use crate::profile::{Terms, LEAST_CONTROL_PAYLOAD, MOST_CREDITS};
 
 // GIDs and OIDs (003, Table 139).
 pub const CORE: u8 = 0;
 pub const CORE_RESET: u8 = 0;
 pub const CORE_INIT: u8 = 1;
+pub const CORE_SET_CONFIG: u8 = 2;
+pub const CORE_GET_CONFIG: u8 = 3;
 pub const CORE_CONN_CREATE: u8 = 4;
 pub const CORE_CONN_CLOSE: u8 = 5;
 pub const CORE_CONN_CREDITS: u8 = 6;
@@ -28,8 +31,13 @@ pub const STATUS_OK: u8 = 0x00;
 pub const STATUS_REJECTED: u8 = 0x01;
 pub const STATUS_SYNTAX_ERROR: u8 = 0x05;
 pub const STATUS_SEMANTIC_ERROR: u8 = 0x06;
+pub const STATUS_INVALID_PARAM: u8 = 0x09;
+pub const STATUS_MESSAGE_SIZE_EXCEEDED: u8 = 0x0A;
 pub const DISCOVERY_ALREADY_STARTED: u8 = 0xA0;
 pub const DISCOVERY_TARGET_ACTIVATION_FAILED: u8 = 0xA1;
+
+/// The reset type that restores the configuration (003, Table 5); 0 keeps it.
+pub const RESET_CONFIGURATION: u8 = 1;
 
 // Deactivation types (003, Table 80) and reasons (Table 81).
 pub const DEACTIVATE_IDLE: u8 = 0;
@@ -66,10 +74,37 @@ pub fn is_discovery_id(id: u8) -> bool {
 /// Most technology parameter octets in found and activation.
 pub const MOST_PARAMETERS: usize = 32;
 
+// Lists of parameters (003, Tables 11 and 12).
+
+/// A parameter's ID and its value.
+pub type Setting<'a> = (u8, &'a [u8]);
+
+/// The parameters of a list, as many as its count says, and the octets past it; none if it is
+/// cut short.
+pub fn read_settings(octets: &[u8]) -> Option<(Vec<Setting<'_>>, &[u8])> {
+    let (count, mut rest) = octets.split_first()?;
+    let mut settings = Vec::new();
+    for _ in 0..*count {
+        let [id, length, behind @ ..] = rest else {
+            return None;
+        };
+        let (value, past) = behind.split_at_checked(usize::from(*length))?;
+        settings.push((*id, value));
+        rest = past;
+    }
+    Some((settings, rest))
+}
+
+/// The IDs of a list of IDs; none if it is cut short.
+pub fn read_ids(octets: &[u8]) -> Option<&[u8]> {
+    let (count, rest) = octets.split_first()?;
+    rest.get(..usize::from(*count))
+}
+
 // What the controller writes.
 
-/// A response of a status alone: every one that is not OK, and the OK ones that
-/// state nothing more.
+/// A response of a status alone: every one that is not OK, but for lists of invalid
+/// parameters, and the OK ones that state nothing more.
 pub fn write_status(gid: u8, oid: u8, status: u8) -> Vec<u8> {
     packet::write_control(MessageType::Response, gid, oid, &[status])
 }
@@ -86,6 +121,24 @@ fn init_rsp_payload(control_payload: u8) -> [u8; 16] {
 
 pub fn write_init_rsp(control_payload: u8) -> Vec<u8> {
     packet::write_control(MessageType::Response, CORE, CORE_INIT, &init_rsp_payload(control_payload))
+}
+
+/// The IDs of the parameters that were not set, in the order given.
+pub fn write_set_config_rsp(invalid: &[u8]) -> Vec<u8> {
+    let status = if invalid.is_empty() { STATUS_OK } else { STATUS_INVALID_PARAM };
+    let payload = [&[status, invalid.len() as u8], invalid].concat();
+    packet::write_control(MessageType::Response, CORE, CORE_SET_CONFIG, &payload)
+}
+
+/// Parameters with their values, or unknown ones without; none if that passes 255 octets.
+pub fn write_get_config_rsp(status: u8, settings: &[Setting]) -> Option<Vec<u8>> {
+    let mut payload = vec![status, settings.len() as u8];
+    for (id, value) in settings {
+        payload.extend([*id, value.len() as u8]);
+        payload.extend_from_slice(value);
+    }
+    let fits = payload.len() <= MOST_CONTROL_MESSAGE;
+    fits.then(|| packet::write_control(MessageType::Response, CORE, CORE_GET_CONFIG, &payload))
 }
 
 pub fn write_create_rsp(terms: Terms, conn: u8) -> Vec<u8> {
@@ -155,6 +208,8 @@ pub enum Response {
         terms: Terms,
     },
     Closed,
+    /// A list that answers a set or a get, OK or not: the host keeps no configuration.
+    Config,
     /// OK to an RF command: the host keeps no RF state.
     RfDone,
 }
@@ -168,6 +223,8 @@ pub fn read_response(gid: u8, oid: u8, payload: &[u8]) -> Option<Response> {
     match (gid, oid, payload) {
         (CORE, CORE_RESET, [STATUS_OK]) => Some(Response::Reset),
         (CORE, CORE_INIT, payload) => read_init_rsp(payload),
+        (CORE, CORE_SET_CONFIG, payload) => is_written_set(payload).then_some(Response::Config),
+        (CORE, CORE_GET_CONFIG, payload) => is_written_get(payload).then_some(Response::Config),
         (CORE, CORE_CONN_CREATE, payload) => read_create_rsp(payload),
         (CORE, CORE_CONN_CLOSE, [STATUS_OK]) => Some(Response::Closed),
         (RF, RF_DISCOVER | RF_DISCOVER_SELECT | RF_DEACTIVATE, [STATUS_OK]) => Some(Response::RfDone),
@@ -179,6 +236,35 @@ fn read_init_rsp(payload: &[u8]) -> Option<Response> {
     let control_payload = *payload.get(8)?;
     let written = control_payload >= LEAST_CONTROL_PAYLOAD && payload == init_rsp_payload(control_payload);
     written.then_some(Response::Init { control_payload })
+}
+
+/// As many IDs as a set can have parameters in 255 octets, each two octets at least. What is
+/// repeated in a response is not compared (decision on configuration).
+const MOST_SETTINGS: u8 = 127;
+
+fn is_written_set(payload: &[u8]) -> bool {
+    match payload {
+        [STATUS_OK, 0] => true,
+        [STATUS_INVALID_PARAM, count @ 1..=MOST_SETTINGS, ids @ ..] => ids.len() == usize::from(*count),
+        _ => false,
+    }
+}
+
+/// Known parameters, each with a value that it can have, or unknown ones without.
+fn is_written_get(payload: &[u8]) -> bool {
+    let Some((status, list)) = payload.split_first() else {
+        return false;
+    };
+    let Some((settings, [])) = read_settings(list) else {
+        return false;
+    };
+    let has_value = |(id, value): &Setting| config::parameter(*id).is_some_and(|known| known.accepts(value));
+    let is_unknown = |(id, value): &Setting| !config::is_known(*id) && value.is_empty();
+    match *status {
+        STATUS_OK => settings.iter().all(has_value),
+        STATUS_INVALID_PARAM => !settings.is_empty() && settings.iter().all(is_unknown),
+        _ => false,
+    }
 }
 
 /// Four octets and no other number.
@@ -269,6 +355,16 @@ mod tests {
             assert_eq!(read_response(0, 4, &written), Some(Response::Created { conn, terms: TERMS }));
         }
         assert_eq!(read_response(0, 5, &[0]), Some(Response::Closed));
+        for invalid in [&[][..], &[0x12], &[0x08, 0xFF, 0x08], &[0x12; 127]] {
+            let written = payload(write_set_config_rsp(invalid));
+            assert_eq!(read_response(0, 2, &written), Some(Response::Config));
+        }
+        let values: [Setting; 4] = [(0x08, &[1]), (0x20, &[]), (0x20, &[9; 15]), (0x68, &[0xFE])];
+        let unknown: [Setting; 2] = [(0x12, &[]), (0x12, &[])];
+        for (status, settings) in [(0, &values[..]), (0, &[]), (9, &unknown)] {
+            let written = payload(write_get_config_rsp(status, settings).unwrap());
+            assert_eq!(read_response(0, 3, &written), Some(Response::Config));
+        }
         for oid in [3, 4, 6] {
             assert_eq!(read_response(1, oid, &[0]), Some(Response::RfDone));
         }
@@ -276,12 +372,84 @@ mod tests {
 
     #[test]
     fn a_status_other_than_ok_is_written_alone() {
-        for (gid, oid) in [(0, 0), (0, 1), (0, 4), (0, 5), (1, 3), (1, 4), (1, 6), (0, 0x3F), (9, 9)] {
+        let known = [(0, 0), (0, 1), (0, 2), (0, 3), (0, 4), (0, 5), (1, 3), (1, 4), (1, 6)];
+        for (gid, oid) in known.into_iter().chain([(0, 0x3F), (9, 9)]) {
             assert_eq!(read_response(gid, oid, &[5]), Some(Response::Refused));
             assert_eq!(read_response(gid, oid, &[5, 0]), None);
             assert_eq!(read_response(gid, oid, &[]), None);
         }
         assert_eq!(read_response(0, 0x3F, &[0]), None);
+    }
+
+    #[test]
+    fn lists_are_as_long_as_they_say() {
+        let two: Vec<Setting> = vec![(0x08, &[1]), (0x20, &[])];
+        let octets = [2, 0x08, 1, 1, 0x20, 0, 7, 7];
+        assert_eq!(read_settings(&octets), Some((two, &octets[6..])));
+        assert_eq!(read_settings(&[0, 9]), Some((vec![], &[9][..])));
+        assert_eq!(read_ids(&[2, 8, 9, 7]), Some(&[8, 9][..]));
+        assert_eq!(read_ids(&[0]), Some(&[][..]));
+        for length in 0..6 {
+            assert_eq!(read_settings(&octets[..length]), None, "{length}");
+        }
+        for cut in [&[][..], &[1], &[3, 8, 9]] {
+            assert_eq!(read_ids(cut), None);
+        }
+    }
+
+    #[test]
+    fn a_set_response_is_read_at_its_exact_layout() {
+        let many = |count: u8, ids: usize| [vec![9, count], vec![0x12; ids]].concat();
+        assert_eq!(read_response(0, 2, &many(127, 127)), Some(Response::Config));
+        for never in [many(128, 128), many(253, 253), many(127, 126), many(2, 3), many(0, 0), many(0, 1)] {
+            assert_eq!(read_response(0, 2, &never), None, "{never:02X?}");
+        }
+        for never in [&[][..], &[0], &[0, 1, 8], &[0, 0, 0], &[0, 1], &[5, 0], &[0x0A, 1, 8], &[9, 1, 8, 0]] {
+            assert_eq!(read_response(0, 2, never), None, "{never:02X?}");
+        }
+    }
+
+    #[test]
+    fn a_get_response_is_read_at_its_exact_layout() {
+        let many = |status: u8, entry: &[u8], count: usize| {
+            [vec![status, count as u8], entry.repeat(count)].concat()
+        };
+        for written in [many(0, &[8, 1, 1], 84), many(9, &[0x12, 0], 126), many(0, &[0x20, 0], 126)] {
+            assert_eq!(read_response(0, 3, &written), Some(Response::Config));
+            assert_eq!(read_response(0, 3, &written[..written.len() - 1]), None);
+            assert_eq!(read_response(0, 3, &[&written[..], &[0]].concat()), None);
+        }
+        for never in [
+            &[0][..],
+            &[9, 0],
+            &[9, 1, 0x08, 0],
+            &[9, 1, 0x12, 1, 0],
+            &[9, 2, 0x12, 0, 0x20, 0],
+            &[0, 1, 0x12, 0],
+            &[0, 1, 0x08, 0],
+            &[0, 1, 0x08, 1, 2],
+            &[0, 1, 0x08, 2, 0, 0],
+            &[0, 1, 0x18, 1, 0],
+            &[0, 1, 0x68, 1, 0x07],
+            &[0, 2, 0x08, 1, 0],
+            &[0, 0, 0x08, 1, 0],
+            &[0, 1, 0x08, 1, 0, 0],
+            &[5, 1, 0x08, 1, 0],
+            &[0x0A, 1, 0x08, 1, 0],
+        ] {
+            assert_eq!(read_response(0, 3, never), None, "{never:02X?}");
+        }
+        let long = |length: u8| [vec![0, 1, 0x20, length], vec![7; length.into()]].concat();
+        assert_eq!(read_response(0, 3, &long(15)), Some(Response::Config));
+        assert_eq!(read_response(0, 3, &long(16)), None);
+    }
+
+    #[test]
+    fn a_get_response_over_255_octets_is_none() {
+        for (setting, most) in [((8, &[1][..]), 84), ((0x12, &[]), 126), ((0x20, &[7; 15]), 14)] {
+            assert!(write_get_config_rsp(0, &vec![setting; most]).is_some());
+            assert_eq!(write_get_config_rsp(0, &vec![setting; most + 1]), None);
+        }
     }
 
     #[test]

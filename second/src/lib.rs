@@ -6,16 +6,17 @@
 //! proved one. It keeps packets as vectors and wires as queues; what concerns
 //! octet areas (refusals 1 and 2, the record) does not arise here.
 //!
-//! From the bottom up: `packet` (header, segments, reassembly) and `layout`
-//! (control messages) know octets; `profile` and `connection` have the terms and
-//! IDs of connections, `air` the argument of the call air; `controller` and
-//! `host` are the two ends; `counts` has what report counts on the wires; `call`
-//! and `bench` join the ends by the twelve calls, and have read, which needs neither;
-//! `state` says what is going on in octets, `sheet` is the text front end. `observer` holds demand 3's account and that of
-//! messages in hand, which see the twelve calls and their outcomes alone, `player` deals
-//! random lists of calls, `trial` plays them, checks each call and counts what was met,
-//! with `trial::grants` for credits past a grant, and `bad_line` makes the lines of a
-//! sheet that are no calls.
+//! From the bottom up: `packet` (header, segments, reassembly) and `layout` (control
+//! messages) know octets; `profile` and `connection` have the terms and IDs of connections,
+//! `config` the parameters and their values, `air` the argument of the call air; `controller`
+//! and `host` are the two ends; `counts` has what report counts on the wires; `call` and
+//! `bench` join the ends by the twelve calls, and have read, which needs neither; `state`
+//! says what is going on in octets, `sheet` is the text front end. `observer` holds demand
+//! 3's account, that of messages in hand and that of values set, which see the twelve calls
+//! and their outcomes alone, `player` deals random lists of calls, `trial` plays them, checks
+//! each call and counts what was met, with `trial::grants` for credits past a grant and
+//! `trial::configs` for sets and gets, and `bad_line` makes the lines of a sheet that are no
+//! calls.
 //!
 //! What a bench holds is public, so that a test can load one in any state.
 
@@ -23,6 +24,7 @@ pub mod air;
 pub mod bad_line;
 pub mod bench;
 pub mod call;
+pub mod config;
 pub mod connection;
 pub mod controller;
 pub mod counts;

@@ -9,16 +9,20 @@
 //! that the profile of the last fresh has for its connection.
 //!
 //! It also numbers the calls, and knows from sends and pushes what the host has in
-//! hand: what a close or reset response discards was sent before its command.
+//! hand: what a close or reset response discards was sent before its command. It keeps a
+//! diary of the values that sets were accepted with: an OK response to a get shows those.
+//! No call that moves a packet of a set or a get changes one of the numbers of a report.
 //!
 //! Every packet that it sees put has reserved bits 0, so no call shows one at 1. Read is
 //! none of its calls: it is not to see one.
 
+mod diary;
 mod hand;
 
 use std::collections::VecDeque;
 
 use crate::call::{Call, Outcome, REFUSALS};
+use diary::Diary;
 use hand::Hand;
 
 /// A call and what came of it.
@@ -153,13 +157,21 @@ struct Account {
     host: HostSide,
 }
 
-#[derive(Clone, Copy, Debug)]
+#[derive(Clone, Debug)]
 struct Command {
     /// Its number among the calls.
     number: u64,
+    gid: u8,
+    oid: u8,
+    payload: Vec<u8>,
+}
+
+impl Command {
     /// Low four bits of the first payload octet: what a close names, for its response
     /// does not.
-    named: Option<u8>,
+    fn named(&self) -> Option<u8> {
+        self.payload.first().map(|octet| octet & 15)
+    }
 }
 
 #[derive(Clone, Debug, Default)]
@@ -174,6 +186,7 @@ pub struct Observer {
     up_wire: VecDeque<Vec<u8>>,
     /// The command last taken.
     command: Option<Command>,
+    diary: Diary,
     accounts: [Account; 5],
 }
 
@@ -188,9 +201,13 @@ impl Observer {
         if !event.outcome.taken() {
             return nothing_happened(&event.outcome);
         }
+        let numbers = self.moves_config(&event.call).then(|| self.reports());
         let expected = self.expect(&event.call, &event.outcome)?;
         self.put_packets(&event.outcome)?;
         self.hand_out(&event.call, &event.outcome, &expected)?;
+        if numbers.is_some_and(|numbers| numbers != self.reports()) {
+            return Err("a set or a get changes what report says".to_string());
+        }
         if event.outcome.drop != expected.drop {
             return Err(format!("drop flag {} where {} was due", event.outcome.drop, expected.drop));
         }
@@ -217,9 +234,9 @@ impl Observer {
         match call {
             Call::Fresh(profile) => *self = self.begun(profile.clone()),
             Call::Power => *self = self.begun(self.profile.clone()),
-            Call::Command { payload, .. } => {
-                let named = payload.first().map(|octet| octet & 15);
-                self.command = Some(Command { number: self.calls, named });
+            Call::Command { gid, oid, payload } => {
+                let (number, payload) = (self.calls, payload.clone());
+                self.command = Some(Command { number, gid: *gid, oid: *oid, payload });
             }
             Call::Send { conn, message } => self.host_sends(*conn, message)?,
             Call::Push(conn) => self.host_pushes(*conn, outcome)?,
@@ -293,7 +310,7 @@ impl Observer {
     }
 
     fn named(&self) -> Result<u8, String> {
-        let named = self.command.and_then(|command| command.named);
+        let named = self.command.as_ref().and_then(Command::named);
         named.ok_or_else(|| "a close that names no connection".to_string())
     }
 
@@ -328,6 +345,7 @@ impl Observer {
         }
         for octets in &outcome.up {
             self.controller_puts(octets)?;
+            self.note_response(octets)?;
             self.up_wire.push_back(octets.clone());
         }
         if self.down_wire.len() > WIRE_PACKETS || self.up_wire.len() > WIRE_PACKETS {
@@ -438,6 +456,11 @@ impl Observer {
         // A number outside an octet shows as a mismatch of the sum or of the report.
         let numbers = self.five_numbers(conn, account).map(|number| number as u8);
         Outcome { message: Some(numbers.to_vec()), ..Outcome::default() }
+    }
+
+    /// What report says of each connection.
+    fn reports(&self) -> [Outcome; KNOWN.len()] {
+        KNOWN.map(|conn| self.expected_report(conn))
     }
 
     fn five_numbers(&self, conn: u8, account: &Account) -> [i64; 5] {

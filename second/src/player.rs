@@ -2,6 +2,7 @@
 //! the bench to choose a promising call; what is checked does not depend on it.
 
 mod arguments;
+mod configs;
 mod plans;
 mod reads;
 
@@ -89,6 +90,8 @@ pub struct Player {
     long_profiles: bool,
     /// Whether read is dealt beside the twelve calls.
     reads: bool,
+    /// Whether sets and gets are dealt beside the other commands.
+    configs: bool,
     goal: Option<Goal>,
     plan: VecDeque<Step>,
     /// How often, of a hundred, the plan is followed and not a random call made.
@@ -99,7 +102,8 @@ impl Player {
     pub fn new(seed: u64, lengths: Lengths) -> Player {
         let random = Random::new(seed);
         let plan = VecDeque::new();
-        Player { random, lengths, long_profiles: true, reads: true, goal: None, plan, follow: 90 }
+        let (long_profiles, reads, configs) = (true, true, true);
+        Player { random, lengths, long_profiles, reads, configs, goal: None, plan, follow: 90 }
     }
 
     /// Deals profiles of five octets alone, as the first papers had.
@@ -110,6 +114,11 @@ impl Player {
     /// Deals the twelve calls alone.
     pub fn without_reads(self) -> Player {
         Player { reads: false, ..self }
+    }
+
+    /// Deals no sets and gets, but for those that any GID and OID may come to.
+    pub fn without_configs(self) -> Player {
+        Player { configs: false, ..self }
     }
 
     /// Begins a list: a profile for fresh and a temper for what follows.

@@ -1,7 +1,8 @@
 //! A trial: a list of calls played on a bench with the observer watching, and the
 //! tally of what has been met. `grants` asks what no call asks: whether credits stay
-//! within the grant.
+//! within the grant. `configs` counts what sets and gets came to.
 
+pub mod configs;
 pub mod grants;
 
 use crate::bench::Bench;
@@ -12,6 +13,7 @@ use crate::observer::{Event, Observer};
 use crate::packet::{self, MessageType, Reading, MOST_CARRIED};
 use crate::profile::{LONG_PROFILE, SHORT_PROFILE};
 use crate::sheet;
+use configs::Configs;
 use grants::{Source, Sum};
 
 const CALLS: usize = Call::NAMES.len();
@@ -57,6 +59,8 @@ pub struct Tally {
     pub profiles: [u64; PROFILES.len()],
     /// Loopbacks that opened while another one was open with another grant, from 2 on.
     pub unlike: [u64; LOOPBACKS],
+    /// What sets and gets came to.
+    pub configs: Configs,
     pub messages: u64,
     pub drops: u64,
     /// Data packets put up, by the credits that each carries.
@@ -107,8 +111,14 @@ impl Tally {
         }
     }
 
+    /// What a command came to, on the bench after it: sets and gets, and openings.
+    pub fn count_command(&mut self, call: &Call, outcome: &Outcome, bench: &Bench) {
+        self.configs.count(call, outcome, bench);
+        self.count_opening(call, outcome, bench);
+    }
+
     /// The loopback that a command's last packet opened, if it did, on the bench after it.
-    pub fn count_opening(&mut self, call: &Call, outcome: &Outcome, bench: &Bench) {
+    fn count_opening(&mut self, call: &Call, outcome: &Outcome, bench: &Bench) {
         let created = outcome.up.first().and_then(|octets| created(octets));
         if let (Call::Down, Some((conn, grant))) = (call, created) {
             let loopbacks = FIRST_DYNAMIC..=LAST_DYNAMIC;
@@ -159,8 +169,8 @@ impl Tally {
     /// `call:number`; then numbers of credits that no data packet carried, as
     /// `carried:number`, what never added up to a whole grant, as `whole:source`, numbers
     /// of octets that no profile had, as `profile:number`, loopbacks that never opened
-    /// beside one with another grant, as `unlike:conn`, and what read never met, as
-    /// `reads:name`.
+    /// beside one with another grant, as `unlike:conn`, what read never met, as
+    /// `reads:name`, and what sets and gets never came to.
     pub fn gaps(&self) -> Vec<String> {
         let mut gaps = Vec::new();
         for (index, name) in Call::NAMES.iter().enumerate() {
@@ -183,6 +193,7 @@ impl Tally {
         gaps.extend(unmet.map(|(conn, _)| format!("unlike:{conn}")));
         let unmet = READS.iter().zip(self.reads).filter(|(_, reads)| *reads == 0);
         gaps.extend(unmet.map(|(name, _)| format!("reads:{name}")));
+        gaps.extend(self.configs.gaps());
         gaps
     }
 
@@ -210,6 +221,7 @@ impl Tally {
         for (name, reads) in READS.iter().zip(self.reads) {
             fields += &format!(" reads-{name}={reads}");
         }
+        fields += &self.configs.fields();
         fields += &format!(" discards={} rests={}", self.discards, self.rests);
         fields + &format!(" never={} gaps={}", list_or_none(&never), list_or_none(&self.gaps()))
     }
@@ -259,7 +271,7 @@ impl Trial {
         let sums = if outcome.taken() { grants::sums(&before, &call) } else { Vec::new() };
         tally.count(&call, &outcome);
         tally.count_sums(&sums);
-        tally.count_opening(&call, &outcome, &self.bench);
+        tally.count_command(&call, &outcome, &self.bench);
         self.events.push(Event { call, outcome });
         let event = &self.events[self.events.len() - 1];
         check_refusal(event, &before, &self.bench)?;

@@ -1,6 +1,6 @@
 //! The points that were decided where document 01 is open, at the controller and
 //! in the air. Points on octet areas and the C interface do not arise here; what
-//! the host hears, refusals and the sheet have their own files.
+//! the host hears, configuration, refusals and the sheet have their own files.
 
 mod common;
 use common::*;
@@ -155,8 +155,8 @@ fn discover_values() {
 }
 
 #[test]
-fn commands_that_document_01_leaves_aside_are_unknown() {
-    let known = [(0, 0), (0, 1), (0, 4), (0, 5), (1, 3), (1, 4), (1, 6)];
+fn commands_that_the_documents_leave_aside_are_unknown() {
+    let known = [(0, 0), (0, 1), (0, 2), (0, 3), (0, 4), (0, 5), (1, 3), (1, 4), (1, 6)];
     for bench in [fresh(PROFILE), ready(PROFILE)] {
         for gid in 0..=15 {
             for oid in 0..=63 {
@@ -298,13 +298,13 @@ fn before_init_unknown_and_short_are_syntax_errors_and_the_rest_semantic() {
     let mut reset = fresh(PROFILE);
     command(&mut reset, 0, 0, &[0]);
     for bench in [fresh(PROFILE), reset] {
-        for (gid, oid, enough) in
-            [(0, 4, &[9, 9][..]), (0, 5, &[9]), (1, 3, &[1, 9, 9]), (1, 4, &[9, 9, 9]), (1, 6, &[9])]
-        {
+        let of_core = [(0, 2, &[1, 9, 1, 9][..]), (0, 3, &[1, 9]), (0, 4, &[9, 9]), (0, 5, &[9])];
+        let of_rf = [(1, 3, &[1, 9, 9][..]), (1, 4, &[9, 9, 9]), (1, 6, &[9])];
+        for (gid, oid, enough) in of_core.into_iter().chain(of_rf) {
             assert_eq!(status_of(&bench, gid, oid, enough), 6);
             assert_eq!(status_of(&bench, gid, oid, &enough[..enough.len() - 1]), 5);
         }
-        assert_eq!(status_of(&bench, 0, 2, &[]), 5);
+        assert_eq!(status_of(&bench, 0, 8, &[]), 5);
     }
 }
 
@@ -318,6 +318,10 @@ fn state_is_judged_before_values_and_length_before_state() {
         let selecting = name.starts_with("W4_HOST_SELECT");
         assert_eq!(status_of(&bench, 1, 4, &[99, 99, 99]), if selecting { 1 } else { 6 }, "{name}");
         assert_eq!(status_of(&bench, 1, 4, &[1, 4]), 5, "{name}");
+        assert_eq!(answer_of(&bench, 0, 2, &[1, 8, 1, 9])[0][3], if idle { 9 } else { 6 }, "{name}");
+        assert_eq!(status_of(&bench, 0, 2, &[1, 8, 1]), 5, "{name}");
+        assert_eq!(answer_of(&bench, 0, 3, &[1, 0x12])[0][3], 9, "{name}");
+        assert_eq!(status_of(&bench, 0, 3, &[1]), 5, "{name}");
     }
 }
 

@@ -37,6 +37,10 @@ fn random_lists_keep_the_account_and_meet_every_call_and_refusal() {
     assert!(tally.discards > 0);
     // Most credits come back inside data packets, and yet some in notices.
     assert!(tally.carried() > tally.noticed && tally.noticed > 0);
+    // About a third of the commands are sets and gets.
+    let commands = tally.taken[asked(0, 0, &[]).index()];
+    let share = tally.configs.share(commands);
+    assert!((28..=38).contains(&share), "{share} of a hundred");
 }
 
 /// Where the send would be taken, 6 and 7, each before the close is answered and after.
@@ -83,9 +87,11 @@ fn random_lists_meet_every_status_and_every_rf_state() {
     });
     assert_eq!(states.len(), 8);
     assert_eq!(notifications, BTreeSet::from([(0, 0), (0, 6), (0, 7), (1, 3), (1, 5), (1, 6)]));
-    let expected: [(u8, u8, &[u8]); 7] = [
+    let expected: [(u8, u8, &[u8]); 9] = [
         (0, 0, &[0, 5]),
         (0, 1, &[0, 5, 6]),
+        (0, 2, &[0, 5, 6, 9]),
+        (0, 3, &[0, 5, 6, 9, 0x0A]),
         (0, 4, &[0, 1, 5, 6]),
         (0, 5, &[0, 1, 5, 6]),
         (1, 3, &[0, 1, 5, 6, 0xA0]),

@@ -44,6 +44,19 @@ fn a_response_never_written_leaves_its_command_unanswered() {
         (0, 1, "40 01 01 00"),
         (0, 1, "40 01 10 00 00 00 00 00 04 00 00 1F 00 00 00 00 01 01 00"),
         (0, 1, "40 01 10 00 00 00 00 00 04 00 00 20 00 00 40 00 01 01 00"),
+        (0, 2, "40 02 01 00"),
+        (0, 2, "40 02 03 00 01 08"),
+        (0, 2, "40 02 02 09 00"),
+        (0, 2, "40 02 03 09 02 08"),
+        (0, 2, "40 02 04 09 01 08 00"),
+        (0, 3, "40 03 01 00"),
+        (0, 3, "40 03 05 00 01 08 01 02"),
+        (0, 3, "40 03 04 00 01 08 00"),
+        (0, 3, "40 03 04 00 01 12 00"),
+        (0, 3, "40 03 04 09 01 08 00"),
+        (0, 3, "40 03 05 09 01 12 01 00"),
+        (0, 3, "40 03 02 09 00"),
+        (0, 3, "40 03 05 0A 01 08 01 00"),
         (0, 4, "40 04 01 00"),
         (0, 4, "40 04 04 00 00 02 02"),
         (0, 4, "40 04 04 00 04 09 02"),
@@ -65,8 +78,9 @@ fn a_response_never_written_leaves_its_command_unanswered() {
 
 #[test]
 fn a_status_other_than_ok_alone_answers_and_does_nothing_else() {
-    for status in [1, 5, 6, 0xA0] {
-        for (gid, oid) in [(0, 0), (0, 1), (0, 4), (0, 5), (1, 3), (1, 4), (1, 6), (0, 0x3F)] {
+    for status in [1, 5, 6, 9, 0x0A, 0xA0] {
+        let known = [(0, 0), (0, 1), (0, 2), (0, 3), (0, 4), (0, 5), (1, 3), (1, 4), (1, 6)];
+        for (gid, oid) in known.into_iter().chain([(0, 0x3F)]) {
             let mut bench = active(PROFILE, 0);
             let before = bench.host().clone();
             taken(bench.command(gid, oid, &[0]));
@@ -74,6 +88,33 @@ fn a_status_other_than_ok_alone_answers_and_does_nothing_else() {
             assert!(!taken(bench.up()).drop);
             assert_eq!(bench.host(), &before);
         }
+    }
+}
+
+/// Whatever the command asked: lists of other IDs, and of other values that there can be.
+#[test]
+fn a_list_of_parameters_answers_and_does_nothing_else() {
+    for written in [
+        "40 02 02 00 00",
+        "40 02 04 09 02 08 08",
+        "40 02 03 09 01 12",
+        "40 03 02 00 00",
+        "40 03 08 00 02 08 01 01 08 01 00",
+        "40 03 07 00 02 20 00 68 01 FE",
+        "40 03 06 09 02 12 00 12 00",
+        "50 03 02 00 01 | 40 03 03 08 01 01",
+    ] {
+        let mut bench = active(PROFILE, 0);
+        let before = bench.host().clone();
+        taken(bench.command(0, octets(&written[..5])[1], &[0]));
+        for packet in packets(written) {
+            bench.forge_up(&packet);
+            assert!(!taken(bench.up()).drop, "{written}");
+        }
+        assert_eq!(bench.host().unanswered, None, "{written}");
+        assert_eq!(bench.host().connections, before.connections);
+        assert_eq!(bench.host().control_size, before.control_size);
+        takes(&bench, |bench| bench.command(0, 3, &[0]));
     }
 }
 

@@ -192,7 +192,7 @@ fn send_waits_for_a_response_behind_other_packets() {
 
 #[test]
 fn send_waits_for_no_other_command() {
-    for (gid, oid) in [(0, 1), (0, 2), (0, 4), (1, 0), (1, 3), (1, 5), (1, 6), (15, 63)] {
+    for (gid, oid) in [(0, 1), (0, 2), (0, 3), (0, 4), (0, 8), (1, 0), (1, 3), (1, 5), (1, 6), (15, 63)] {
         let mut bench = one_in_hand();
         taken(bench.command(gid, oid, &[1, 0]));
         assert_eq!(sends(&bench), [7, 0, 6], "GID {gid} OID {oid}");

@@ -60,14 +60,30 @@ static uint64_t play_read(void) {
     return word;
 }
 
+/* A list of parameters, mostly of known ones with a value of one octet, of which there are
+ * as many as it says or not. */
+static void make_list(uint8_t *list, size_t len, int is_set) {
+    static const uint8_t ids[] = {0x08, 0x09, 0x10, 0x11, 0x12, 0x13, 0x14, 0x18,
+                                  0x19, 0x1A, 0x20, 0x21, 0x28, 0x2A, 0x2F, 0x68};
+    if (len > 0) list[0] = (uint8_t)below(4);
+    for (size_t i = 1; i < len; i++) {
+        if (!is_set || i % 3 == 1)
+            list[i] = ids[below(sizeof ids)];
+        else
+            list[i] = (uint8_t)(i % 3 == 2 ? below(8) != 0 : below(3));
+    }
+}
+
 /* One of the fifteen exports. */
 static uint64_t play(unsigned which) {
-    static const uint8_t known[][2] = {{0, 0}, {0, 1}, {0, 4}, {0, 5}, {1, 3}, {1, 4}, {1, 6}};
-    const uint8_t *command = known[below(7)];
+    static const uint8_t known[][2] = {{0, 0}, {0, 1}, {0, 2}, {0, 3}, {0, 4}, {0, 5}, {1, 3}, {1, 4}, {1, 6}};
+    const uint8_t *command = known[below(sizeof known / sizeof *known)];
     size_t n = NCI_AREA_SIZE + PAST, m = NCI_BUFFER_SIZE, len = below(4) == 0 ? below(1030) : below(8);
     uint8_t conn = (uint8_t)below(7), wire = (uint8_t)below(3), back = (uint8_t)below(18), *argument = octets(len);
     uint64_t word;
     if (len > 0 && which == 8) argument[0] = (uint8_t)(1 + below(8));
+    if (which == 1 && command[0] == 0 && (command[1] == 2 || command[1] == 3) && below(8) != 0)
+        make_list(argument, len, command[1] == 2);
     switch (which) {
     case 0: word = nci_power(area, n, out, m); break;
     case 1: word = nci_command(area, n, out, m, command[0], command[1], argument, len); break;
@@ -113,18 +129,21 @@ static int step(unsigned which) {
     return 0;
 }
 
-/* An octet of the record or of the slots becomes another one, mostly a small one. */
+/* An octet of the record, of the values behind it or of the slots becomes another one, mostly a
+ * small one. */
 static void damage(void) {
-    size_t place = below(2) == 0 ? NCI_AREA_SIZE - 512 + below(160) : below(18576);
+    size_t place = below(2) == 0 ? NCI_AREA_SIZE - 512 + below(190) : below(18576);
     area[place] = below(3) == 0 ? (uint8_t)number() : (uint8_t)below(9);
 }
 
-/* A bench with two loopbacks, one of them with a message in hand and a packet stored, the
- * other with one credit, and connection 0 active with a message of the endpoint. */
+/* A bench with two parameters set, two loopbacks, one of them with a message in hand and a
+ * packet stored, the other with one credit, and connection 0 active with a message of the
+ * endpoint. */
 static void warm_up(void) {
     static const uint8_t profile[] = {0x20, 4, 8, 1, 1, 255, 8, 4, 8, 4, 8};
-    static const uint8_t commands[][6] = {
-        {0, 0, 1, 1}, {0, 1, 2, 0, 0}, {0, 4, 2, 1, 0}, {0, 4, 2, 1, 0}, {1, 3, 3, 1, 0, 1}};
+    static const uint8_t commands[][12] = {
+        {0, 0, 1, 1}, {0, 1, 2, 0, 0}, {0, 2, 9, 2, 0x08, 1, 1, 0x20, 3, 7, 8, 9},
+        {0, 4, 2, 1, 0}, {0, 4, 2, 1, 0}, {1, 3, 3, 1, 0, 1}};
     static const uint8_t event[] = {2, 1, 4, 0}, message[] = {8, 1, 2, 3, 4, 5, 6, 7, 8, 9};
     size_t n = NCI_AREA_SIZE, m = NCI_BUFFER_SIZE;
     nci_fresh(area, n, out, m, profile, sizeof profile);

@@ -182,6 +182,24 @@ static int read_alone(void) {
     return 0;
 }
 
+/* A set of which one parameter is invalid, and what a get then shows, in the order asked. A value
+ * that no set leaves is a damaged record. */
+static int configure(void) {
+    static const uint8_t set[] = {2, NCI_PF_BIT_RATE, 1, 3, NCI_PI_B_H_INFO, 2, 0xAA, 0xBB};
+    static const uint8_t invalid[] = {0x40, NCI_OID_SET_CONFIG, 3, NCI_STATUS_INVALID_PARAM, 1, NCI_PF_BIT_RATE};
+    static const uint8_t get[] = {2, NCI_PI_B_H_INFO, NCI_PF_BIT_RATE};
+    static const uint8_t shown[] = {0x40, NCI_OID_GET_CONFIG, 9, 0, 2, NCI_PI_B_H_INFO, 2, 0xAA, 0xBB, NCI_PF_BIT_RATE, 1, 1};
+    HOLDS(put(nci_command(BENCH, NCI_GID_CORE, NCI_OID_SET_CONFIG, set, sizeof set), 1, 0) && put(nci_down(BENCH), 0, 1));
+    HOLDS(is_packet(NCI_WIRE_UP, 0, invalid, sizeof invalid) && put(nci_up(BENCH), 0, 0));
+    HOLDS(put(nci_command(BENCH, NCI_GID_CORE, NCI_OID_GET_CONFIG, get, sizeof get), 1, 0) && put(nci_down(BENCH), 0, 1));
+    HOLDS(is_packet(NCI_WIRE_UP, 0, shown, sizeof shown) && put(nci_up(BENCH), 0, 0));
+    /* octet 6 of the values, which stand behind the record's 160 */
+    area[NCI_AREA_SIZE - 512 + 160 + 6] = 3;
+    HOLDS(nci_down(BENCH) == NCI_RECORD_DAMAGED);
+    area[NCI_AREA_SIZE - 512 + 160 + 6] = 1;
+    return 0;
+}
+
 /* Slices of no octets, too few octets, and what is refused for other reasons. */
 static int refuse(void) {
     static const uint8_t two[] = {2};
@@ -209,6 +227,6 @@ static int refuse(void) {
 
 int main(void) {
     memset(area, 0x5A, sizeof area);
-    return profiles() || side_by_side() || bring_up(five, sizeof five) || loop_back() || speak() || refuse() ||
+    return profiles() || side_by_side() || bring_up(five, sizeof five) || configure() || loop_back() || speak() || refuse() ||
            read_alone();
 }

@@ -54,6 +54,18 @@ static void move(void) {
     while (nci_word_answer(nci_reply(BENCH)) == NCI_TAKEN) count(nci_up(BENCH));
 }
 
+/* The longest list of a set, one that sets all that a value has room for, and the longest response to
+ * a get. */
+static void configure(void) {
+    ask(0, 2, 255, 127);
+    octets[1] = NCI_PI_B_H_INFO;
+    octets[2] = 15;
+    ask(0, 2, 18, 1);
+    memset(octets, NCI_PA_BAIL_OUT, 85);
+    ask(0, 3, 85, 84);
+    memset(octets, 0, 85);
+}
+
 static void play(void) {
     static const uint8_t unlike[] = {0x20, 1, 1, 255, 8, 100, 255, 4, 2, 3, 5}, profile[] = {0x20, 0x20, 8, 0x20, 8};
     static const uint8_t found[] = {1, 1, 4, 0, 2}, last[] = {1, 2, 4, 0, 0}, poll[] = {2, 2, 4, 0};
@@ -63,6 +75,7 @@ static void play(void) {
     memset(octets, 0, sizeof octets);
     ask(0, 0, 1, 1);
     ask(0, 1, 2, 0);
+    configure();
     ask(0, 4, 2, 1);
     ask(1, 3, 1, 0);
     count(nci_air(BENCH, found, sizeof found));

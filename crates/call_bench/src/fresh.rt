@@ -1,7 +1,8 @@
-// fresh: the whole area is zeroed, and the record of a cold bench is written with the profile given.
+// fresh: the whole area is zeroed, and the record of a cold bench is written with the profile given, and every parameter at its default.
 use area::map;
 use area::movers;
 use octets::choose;
+use record::parameters;
 use record::write;
 use state::cold::cold_ends;
 use state::kinds::Profile;
@@ -16,6 +17,8 @@ ghost use Rattle.octets.specs.Octets.{splice};
 ghost use Rattle.state.specs.Profile.{profileIn};
 ghost use Rattle.area.specs.Map.{areaSize};
 ghost use Rattle.area.specs.Movers.{zeros};
+ghost use Rattle.config.specs.Stored.{defaults};
+ghost use Rattle.record.specs.Layout.{configured};
 ghost use Rattle.record.specs.Claims.{saved};
 ghost use Rattle.record.specs.Plan.{coldRecord};
 ghost use Rattle.model.specs.Effects.{fresh};
@@ -49,11 +52,12 @@ pub fn cold(p: Profile) -> Record
 // A fresh that is taken.
 pub fn act(area: &mut [u8], m: &[u8]) -> u64
     requires { ⌜ areaSize ≤ length (now area) ⌝ }
-    ensures { λ w. ⌜ (w ≡ quietWord) × (now (area .exit) ≡ saved (splice (now (area .entry)) 0 (zeros areaSize)) (coldRecord (profileIn (now (m .entry))))) ⌝ }
+    ensures { λ w. ⌜ (w ≡ quietWord) × (now (area .exit) ≡ saved (configured (splice (now (area .entry)) 0 (zeros areaSize)) defaults) (coldRecord (profileIn (now (m .entry))))) ⌝ }
 {
     let p = profile::profile_in(m);
     let r = cold(p);
     movers::clear(area);
+    parameters::restore(area);
     write::encode(area, r);
     0
 }

@@ -2,18 +2,22 @@
 use area::map;
 use area::movers;
 use area::ring;
+use config::table::CONFIG_SIZE;
 use ends::command;
 use messages::layout::Note;
+use nfcc::effects;
 use octets::choose;
 use packets::Header;
 use packets::Reading;
 use packets::Way;
+use record::parameters;
 use record::write;
 use state::conn;
 use state::kinds::ControlRun;
 use state::kinds::Record;
 use state::kinds::Ring;
 use state::runs;
+use state::verdict::Verdict;
 ghost use mathlib.Core.Path.{_≡_};
 ghost use mathlib.Core.Bool.{_&&_};
 ghost use Prim.Native.Nat.{_+_, _≤_, _<_};
@@ -24,6 +28,8 @@ ghost use Rattle.state.specs.Conn.{placeOf, openAt};
 ghost use Rattle.area.specs.Map.{areaSize, slotSize, payloadSize, controlSize, wireSlots, storeSlots, places, upAt};
 ghost use Rattle.area.specs.Ring.{freeAt};
 ghost use Rattle.area.specs.Movers.{putsAll};
+ghost use Rattle.nfcc.specs.Controller.{configBy};
+ghost use Rattle.record.specs.Layout.{configOctets, configured};
 ghost use Rattle.record.specs.Fit.{FitRing};
 ghost use Rattle.views.specs.View.{view};
 ghost use Rattle.model.specs.calls.Down.{downRules};
@@ -203,6 +209,18 @@ fn put_answers(
     2
 }
 
+// The configuration after the verdict v on the command m, in place of the one before it. It goes through a local array, since it is
+// read and written.
+fn settle(area: &mut [u8], m: &[u8], v: Verdict)
+    requires { ⌜ areaSize ≤ length (now area) ⌝ }
+    ensures { λ _. ⌜ now (area .exit) ≡ configured (now (area .entry)) (configBy (configOctets (now (area .entry))) (now (m .entry)) v) ⌝ }
+{
+    let mut b = [0u8; CONFIG_SIZE];
+    octets::put(&mut b, 0, parameters::values_of(area));
+    effects::config_by(&mut b, m, v);
+    parameters::put_values(area, &b);
+}
+
 // A whole command of len octets, which stand in the area, is answered. It goes through a local array, since the answer goes
 // into the area.
 fn answer(area: &mut [u8], t: Record, h: Header, len: usize) -> u64
@@ -216,12 +234,22 @@ fn answer(area: &mut [u8], t: Record, h: Header, len: usize) -> u64
     let down = t.down;
     let up = t.up;
     movers::hand_out(area, map::ASKING_AT, len, &mut m);
-    let a = command::answer(ends, h.id, h.oid, &m[0..len], &mut rsp, &mut ntf);
+    let a = command::answer(
+        ends,
+        h.id,
+        h.oid,
+        parameters::values_of(area),
+        &m[0..len],
+        &mut rsp,
+        &mut ntf,
+    );
     let d = a.decision;
+    let v = d.verdict;
     let after = d.next;
     let response = a.response;
     let notice = a.notice;
     let n = put_answers(area, up, response, &rsp, notice, &ntf);
+    settle(area, &m[0..len], v);
     let next = Record {
         ends: after,
         down: down,

@@ -32,6 +32,7 @@ use Rattle.calls.specs.Demand.{Key, perform, pressed, AllOctal}
 use Rattle.calls.specs.Checked.{performChecked, pressedChecked, outcomes, StaysGood, SameAsChecked}
 use Rattle.calls.proofs.Rules.{orElse, first-append}
 use Rattle.calls.proofs.Called.{enters, called-own}
+use Rattle.calls.proofs.Refine.{refined-good}
 use Rattle.calls.proofs.Demand.{all-refine, short-buffer, Stands, press, starts-standing}
 
 -- ---- on any good record
@@ -78,8 +79,8 @@ stays-good k a v g e = go (ltb (length (k .out)) messageSize) refl
     go true t = subst (λ (x : Outcome). Good (x .area)) (short-buffer a (k .out) g (ltb-true (length (k .out)) messageSize t) (k .call)) g
     go false t =
         let room = ltb-false (length (k .out)) messageSize t in
-        all-refine (k .call) (putsOf a) a (k .out) v g room (record { down = refl; up = refl })
-        .good (step-within (k .call) (viewOf a) (not-past a (k .out) g room (k .call) e) (good-within a g))
+        refined-good (k .call) (putsOf a) a (pressed k a) g (all-refine (k .call) (putsOf a) a (k .out) v g room (record { down = refl; up = refl }))
+        (step-within (k .call) (viewOf a) (not-past a (k .out) g room (k .call) e) (good-within a g))
 
 -- ---- from a fresh bench
 

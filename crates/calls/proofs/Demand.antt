@@ -46,6 +46,7 @@ use Rattle.calls.specs.calls.Up.{upCall}
 use Rattle.calls.specs.calls.Report.{reported, reportCall}
 use Rattle.calls.specs.Demand.{Key, perform, pressed, slice, AllOctal, areaAfter, putsIn, seenIn, EveryRun, OctetClaim, OctetDemand}
 use Rattle.calls.proofs.Called.{enters, called-unentered, called-own}
+use Rattle.calls.proofs.Refine.{refined-good}
 use Rattle.calls.proofs.FreshPower.{fresh-refused, fresh-refines, fresh-good, fresh-view, fresh-along, power-refines}
 use Rattle.calls.proofs.Command.{command-refines}
 use Rattle.calls.proofs.Send.{send-refines}
@@ -122,7 +123,7 @@ module _ (P : Event → State → Type 0) (k : Key) (v : Octal (slice (k .call))
       by : Refines (k .call) p a (pressed k a) → Presses P (k .call) p (pressed k a)
       by r =
           record {
-            good = r .good within;
+            good = refined-good (k .call) p a (pressed k a) g r within;
             along = r .along;
             holds =
                 subst (P (seenBy (k .call) p (pressed k a))) (sym (r .next))

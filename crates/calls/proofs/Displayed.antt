@@ -18,15 +18,15 @@ use Rattle.model.specs.State.{State}
 use Rattle.model.specs.Effects.{Call, Result, Effect, fresh, power, command, send, push, down, consume, credit, air, reply, up, report, taken, refused}
 use Rattle.model.specs.Refusals.{first}
 use Rattle.model.specs.Bench.{rules, judged, step}
-use Rattle.model.specs.Grants.{WithinGrants}
 use Rattle.model.specs.Observer.{Event, Account}
 use Rattle.calls.specs.Word.{answerIn, downIn, upIn}
 use Rattle.calls.specs.Outcome.{Outcome, outcome}
 use Rattle.calls.specs.Seen.{Puts, noPuts, starts, isTaken, restarts, seenBy}
-use Rattle.calls.specs.Refines.{Along, Refines}
+use Rattle.calls.specs.Refines.{Good, Along, Refines}
 use Rattle.calls.specs.Packet.{lastPackets}
 use Rattle.calls.specs.Demand.{Key, pressed, slice}
 use Rattle.calls.specs.Reached.{Displayed, AlwaysDisplayed}
+use Rattle.calls.proofs.Refine.{refined-good}
 use Rattle.calls.proofs.Packet.{down-shown, up-shown}
 use Rattle.calls.proofs.Demand.{all-refine, short-buffer, Stands, stands-within, run-stands}
 
@@ -77,7 +77,7 @@ Shows outs c p x =
     (lastPackets (x .area) outs 0 (downIn (x .word)) ≡ seenBy c p x .toDown) × (lastPackets (x .area) outs 1 (upIn (x .word)) ≡ seenBy c p x .toUp)
 
 module _ (outs : ℕ → Octets) where
-  module _ (c : Call) (p : Puts) (a : Octets) (x : Outcome) (r : Refines c p a x) (within : WithinGrants (step c (viewOf a) .effect .next)) (room : (i : ℕ) → messageSize ≤ length (outs i)) where
+  module _ (c : Call) (p : Puts) (a : Octets) (x : Outcome) (r : Refines c p a x) (good : Good (x .area)) (room : (i : ℕ) → messageSize ≤ length (outs i)) where
     by-start : (b : Bool) → restarts c (answerIn (x .word)) ≡ b
         → Along (pick b noPuts (record { down = p .down + downIn (x .word); up = p .up + upIn (x .word) })) (x .area) → Shows outs c p x
     by-start true e al =
@@ -88,11 +88,11 @@ module _ (outs : ℕ → Octets) where
               (count-none upAt (x .area) (p .up) (upIn (x .word)) (ap (λ (y : Event). y .toUp) (r .event) ∙ z .1)),
         )
     by-start false e al = (
-      down-shown (x .area) outs (r .good within) room _ al (p .down) (downIn (x .word)) refl (r .there .down),
-      up-shown (x .area) outs (r .good within) room _ al (p .up) (upIn (x .word)) refl (r .there .up),
+      down-shown (x .area) outs good room _ al (p .down) (downIn (x .word)) refl (r .there .down),
+      up-shown (x .area) outs good room _ al (p .up) (upIn (x .word)) refl (r .there .up),
     )
 
-    -- of every call that is the model's step and leaves credits within the grant
+    -- of every call that is the model's step and leaves a good record
     pub refined-shown : Shows outs c p x
     refined-shown = by-start (restarts c (answerIn (x .word))) refl (r .along)
 
@@ -111,7 +111,7 @@ shown a p o s k v outs room = go (ltb (length (k .out)) messageSize) refl
         (short-shown outs (k .call) p a (k .out))
     go false e =
         let r = all-refine (k .call) p a (k .out) v (s .good) (ltb-false (length (k .out)) messageSize e) (s .along) in
-        refined-shown outs (k .call) p a (pressed k a) r (stands-within a p o s k) room
+        refined-shown outs (k .call) p a (pressed k a) r (refined-good (k .call) p a (pressed k a) (s .good) r (stands-within a p o s k)) room
 
 pub always-displayed : AlwaysDisplayed
 always-displayed area out m v e keys w =

@@ -9,6 +9,7 @@ use lib.ListN.{length}
 use borrow.Author.Tests.{not-true}
 use Rattle.octets.specs.Octets.{Octets, cut}
 use Rattle.octets.specs.Octal.{Octal}
+use Rattle.octets.proofs.Octets.{cut-short}
 use Rattle.octets.proofs.Octal.{octal-cut}
 use Rattle.packets.specs.Packet.{payloadOf}
 use Rattle.packets.specs.Segments.{Segment, segment, body, flag}
@@ -18,7 +19,7 @@ use Rattle.calls.specs.Kinds.{Header, Record, ControlRun}
 use Rattle.state.specs.Conn.{openAt}
 use Rattle.state.specs.Runs.{within, handedOn, runFor, joinedOf, controlJoined}
 use Rattle.state.proofs.Chains.{on}
-use Rattle.state.proofs.Progress.{control-fits}
+use Rattle.state.proofs.Progress.{control-fits, control-room, control-base}
 use Rattle.nfcc.specs.Controller.{judgeOf}
 use Rattle.area.specs.Map.{areaSize, slotSize, payloadSize, controlSize, wireSlots, askingAt}
 use Rattle.area.specs.Runs.{runArea}
@@ -51,6 +52,11 @@ control-last k h n e = go (within controlSize (runFor k h) n) refl
     go : (b : Bool) → within controlSize (runFor k h) n ≡ b → h .pbf ≡ false
     go true w = not-true (h .pbf) (rw w at e)
     go false w = absurd (false≢true (rw w at e))
+
+-- and fits its limit
+pub command-short : (t : Record) (h : Header) (n : ℕ) → askedRun t h n .done ≡ true → (b : Octets) → length (commandIn (askedRun t h n .base + n) b) ≤ controlSize
+command-short t h n e b =
+    omega (arith, cut-short askingAt (askedRun t h n .base + n) b, control-room (t .ends .asking) h n e, control-base (t .ends .asking) h n)
 
 module _ (a out : Octets) (t : Record) (s : Sound a t) (small : Small t) (o : Octal a) (slot : ℕ) (h : Header) (n : ℕ) (room : slot + slotSize ≤ length a) (few : n ≤ payloadSize) (ranged : Ranged h) (one : h .mt ≡ 1) where
   abbrev v : Octets
@@ -180,7 +186,7 @@ module _ (a out : Octets) (t : Record) (s : Sound a t) (small : Small t) (o : Oc
 
     -- the verdict and what follows, from the state with the run joined
     abbrev decidingOn : bench.State → Effect
-    decidingOn z = deciding (h .id) (h .oid) (judgeOf (z .profile) (z .controller) (isOpen z) (h .id) (h .oid) m) z
+    decidingOn z = deciding (h .id) (h .oid) m (judgeOf (z .profile) (z .controller) (isOpen z) (h .id) (h .oid) m) z
 
     is-answered : askedRun t h n .done ≡ true → Does (answered after h m b out) (asked (h .id) (h .oid) x (view a t))
     unfolding openAt
@@ -189,7 +195,7 @@ module _ (a out : Octets) (t : Record) (s : Sound a t) (small : Small t) (o : Oc
         let sound : Sound b after = record { room = after-long; fit = after-fit; shape = after-shape } in
         subst (λ (l : List Octets). Does (answered after h m b out) (effectOf l)) (sym one-message)
         (subst (λ (z : bench.State). Does (answered after h m b out) (decidingOn z)) asked-view
-        (answered-refines b out after sound after-small after-octal h m (octal-cut askingAt (askedRun t h n .base + n) after-octal) (two (control-last (t .ends .asking) h n e)) q fd fu))
+        (answered-refines b out after sound after-small after-octal h m (octal-cut askingAt (askedRun t h n .base + n) after-octal) (command-short t h n e b) (two (control-last (t .ends .asking) h n e)) q fd fu))
 
     pub does-command : Does (commandDown t slot h n a out) (asked (h .id) (h .oid) x (view a t))
     unfolding commandDown

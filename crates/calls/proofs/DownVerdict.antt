@@ -48,6 +48,8 @@ change-small (verdict.Closes c) s d = on SmallChange (eqb c d) (λ _. tt) (λ _.
 change-small (verdict.Turns rf) s d = tt
 change-small (verdict.Selects pair) s d = tt
 change-small (verdict.Deactivates type rf) s d = on SmallChange (eqb 0 d) (λ _. tt) (λ _. tt)
+change-small verdict.SetsConfig s d = tt
+change-small verdict.GetsConfig s d = tt
 
 -- what it opens is a connection that there is
 abbrev Leaves : Change → Type 0
@@ -65,6 +67,8 @@ none-opens gid oid aim p (verdict.Closes c) f d h = on Leaves (eqb c d) (λ _. r
 none-opens gid oid aim p (verdict.Turns rf) f d h = refl
 none-opens gid oid aim p (verdict.Selects pair) f d h = refl
 none-opens gid oid aim p (verdict.Deactivates type rf) f d h = on Leaves (eqb 0 d) (λ _. refl) (λ _. refl)
+none-opens gid oid aim p verdict.SetsConfig f d h = refl
+none-opens gid oid aim p verdict.GetsConfig f d h = refl
 
 -- ---- the controller's own octets
 
@@ -82,6 +86,8 @@ after-small k (verdict.Closes c) w s = s
 after-small k (verdict.Turns rf) w s = turned-small k rf (bare-octal rf w) s
 after-small k (verdict.Selects pair) w s = turned-small k _ (chosen-octal pair (w .0) (w .1)) s
 after-small k (verdict.Deactivates type rf) w s = turned-small k rf (bare-octal rf (w .1)) s
+after-small k verdict.SetsConfig w s = s
+after-small k verdict.GetsConfig w s = s
 
 -- ---- the record after a command m was decided
 

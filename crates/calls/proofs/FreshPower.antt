@@ -20,21 +20,25 @@ use Rattle.area.specs.Map.{areaSize, messageSize}
 use Rattle.area.specs.Movers.{zeros}
 use Rattle.area.specs.Ring.{packetsFrom, tab}
 use Rattle.record.specs.Reading.{decodeOf}
-use Rattle.record.specs.Layout.{bit}
+use Rattle.config.specs.Stored.{defaults, parametersOk}
+use Rattle.config.proofs.SetOctets.{defaults-octal}
+use Rattle.record.specs.Layout.{bit, configured}
 use Rattle.record.specs.Writing.{profileOctets, hostOctets, pendingOctets, controlRunOctets, controllerOctets, phaseOctet, rfOctets, pairsOctets}
 use Rattle.record.specs.Claims.{saved}
 use Rattle.record.specs.Fit.{Shape, Fit, FitCounts, Each}
 use Rattle.record.specs.Small.{SmallCounts, Small}
 use Rattle.record.specs.Plan.{coldRecord}
+use Rattle.record.proofs.Configured.{configured-length, configured-octal}
 use Rattle.record.proofs.Saved.{saved-record}
-use Rattle.views.specs.View.{viewOf}
+use Rattle.views.specs.View.{view, viewOf}
 use Rattle.views.proofs.Saved.{saved-view}
 use Rattle.views.proofs.Others as views
-use Rattle.model.specs.State.{cold}
+use Rattle.model.specs.State.{State, cold}
 use Rattle.model.specs.Effects.{fresh, power, Result, taken, refused}
 use Rattle.model.specs.Refusals.{first}
 use Rattle.model.specs.Bench.{rules, judged}
 use Rattle.model.specs.Grants.{WithinGrants}
+use Rattle.model.proofs.Parameters.{defaults-within}
 use Rattle.calls.specs.Word.{wordOf, answerIn, droppedIn, handedIn, lengthIn, downIn, upIn, rfuIn}
 use Rattle.calls.specs.Outcome.{outcome, decided, lowest}
 use Rattle.calls.specs.Seen.{Puts, noPuts}
@@ -111,17 +115,28 @@ module _ (p : Profile) (w : ProfileWithin p) where
   -- ---- written into an area of octets that is long enough
 
   module _ (x : Octets) (long : areaSize ≤ length x) (o : Octal x) where
-    pub cold-good : Good (saved x (coldRecord p))
+    -- with every parameter at its default
+    abbrev restored : Octets
+    restored = configured x defaults
+
+    restored-long : areaSize ≤ length restored
+    restored-long = omega (arith, long, configured-length x defaults)
+
+    before-view : view restored (coldRecord p) ≡ cold p
+    before-view = views.cold-view x p long
+
+    pub cold-good : Good (saved restored (coldRecord p))
     cold-good =
-        saved-good x (coldRecord p) long cold-fit cold-shape o cold-small
-        (subst WithinGrants (sym (views.cold-view x p)) (λ d five. record { held = omega arith; owed = omega arith }))
+        saved-good restored (coldRecord p) restored-long cold-fit cold-shape (configured-octal x defaults o defaults-octal) cold-small
+        (subst WithinGrants (sym before-view) (λ d five. record { held = omega arith; owed = omega arith }))
+        (subst (λ (s : State). parametersOk (s .config) ≡ true) (sym before-view) (defaults-within .values))
 
-    pub cold-view : viewOf (saved x (coldRecord p)) ≡ cold p
-    cold-view = saved-view x (coldRecord p) long cold-fit cold-shape ∙ views.cold-view x p
+    pub cold-view : viewOf (saved restored (coldRecord p)) ≡ cold p
+    cold-view = saved-view restored (coldRecord p) restored-long cold-fit cold-shape ∙ before-view
 
-    pub cold-along : Along noPuts (saved x (coldRecord p))
+    pub cold-along : Along noPuts (saved restored (coldRecord p))
     cold-along =
-        let e = saved-record x (coldRecord p) long cold-fit cold-shape in
+        let e = saved-record restored (coldRecord p) restored-long cold-fit cold-shape in
         record { down = subst (λ (y : Record). Follows 0 (y .down)) (sym e) refl; up = subst (λ (y : Record). Follows 0 (y .up)) (sym e) refl }
 
 -- ---- fresh
@@ -175,7 +190,7 @@ module _ (a m : Octets) (long : areaSize ≤ length a) (o : Octal a) (ok : profi
 
   pub fresh-done : (p : Puts) (out : Octets) → RefinesTo (fresh m) p (freshed m a out) (judged taken (fresh m) (viewOf a))
   unfolding wordOf bit answerIn droppedIn handedIn lengthIn downIn upIn rfuIn packetsFrom tab
-  fresh-done p out = record { good = λ _. fresh-good out; event = refl; next = fresh-view out; along = fresh-along out; there = record { down = omega arith; up = omega arith } }
+  fresh-done p out = record { good = λ _ _. fresh-good out; event = refl; next = fresh-view out; along = fresh-along out; there = record { down = omega arith; up = omega arith } }
 
 pub fresh-refines : (m : Octets) (p : Puts) (a out : Octets) → Good a → messageSize ≤ length out → Along p a → Refines (fresh m) p a (freshCall a out m)
 unfolding first
@@ -198,7 +213,7 @@ module _ (a out : Octets) (g : Good a) where
   power-done p =
       let x = decodeOf a .ends .profile in
       record {
-        good = λ _. cold-good x profile-kept a (g .long) (g .octal);
+        good = λ _ _. cold-good x profile-kept a (g .long) (g .octal);
         event = refl;
         next = cold-view x profile-kept a (g .long) (g .octal);
         along = cold-along x profile-kept a (g .long) (g .octal);

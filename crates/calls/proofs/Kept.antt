@@ -19,8 +19,10 @@ use Rattle.state.specs.Conn.{placeOf, openAt, carriedBy}
 use Rattle.state.specs.Runs.{within}
 use Rattle.state.proofs.Chains.{and-right, or-right, on}
 use Rattle.state.proofs.Progress.{done-room}
-use Rattle.messages.specs.Layout.{Message, responseMessage, noticeMessage, creditsMessage}
-use Rattle.messages.proofs.Lengths.{response-short, notice-short, credits-short}
+use Rattle.nfcc.specs.Controller.{configBy}
+use Rattle.messages.specs.Layout.{Message, creditsMessage}
+use Rattle.messages.proofs.Lengths.{credits-short}
+use Rattle.ends.specs.Steps.{verdictOf}
 use Rattle.air.specs.Air.{eventOf, airMessage}
 use Rattle.air.proofs.Room.{message-short}
 use Rattle.air.proofs.Spoken.{spoken-short}
@@ -32,6 +34,9 @@ use Rattle.area.specs.Ring.{freeAt, putInto}
 use Rattle.area.specs.Movers.{zeros, putsAll}
 use Rattle.area.specs.Runs.{runArea}
 use Rattle.area.proofs.Moves.{length-zeros, segment-short}
+use Rattle.config.specs.Table.{configSize}
+use Rattle.config.specs.Stored.{defaults}
+use Rattle.record.specs.Layout.{configAt, configOctets, configured}
 use Rattle.record.specs.Reading.{decodeOf}
 use Rattle.record.specs.Writing.{encodeOf}
 use Rattle.record.specs.Judge.{judgeOf}
@@ -53,7 +58,7 @@ use Rattle.calls.specs.calls.Power.{powerCall}
 use Rattle.calls.specs.calls.Command.{commandCall}
 use Rattle.calls.specs.calls.Send.{sendCall}
 use Rattle.calls.specs.calls.Push.{hostSide, pushedSegment, pushedPacket, pushed, pushCall}
-use Rattle.calls.specs.calls.Down.{tookDown, downSlot, downRead, askedRun, askedRecord, askedArea, storedSlot, answersTo, dataDown, commandDown, arrived, downCall}
+use Rattle.calls.specs.calls.Down.{tookDown, downSlot, downRead, askedRun, askedRecord, askedArea, storedSlot, commandIn, answeredArea, dataDown, commandDown, arrived, downCall}
 use Rattle.calls.specs.calls.Consume.{oldestAt, oldest, oldestRead, controllerSide, joinedBy, echoedCredits, echoedSlot, consumedBy, consumeCall}
 use Rattle.calls.specs.calls.Credit.{creditCall}
 use Rattle.calls.specs.calls.Reply.{endpointHand, repliedSegment, repliedPacket, replied, replyCall}
@@ -67,6 +72,8 @@ use Rattle.calls.proofs.Called.{sound-area}
 use Rattle.calls.proofs.Words.{word-answer, word-handed, word-length, told-answer, told-handed, told-length}
 use Rattle.calls.proofs.Refine.{refusal-answer}
 use Rattle.calls.proofs.Push.{push-tests, push-facts}
+use Rattle.calls.proofs.DownConfig.{config-few, verdict-whole, answers-fit}
+use Rattle.calls.proofs.DownCommand.{command-short}
 
 -- ---- areas: b is a with parts before 36,864 written over
 
@@ -92,7 +99,16 @@ reach-puts base h [] few a b w k = w
 reach-puts base h (p ∷ ps) few a b w k =
     reach-puts base h ps (few .1) a (splice b (freeAt base wireSlots k) p) (reach-splice w (freeAt base wireSlots k) p (omega (arith, few .0))) (putInto k)
 
+-- every parameter at its default
+reach-defaults : {a b : Octets} → Reaches a b → Reaches a (configured b defaults)
+reach-defaults w = reach-splice w configAt defaults (omega arith)
+
 -- ---- the parts that are written
+
+-- the configuration, of an area of any length
+config-short : (a : Octets) → length (configOctets a) ≤ configSize
+unfolding configOctets
+config-short a = cut-short configAt configSize a
 
 place-few : (c : ℕ) → placeOf c ≤ 5
 unfolding placeOf
@@ -120,14 +136,6 @@ unfolding cut
 segment-inside size m at =
     let part : length (take size (drop at m)) ≤ length m = simp (length-take, length-drop) (omega arith) in
     omega (arith, ap length (body-segment (ltb (at + size) (length m)) (cut at size m)), part)
-
--- the answer to a command
-answers-short : (t : Record) (h : Header) (v : Verdict) → Each (λ p. length p ≤ slotSize) (answersTo t h v)
-answers-short t h v = (
-  omega (arith, length-packet (controlHeader 2 (h .id) (h .oid)) (responseMessage (h .id) (h .oid) (t .ends .profile) v .payload), response-short (t .ends .profile) v),
-  on (Each (λ p. length p ≤ slotSize)) (eqb (length (noticeMessage v .payload)) 0) (λ _. tt)
-      (λ _. (omega (arith, length-packet (controlHeader 3 (noticeMessage v .gid) (noticeMessage v .oid)) (noticeMessage v .payload), notice-short v), tt)),
-)
 
 -- ---- a call that is taken
 
@@ -199,14 +207,30 @@ down-leaves t slot (Packet h n) a out =
     (λ _. on (Leaves a out) (openAt (t .ends .conns) (h .id)) (λ _. quiet out _ _ _ _ stored) (λ _. quiet out _ _ _ _ (reach-none a)))
     (λ _.
     on (Leaves a out) (eqb (h .mt) 1)
-    (λ _. on (Leaves a out) (askedRun t h n .done) (λ _. quiet out _ _ _ _ (reach-puts upAt (omega arith) _ (answers-short (askedRecord t h n) h _) a _ joins _)) (λ _. quiet out _ _ _ _ joins))
+    (λ _. on (Leaves a out) (askedRun t h n .done) (λ e. quiet out _ _ _ _ (answers e)) (λ _. quiet out _ _ _ _ joins))
     (λ _. quiet out _ _ _ _ (reach-none a)))
   where
     stored : Reaches a (storedSlot t slot (h .id) a)
     stored = reach-splice (reach-none a) _ _ (omega (arith, place-few (h .id), cut-short slot slotSize a))
 
+    x : Octets
+    x = askedArea t slot h n a
+
+    m : Octets
+    m = commandIn (askedRun t h n .base + n) x
+
+    v : Verdict
+    v = verdictOf (askedRecord t h n .ends) (h .id) (h .oid) m
+
     joins : Reaches a (askedArea t slot h n a)
     joins = reach-run (reach-none a) controlSize askingAt _ _ (omega arith)
+
+    answers : askedRun t h n .done ≡ true → Reaches a (answeredArea (askedRecord t h n) h (configOctets x) m v x)
+    answers e =
+        reach-splice
+        (reach-puts upAt (omega arith) _
+        (answers-fit (h .id) (h .oid) (t .ends .profile) (configOctets x) m v (verdict-whole (askedRecord t h n .ends) (h .id) (h .oid) m (command-short t h n e x))) a _ joins _)
+        configAt (configBy (configOctets x) m v) (omega (arith, config-few (configOctets x) m v (config-short x)))
 down-leaves t slot Drop a out = quiet out _ _ _ _ (reach-none a)
 
 consume-leaves : (r : Record) (c : ℕ) (x : Reading) (a out : Octets) → Leaves a out (consumedBy r c x a out)
@@ -357,8 +381,8 @@ perform-keeps : (c : Call) (a out : Octets) → Keeps a out (perform c a out)
 unfolding freshCall powerCall commandCall sendCall pushCall downCall consumeCall creditCall airCall replyCall upCall reportCall segments
 perform-keeps (fresh m) a out =
     decided-by (Keeps a out) (roomRules (length a) (length out) ++ rules (fresh m) (viewOf a)) _ a out refl
-    (λ _. taken-keeps a out _ (quiet out _ _ _ _ (reach-splice (reach-none a) 0 (zeros areaSize) (omega (arith, length-zeros areaSize))))) (refused-keeps a out)
-perform-keeps power a out = called-keeps (rules power (viewOf a)) _ a out refl (λ _. quiet out _ _ _ _ (reach-none a))
+    (λ _. taken-keeps a out _ (quiet out _ _ _ _ (reach-defaults (reach-splice (reach-none a) 0 (zeros areaSize) (omega (arith, length-zeros areaSize)))))) (refused-keeps a out)
+perform-keeps power a out = called-keeps (rules power (viewOf a)) _ a out refl (λ _. quiet out _ _ _ _ (reach-defaults (reach-none a)))
 perform-keeps (command gid oid m) a out =
     called-keeps _ _ a out refl
     (λ t.

@@ -24,6 +24,7 @@ pub mod Consume
 pub mod Reply
 pub mod Command
 pub mod DownVerdict
+pub mod DownConfig
 pub mod DownAnswer
 pub mod DownCommand
 pub mod Down
@@ -42,5 +43,7 @@ pub mod Displayed
 pub mod Played
 pub mod Owing
 pub mod Discards
+pub mod Config
+pub mod ConfigCredits
 pub mod Profiles
 pub mod Headers

@@ -14,11 +14,15 @@ use Rattle.area.specs.Map.{areaSize}
 use Rattle.area.specs.Ring.{packetsFrom, tab}
 use Rattle.area.specs.Movers.{zeros}
 use Rattle.area.proofs.Moves.{length-zeros}
+use Rattle.config.specs.Stored.{defaults, parametersOk}
+use Rattle.config.proofs.SetOctets.{defaults-octal}
+use Rattle.record.specs.Layout.{configOctets, configured}
 use Rattle.record.specs.Claims.{saved}
 use Rattle.record.specs.Plan.{withConns, coldRecord}
 use Rattle.record.specs.Fit.{Shape, Fit, FitCounts, Granted, GrantedCounts}
 use Rattle.record.specs.Small.{Small, SmallCounts}
 use Rattle.record.proofs.Conns.{conns-set}
+use Rattle.record.proofs.Configured.{configured-length, configured-octal, configured-back}
 use Rattle.record.proofs.Saved.{saved-record}
 use Rattle.views.specs.View.{view, viewOf}
 use Rattle.views.proofs.Saved.{saved-view}
@@ -27,6 +31,7 @@ use Rattle.model.specs.State.{State}
 use Rattle.model.specs.Refusals.{full}
 use Rattle.model.specs.Table.{profile}
 use Rattle.model.specs.calls.Credit.{owedBy}
+use Rattle.model.proofs.Parameters.{defaults-within}
 use Rattle.calls.specs.Kinds.{Counts, Profile, Record}
 use Rattle.calls.specs.Seen.{noPuts}
 use Rattle.calls.specs.Refines.{Follows}
@@ -87,11 +92,19 @@ granted =
     conns-set GrantedCounts before 1 owing (omega arith) (record { held = omega arith; owed = omega arith })
     (closed-all GrantedCounts terms (record { held = omega arith; owed = omega arith }))
 
+-- every parameter at its default, and 0 elsewhere
 abbrev blank : Octets
-blank = zeros areaSize
+blank = configured (zeros areaSize) defaults
+
+zeros-long : areaSize ≤ length (zeros areaSize)
+zeros-long = omega (arith, length-zeros areaSize)
 
 long : areaSize ≤ length blank
-long = omega (arith, length-zeros areaSize)
+long = omega (arith, zeros-long, configured-length (zeros areaSize) defaults)
+
+-- they are values that a set leaves
+values : parametersOk (configOctets blank) ≡ true
+values = ap parametersOk (configured-back (zeros areaSize) defaults zeros-long refl) ∙ defaults-within .values
 
 stands : viewOf (saved blank r) ≡ view blank r
 stands = saved-view blank r long fit shape
@@ -110,7 +123,7 @@ owes-two =
     record {
       area = saved blank r;
       puts = noPuts;
-      good = saved-good blank r long fit shape (zero-octets areaSize) small (granted-view blank r granted);
+      good = saved-good blank r long fit shape (configured-octal (zeros areaSize) defaults (zero-octets areaSize) defaults-octal) small (granted-view blank r granted) values;
       along = record { down = subst (λ (y : Record). Follows 0 (y .down)) (sym e) refl; up = subst (λ (y : Record). Follows 0 (y .up)) (sym e) refl };
       owing = ap owedBy stands ∙ two-owed;
       free = ap (λ (s : State). full 1 (s .up)) stands ∙ no-packets;

@@ -17,9 +17,13 @@ use Rattle.state.proofs.Chains.{and-left, and-right}
 use Rattle.area.specs.Map.{areaSize, downAt, upAt, wireSlots, messageSize}
 use Rattle.area.specs.Ring.{slotPacket, tab, packetsFrom, packetsIn}
 use Rattle.area.proofs.Rings.{tab-ext, length-tab}
+use Rattle.record.specs.Reading.{decodeOf}
 use Rattle.record.specs.Claims.{saved}
 use Rattle.record.specs.Fit.{Shape, Fit}
 use Rattle.record.specs.Small.{Small}
+use Rattle.config.specs.Stored.{parametersOk}
+use Rattle.record.proofs.Fits.{judged-parameters}
+use Rattle.record.proofs.Configured.{length-config}
 use Rattle.record.proofs.Saved.{saved-long, saved-judged, saved-octal}
 use Rattle.views.specs.View.{view, viewOf}
 use Rattle.views.proofs.Credits.{view-granted}
@@ -29,6 +33,8 @@ use Rattle.model.specs.Effects.{Call, Result, taken, refused}
 use Rattle.model.specs.Refusals.{first}
 use Rattle.model.specs.Bench.{rules, judged, step}
 use Rattle.model.specs.Grants.{WithinGrants}
+use Rattle.model.specs.invariant.Bench.{ConfigWithin}
+use Rattle.model.proofs.Parameters.{step-within}
 use Rattle.calls.specs.Word.{dropBit, handedBit, answerIn, droppedIn, handedIn, lengthIn, downIn, upIn, rfuIn}
 use Rattle.calls.specs.Outcome.{Outcome, outcome, decided, called}
 use Rattle.calls.specs.Seen.{Puts, noPuts, restarts, putsAfter}
@@ -74,15 +80,33 @@ module _ (n : ℕ) (s : small n ≡ true) where
 
 -- ---- an area in which the record n was written last
 
-pub saved-good : (x : Octets) (n : Record) → areaSize ≤ length x → Fit n → Shape n → Octal x → Small n → WithinGrants (view x n) → Good (saved x n)
-saved-good x n long fit shape octal small within =
+pub saved-good : (x : Octets) (n : Record) → areaSize ≤ length x → Fit n → Shape n → Octal x → Small n
+    → WithinGrants (view x n) → parametersOk (view x n .config) ≡ true → Good (saved x n)
+saved-good x n long fit shape octal small within values =
     record {
       long = saved-long x n long;
-      judged = saved-judged x n long fit shape (view-granted x n within);
+      judged = saved-judged x n long fit shape (view-granted x n within) values;
       octal = saved-octal x n octal small;
     }
 
+-- ---- an area whose record is good
+
+-- its configuration has values that a set leaves, and so has the model's next state
+pub good-config : (a : Octets) → Good a → ConfigWithin (viewOf a .config)
+good-config a g = record { long = length-config a (g .long); values = judged-parameters a (g .judged) }
+
+-- so a call that is the model's step leaves a good record, where credits are within the grants
+pub refined-good : (c : Call) (p : Puts) (a : Octets) (o : Outcome) → Good a → Refines c p a o → WithinGrants (step c (viewOf a) .effect .next) → Good (o .area)
+refined-good c p a o g r within = r .good within (step-within c (viewOf a) (good-config a g) .values)
+
 -- ---- packets put on a wire
+
+-- of an area that no calls made, any number of packets put that goes with the rings will do
+abbrev pub ringPuts : Octets → Puts
+ringPuts a = record { down = decodeOf a .down .head + decodeOf a .down .count; up = decodeOf a .up .head + decodeOf a .up .count }
+
+pub ring-along : (a : Octets) → Along (ringPuts a) a
+ring-along a = record { down = refl; up = refl }
 
 tab-append : {A : Type 0} (f : ℕ → A) (p m n : ℕ) → tab f p (m + n) ≡ tab f p m ++ tab f (p + m) n
 unfolding tab
@@ -132,7 +156,7 @@ module _ (c : Call) (o : Outcome) (p : Puts) (a out : Octets) (g : Good a) (room
       (λ i. pick (restarts c (ans i)) noPuts (record { down = p .down + dn i; up = p .up + un i }))
       in
       record {
-        good = λ _. g;
+        good = λ _ _. g;
         event =
             λ i.
             record {

@@ -68,7 +68,7 @@ report-done : (c : ℕ) (q : Puts) (a out : Octets) → Good a → Along q a →
 unfolding wordOf bit answerIn droppedIn handedIn lengthIn downIn upIn rfuIn packetsFrom tab
 report-done c q a out g al e =
     record {
-      good = λ _. g;
+      good = λ _ _. g;
       event = λ i. record { call = report c; answer = taken; dropped = false; rfu = 0; toDown = []; toUp = []; message = e i ∷ [] };
       next = refl;
       along = record { down = omega (arith, al .down); up = omega (arith, al .up) };

@@ -1,6 +1,6 @@
 -- Which reserved bits the calls tell: `RfuExact` and `AlwaysClear` of `specs/Reserved.antt`.
 -- Assumes nothing.
-use Prim.Native.Nat.{ℕ, _+_, _%_, _≤_, _<_}
+use Prim.Native.Nat.{ℕ, _%_, _≤_, _<_}
 use mathlib.Core.Path.{_≡_, refl, sym, ap, _∙_, subst}
 use mathlib.Core.Bool.{Bool, true, false, _&&_, not, false≢true}
 use mathlib.Core.List.{List, [], _∷_, _++_}
@@ -33,7 +33,7 @@ use Rattle.model.specs.Reachable.{Each, Wires}
 use Rattle.model.proofs.WellFormed.{SmallShaped, shaped-stays, shaped-start, wires}
 use Rattle.calls.specs.Word.{numberOf, answerIn, droppedIn, rfuIn}
 use Rattle.calls.specs.Outcome.{Outcome, outcome}
-use Rattle.calls.specs.Seen.{Puts, isTaken}
+use Rattle.calls.specs.Seen.{isTaken}
 use Rattle.calls.specs.Refines.{Good}
 use Rattle.calls.specs.calls.Fresh.{quietWord, roomRules, freshed, freshCall}
 use Rattle.calls.specs.Demand.{Key, perform, pressed, slice, areaAfter}
@@ -41,7 +41,7 @@ use Rattle.calls.specs.Reserved.{tellable, RfuExact, AlwaysClear}
 use Rattle.calls.proofs.Rules.{small}
 use Rattle.calls.proofs.Called.{sound-area}
 use Rattle.calls.proofs.Words.{word-rfu}
-use Rattle.calls.proofs.Refine.{refusal-answer, refusal-rfu}
+use Rattle.calls.proofs.Refine.{refusal-answer, refusal-rfu, ringPuts, ring-along}
 use Rattle.calls.proofs.Kept.{taken-refused, decided-by, isFresh, entered-if-taken, refusals-keep}
 use Rattle.calls.proofs.Down as downing
 use Rattle.calls.proofs.UpPacket as upping
@@ -105,10 +105,6 @@ step-rfu c s = go (first (rules c s))
 
 -- ---- on octets
 
--- any count of packets that goes with the rings will do
-abbrev counts : Octets → Puts
-counts a = record { down = decodeOf a .down .head + decodeOf a .down .count; up = decodeOf a .up .head + decodeOf a .up .count }
-
 -- n is told exactly where the call is taken and the drop flag is not set
 abbrev Tells : ℕ → Outcome → Type 0
 Tells n o = rfuIn (o .word) ≡ pick (isTaken (answerIn (o .word)) && not (droppedIn (o .word))) n 0
@@ -126,7 +122,7 @@ module _ (k : Key) (v : Octal (slice (k .call))) (a : Octets) (g : Good a) where
   told : (n : ℕ) → (first (rules (k .call) s) ≡ taken → wireRfu (k .call) s ≡ n) → messageSize ≤ length (k .out) → Tells n (pressed k a)
   unfolding step
   told n same room =
-      let e = all-refine (k .call) (counts a) a (k .out) v g room (record { down = refl; up = refl }) .event in
+      let e = all-refine (k .call) (ringPuts a) a (k .out) v g room (ring-along a) .event in
       ap (λ (x : Event). x .rfu) e ∙ step-rfu (k .call) s ∙ go (first (rules (k .call) s)) refl
       ∙ sym (ap (λ (x : Event). pick (isTaken (x .answer) && not (x .dropped)) n 0) e)
     where

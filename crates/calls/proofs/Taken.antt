@@ -4,7 +4,7 @@
 use Prim.Native.Nat.{ℕ, _+_, _≤_, _<_}
 use native.Mathlib.Omega.{arith}
 use mathlib.Core.Path.{_≡_, refl, sym, ap, _∙_, subst}
-use mathlib.Core.Bool.{Bool, false}
+use mathlib.Core.Bool.{Bool, true, false}
 use mathlib.Core.List.{List, [], _∷_, _++_, append-nil}
 use lib.ListN.{length, length-append}
 use Rattle.octets.specs.Octets.{Octets, pick, cut}
@@ -13,6 +13,7 @@ use Rattle.calls.specs.Kinds.{Ring, Record}
 use Rattle.area.specs.Map.{areaSize, downAt, upAt, wireSlots}
 use Rattle.area.specs.Ring.{packetsFrom, packetsIn}
 use Rattle.area.proofs.Rings.{length-packets}
+use Rattle.config.specs.Stored.{parametersOk}
 use Rattle.record.specs.Reading.{decodeOf}
 use Rattle.record.specs.Claims.{saved}
 use Rattle.record.specs.Fit.{Shape, Fit, FitRing}
@@ -110,7 +111,10 @@ module _ (c : Call) (q : Puts) (x t : Octets) (n : Record) where
         let few-down = added-few downAt area (q .down) down (decodeOf area .down) (e .next .down) (e .toDown) downs on-down (fits .down) in
         let few-up = added-few upAt area (q .up) up (decodeOf area .up) (e .next .up) (e .toUp) ups on-up (fits .up) in
         record {
-          good = λ w. saved-good x n (k .long) (k .fit) (k .shape) (k .octal) (k .small) (subst WithinGrants (sym (k .next)) w);
+          good =
+              λ w v.
+              saved-good x n (k .long) (k .fit) (k .shape) (k .octal) (k .small) (subst WithinGrants (sym (k .next)) w)
+              (subst (λ (s : State). parametersOk (s .config) ≡ true) (sym (k .next)) v);
           event =
               word-seen d h len down up (k .short) few-down few-up c q area t
               ∙ (λ i.

@@ -12,6 +12,8 @@ pub mod Reached
 pub mod Checked
 pub mod Played
 pub mod Discards
+pub mod Config
+pub mod ConfigCredits
 pub mod Profiles
 pub mod Headers
 pub mod Reserved

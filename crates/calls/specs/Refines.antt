@@ -8,6 +8,7 @@ use Rattle.octets.specs.Octets.{Octets}
 use Rattle.octets.specs.Octal.{Octal}
 use Rattle.calls.specs.Kinds.{Ring}
 use Rattle.area.specs.Map.{areaSize, messageSize, wireSlots}
+use Rattle.config.specs.Stored.{parametersOk}
 use Rattle.record.specs.Reading.{decodeOf}
 use Rattle.record.specs.Judge.{judgeOf}
 use Rattle.views.specs.View.{viewOf}
@@ -42,8 +43,8 @@ pub record OnWires (w : ℕ) (a : Octets) : Type 0 where
 
 -- an outcome on octets is this outcome of the model
 pub record RefinesTo (c : Call) (p : Puts) (o : Outcome) (m : model.Outcome) : Type 0 where
-  -- its record is one that row 1 lets pass, unless credits have passed a grant
-  pub good : WithinGrants (m .effect .next) → Good (o .area)
+  -- its record is one that row 1 lets pass, unless credits have passed a grant or a parameter has a value that no set leaves
+  pub good : WithinGrants (m .effect .next) → parametersOk (m .effect .next .config) ≡ true → Good (o .area)
   pub event : seenBy c p o ≡ eventOf c m
   pub next : viewOf (o .area) ≡ m .effect .next
   pub along : Along (putsAfter c p (o .word)) (o .area)

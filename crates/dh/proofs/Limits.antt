@@ -170,6 +170,8 @@ module _ (m : Octets) (octal : Octal m) where
   ok-fits command.Select aim w = tt
   ok-fits command.Deactivate aim w = tt
   ok-fits command.Unknown aim w = tt
+  ok-fits command.SetConfig aim w = tt
+  ok-fits command.GetConfig aim w = tt
 
   not-alone : eqb (getD m 0 0) 0x00 ≡ true → statusAlone m ≡ false
   not-alone e = go (eqb (length m) 1)

@@ -15,6 +15,7 @@ use Rattle.state.specs.Conn.{placeOf}
 use Rattle.state.specs.Commands.{commandOf}
 use Rattle.state.specs.Radio.{polls, listens, idOk}
 use Rattle.state.specs.Profile.{leastSize, creditsOk}
+use Rattle.config.specs.Written.{setWritten, getWritten}
 
 -- ---- the notifications (003, Table 139)
 
@@ -53,6 +54,7 @@ createWritten m =
     eqb (length m) 4 && eqb (getD m 0 0) statusOk && leb 1 (getD m 1 0) && creditsOk (getD m 2 0)
     && leb 2 (getD m 3 0) && leb (getD m 3 0) 5
 
+-- beside a status other than OK alone; those of the configuration commands may list parameters under the status 09 too
 abbrev pub okWritten : Command → Octets → Bool
 okWritten command.Reset m = okAlone m
 okWritten command.Init m = initWritten m
@@ -62,6 +64,8 @@ okWritten command.Discover m = okAlone m
 okWritten command.Select m = okAlone m
 okWritten command.Deactivate m = okAlone m
 okWritten command.Unknown m = false
+okWritten command.SetConfig m = setWritten m
+okWritten command.GetConfig m = getWritten m
 
 -- ---- notifications
 

@@ -61,6 +61,8 @@ okAnswer command.Discover aim m = Done
 okAnswer command.Select aim m = Done
 okAnswer command.Deactivate aim m = Done
 okAnswer command.Unknown aim m = Done
+okAnswer command.SetConfig aim m = Done
+okAnswer command.GetConfig aim m = Done
 
 unfoldable pub answerOf : Command → ℕ → Octets → Answer
 answerOf c aim m = pick (eqb (getD m 0 0) statusOk) (okAnswer c aim m) Done

@@ -1,5 +1,7 @@
 // Contents that the bench's controller writes (document 01, "Contents never written here have no effect", up under "Calls"): its
 // layouts at their exact lengths, with values inside its limits.
+use config::written::get_written;
+use config::written::set_written;
 use state::commands;
 use state::commands::Command;
 use state::conn;
@@ -121,7 +123,8 @@ pub fn create_written(m: &[u8]) -> bool
         & (id <= 5)
 }
 
-// An OK response as the bench's controller writes it.
+// A response as the bench's controller writes it beside a status alone: an OK response, and for the configuration commands also a list
+// of parameters under the status 09.
 fn ok_written(c: Command, m: &[u8]) -> bool
     ensures { λ r. ⌜ r ≡ okWritten c (now (m .entry)) ⌝ }
 {
@@ -134,6 +137,8 @@ fn ok_written(c: Command, m: &[u8]) -> bool
         Command::Select => ok_alone(m),
         Command::Deactivate => ok_alone(m),
         Command::Unknown => false,
+        Command::SetConfig => set_written(m),
+        Command::GetConfig => get_written(m),
     }
 }
 

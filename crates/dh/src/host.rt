@@ -120,6 +120,8 @@ fn ok_answer(c: Command, aim: u8, m: &[u8]) -> Answer
         Command::Select => Answer::Done,
         Command::Deactivate => Answer::Done,
         Command::Unknown => Answer::Done,
+        Command::SetConfig => Answer::Done,
+        Command::GetConfig => Answer::Done,
     }
 }
 

@@ -22,6 +22,7 @@ use Rattle.dh.specs.Contents.{zeros, initWritten, resetWritten, entryId, entryC
 use Rattle.dh.specs.Host.{creditsIn, creditsFor}
 use Rattle.state.proofs.Places.{place-conn, conn-place, conn-suc}
 use Rattle.state.proofs.Chains.{every-at, elements, elements-are}
+use Rattle.ends.proofs.ConfigResponses.{set-back, get-back}
 use Rattle.ends.specs.Backwards.{discoverTarget, discoverType, discoverParams, Backwards}
 
 -- an octet that was tested stands there
@@ -345,6 +346,8 @@ pub backwards : Backwards
 backwards =
     record {
       init-back = init-back;
+      set-back = set-back;
+      get-back = get-back;
       reset-back = reset-back;
       error-back = error-back;
       discover-target = discover-target;

@@ -84,6 +84,8 @@ module _ (conns : List Counts) (d : ℕ) (five : length conns ≡ 5) (one : plac
   counts-after (verdict.Turns rf) = refl
   counts-after (verdict.Selects pair) = refl
   counts-after (verdict.Deactivates type rf) = closes-controller 0
+  counts-after verdict.SetsConfig = refl
+  counts-after verdict.GetsConfig = refl
 
   -- ---- after an event of the air
 
@@ -130,6 +132,8 @@ length-after conns (verdict.Closes c) = length-one (withController closedControl
 length-after conns (verdict.Turns rf) = refl
 length-after conns (verdict.Selects pair) = refl
 length-after conns (verdict.Deactivates type rf) = length-one (withController closedController) conns 0
+length-after conns verdict.SetsConfig = refl
+length-after conns verdict.GetsConfig = refl
 
 pub length-aired : (p : Profile) (conns : List Counts) (a : Aired) → length (connsAired p conns a) ≡ length conns
 unfolding connsAired
@@ -171,6 +175,8 @@ endpoint-after h (verdict.Closes c) = empty-pick (eqb c 0) closes h refl
 endpoint-after h (verdict.Turns rf) = refl
 endpoint-after h (verdict.Selects pair) = refl
 endpoint-after h (verdict.Deactivates type rf) = refl
+endpoint-after h verdict.SetsConfig = refl
+endpoint-after h verdict.GetsConfig = refl
 
 pub endpoint-aired : (t : Terms) (h : Hand) (a : Aired) (n : ℕ) → endpointAired h a n ≡ spokenBy a n (endpointBy (changeAired t a 0) h)
 unfolding endpointAired

@@ -1,4 +1,5 @@
 pub mod CreditNotice
+pub mod ConfigResponses
 pub mod RoundTrips
 pub mod Backwards
 pub mod Changes

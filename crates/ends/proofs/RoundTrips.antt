@@ -27,6 +27,7 @@ use Rattle.air.specs.Air.{foundIn, pollIn, listenIn, eventOf}
 use Rattle.messages.proofs.Messages.{length-discover, length-activated}
 use Rattle.state.proofs.Chains.{every-at, elements, elements-are}
 use Rattle.ends.proofs.CreditNotice.{credits-written, credits-read}
+use Rattle.ends.proofs.ConfigResponses.{set-written, set-listed, set-heard, get-written, get-shown, get-unavailable, get-heard}
 use Rattle.ends.specs.RoundTrips.{TermsOk, TargetOk, createTerms, activatedTarget, activatedTerms, activatedParams, foundOctets, activeOctets, RoundTrips}
 
 -- ---- responses of one octet
@@ -234,6 +235,13 @@ round-trips =
       create-written = create-written;
       create-read = create-read;
       create-back = create-back;
+      set-written = set-written;
+      set-listed = set-listed;
+      set-read = set-heard;
+      get-written = get-written;
+      get-shown = get-shown;
+      get-unavailable = get-unavailable;
+      get-read = get-heard;
       reset-noted = reset-noted;
       reset-heard = reset-heard;
       error-noted = error-noted;

@@ -30,6 +30,8 @@ changeBy (verdict.Closes c) d = pick (eqb c d) closes stays
 changeBy (verdict.Turns rf) d = stays
 changeBy (verdict.Selects pair) d = stays
 changeBy (verdict.Deactivates type rf) d = pick (eqb 0 d) closes stays
+changeBy verdict.SetsConfig d = stays
+changeBy verdict.GetsConfig d = stays
 
 -- at the controller, by an event of the air: an activation opens connection 0 with the profile's terms
 abbrev pub changeAired : Terms → Aired → ℕ → Change

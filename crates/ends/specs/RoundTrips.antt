@@ -1,21 +1,26 @@
 -- Octets and fields, both ways: what the controller writes is what the host takes for written and reads back, and what the host takes for
 -- written is what its fields make. Every message that the controller sends has its laws here or in Backwards, and so have the air's events.
 -- Assumes nothing.
-use Prim.Native.Nat.{ℕ, _≤_, _<_}
+use Prim.Native.Nat.{ℕ, zero, suc, _≤_, _<_}
 use mathlib.Core.Path.{_≡_}
 use mathlib.Core.Bool.{true, _||_}
-use mathlib.Core.List.{List, [], _∷_}
+use mathlib.Core.List.{List, [], _∷_, _++_}
 use lib.ListN.{length, getD}
-use Rattle.octets.specs.Octets.{Octets, cut}
+use Rattle.octets.specs.Octets.{Octets, pick, cut}
 use Rattle.ends.specs.Kinds.{Terms, Activation, Command}
 use Rattle.ends.specs.Kinds.command as command
 use Rattle.ends.specs.Kinds.notice as notice
 use Rattle.ends.specs.Kinds.answer.{Done, ClosesAll, Sized, Opens, Closes}
 use Rattle.ends.specs.Kinds.heard.{Nothing, Activated, Deactivated}
 use Rattle.ends.specs.Kinds.event.{Found, Poll, Listen}
+use Rattle.state.specs.Names.{statusOk, invalidParam}
 use Rattle.state.specs.Conn.{connOf}
 use Rattle.state.specs.Radio.{polls, listens, idOk}
 use Rattle.state.specs.Profile.{creditsOk}
+use Rattle.config.specs.Table.{configSize, rowOf, knownRow}
+use Rattle.config.specs.Stored.{valueIn, parametersOk}
+use Rattle.config.specs.Commands.{countIn, paramAt, invalidIn, setRsp, askedIn, getRsp}
+use Rattle.nfcc.specs.CommandTrips.{Param, paramsIn}
 use Rattle.messages.specs.Layout.{resetNtf, initRsp, createRsp, creditsNtf, genericErrorNtf, discoverNtf, activatedNtf, deactivateNtf}
 use Rattle.dh.specs.Contents.{createWritten, activatedWritten, written}
 use Rattle.dh.specs.Host.{answerOf, noticed, creditsFor}
@@ -45,6 +50,26 @@ activatedTerms m = record { payload = getD m 4 0; credits = getD m 5 0 }
 abbrev pub activatedParams : Octets → Octets
 activatedParams m = cut 7 (getD m 6 0) m
 
+-- ---- the fields of the configuration responses
+
+-- the IDs that a set's lists
+abbrev pub listedIds : Octets → Octets
+listedIds m = cut 2 (getD m 1 0) m
+
+-- the parameters that a get's lists: what stands after its status has the form of a set's list
+abbrev pub listedParams : Octets → List Param
+listedParams m = paramsIn (cut 1 (length m) m)
+
+-- the first n that are asked for: all of them with their values, or those that are not known, without a value
+unfoldable pub shownParams : Octets → Octets → ℕ → List Param
+shownParams b m zero = []
+shownParams b m (suc n) = shownParams b m n ++ (record { id = askedIn m n; value = valueIn b (rowOf (askedIn m n)) } ∷ [])
+
+unfoldable pub unavailableParams : Octets → ℕ → List Param
+unavailableParams m zero = []
+unavailableParams m (suc n) =
+    unavailableParams m n ++ pick (knownRow (rowOf (askedIn m n))) [] (record { id = askedIn m n; value = [] } ∷ [])
+
 -- ---- the octets of an event
 
 abbrev pub foundOctets : Activation → ℕ → Octets → Octets
@@ -70,6 +95,15 @@ pub record RoundTrips : Type 0 where
   pub create-written : (t : Terms) (id : ℕ) → TermsOk t → 2 ≤ id → id ≤ 5 → written 2 0 4 (createRsp t id) ≡ true
   pub create-read : (t : Terms) (id aim : ℕ) → answerOf command.ConnCreate aim (createRsp t id) ≡ Opens id t
   pub create-back : (m : Octets) → createWritten m ≡ true → createRsp (createTerms m) (getD m 3 0) ≡ m
+  -- CORE_SET_CONFIG_RSP to a whole list: it lists the invalid parameters, in the order given
+  pub set-written : (m : Octets) → paramAt m (countIn m) ≤ 255 → written 2 0 2 (setRsp m) ≡ true
+  pub set-listed : (m : Octets) → listedIds (setRsp m) ≡ invalidIn m (countIn m)
+  pub set-read : (aim : ℕ) (m : Octets) → answerOf command.SetConfig aim m ≡ Done
+  -- CORE_GET_CONFIG_RSP from values that row 1 lets pass, with every status; what it lists is what was asked for, in that order
+  pub get-written : (b m : Octets) → length b ≡ configSize → parametersOk b ≡ true → written 2 0 3 (getRsp b m) ≡ true
+  pub get-shown : (b m : Octets) → getD (getRsp b m) 0 0 ≡ statusOk → listedParams (getRsp b m) ≡ shownParams b m (countIn m)
+  pub get-unavailable : (b m : Octets) → getD (getRsp b m) 0 0 ≡ invalidParam → listedParams (getRsp b m) ≡ unavailableParams m (countIn m)
+  pub get-read : (aim : ℕ) (m : Octets) → answerOf command.GetConfig aim m ≡ Done
   -- CORE_RESET_NTF and CORE_GENERIC_ERROR_NTF: no effect
   pub reset-noted : (type : ℕ) → type ≤ 1 → written 3 0 0 (resetNtf type) ≡ true
   pub reset-heard : (type : ℕ) → noticed notice.Reset (resetNtf type) ≡ Nothing

@@ -31,10 +31,10 @@ verdictOf e gid oid m = judgeOf (e .profile) (e .controller) (openAt (e .conns))
 abbrev pub decided : Ends → ℕ → ℕ → Octets → Decision
 decided e gid oid m = record { verdict = verdictOf e gid oid m; next = endsAfter e (verdictOf e gid oid m) }
 
--- what is answered to a command, d being the decision, and the two buffers before and after it
-pub record Answers (e : Ends) (gid oid : ℕ) (d : Decision) (r : Answered) (rsp ntf rspAfter ntfAfter : Octets) : Type 0 where
+-- what is answered to a command, b being the configuration before it, m its payload, d the decision, and the two buffers before and after it
+pub record Answers (e : Ends) (gid oid : ℕ) (b m : Octets) (d : Decision) (r : Answered) (rsp ntf rspAfter ntfAfter : Octets) : Type 0 where
   pub decision : r .decision ≡ d
-  pub response : Put rsp (responseMessage gid oid (e .profile) (d .verdict)) (r .response) rspAfter
+  pub response : Put rsp (responseMessage gid oid (e .profile) b m (d .verdict)) (r .response) rspAfter
   pub notice : Put ntf (noticeMessage (d .verdict)) (r .notice) ntfAfter
 
 -- ---- the host takes a control message

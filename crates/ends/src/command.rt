@@ -7,6 +7,10 @@ use state::kinds::Ends;
 use state::runs::CONTROL_LIMIT;
 use state::verdict::Verdict;
 ghost use mathlib.Core.Path.{_≡_};
+ghost use Prim.Native.Nat.{_≤_};
+ghost use lib.ListN.{length};
+ghost use Rattle.state.specs.Runs.{controlLimit};
+ghost use Rattle.config.specs.Table.{configSize};
 ghost use Rattle.ends.specs.Steps.{decided, Answers};
 
 // The verdict on a command, and both ends' numbers after it.
@@ -39,20 +43,23 @@ pub fn decide(e: Ends, gid: u8, oid: u8, m: &[u8]) -> Decision
     }
 }
 
-// What the controller answers to a command: the response goes into the first buffer, the notification into the second.
+// What the controller answers to a command: the response goes into the first buffer, the notification into the second. b has the
+// values of the parameters, m is the command's payload.
 pub fn answer(
     e: Ends,
     gid: u8,
     oid: u8,
+    b: &[u8],
     m: &[u8],
     rsp: &mut [u8; CONTROL_LIMIT],
     ntf: &mut [u8; CONTROL_LIMIT],
 ) -> Answered
-    ensures { λ r. ⌜ Answers e gid oid (decided e gid oid (now (m .entry))) r (now (rsp .entry)) (now (ntf .entry)) (now (rsp .exit)) (now (ntf .exit)) ⌝ }
+    requires { ⌜ (length (now b) ≡ configSize) × (length (now m) ≤ controlLimit) ⌝ }
+    ensures { λ r. ⌜ Answers e gid oid (now (b .entry)) (now (m .entry)) (decided e gid oid (now (m .entry))) r (now (rsp .entry)) (now (ntf .entry)) (now (rsp .exit)) (now (ntf .exit)) ⌝ }
 {
     let d = decide(e, gid, oid, m);
     let v = d.verdict;
-    let response = layout::response(rsp, gid, oid, e.profile, v);
+    let response = layout::response(rsp, gid, oid, e.profile, b, m, v);
     let notice = layout::notice(ntf, v);
     Answered {
         decision: d,

@@ -2,30 +2,36 @@
 -- Assumes nothing.
 use Prim.Native.Nat.{ℕ, _≤_}
 use native.Mathlib.Omega.{arith}
-use mathlib.Core.Path.{_≡_}
+use mathlib.Core.Path.{_≡_, refl}
 use mathlib.Core.Bool.{Bool, true, false}
 use mathlib.Core.List.{List, [], _∷_}
 use lib.ListN.{length, length-map}
 use lib.Dec.{eqb}
-use Rattle.octets.specs.Octets.{pick}
+use Rattle.octets.specs.Octets.{Octets, pick}
 use Rattle.state.specs.declared.kinds.Profile.{Profile}
 use Rattle.state.specs.declared.kinds.Counts.{Counts}
 use Rattle.state.specs.declared.verdict.Verdict.{Verdict}
-use Rattle.state.specs.declared.verdict.Verdict.the-variants.{Refuses, Resets, Initialises, Opens, Closes, Turns, Selects, Deactivates}
+use Rattle.state.specs.declared.verdict.Verdict.the-variants.{Refuses, Resets, Initialises, Opens, Closes, Turns, Selects, Deactivates, SetsConfig, GetsConfig}
 use Rattle.state.specs.Runs.{controlLimit}
 use Rattle.messages.specs.Layout.{entryCount, owedOn, owedOf, creditsMessage, responseOf, noticeMessage}
 use Rattle.messages.proofs.Messages.{entries-length}
+use Rattle.config.specs.Commands.{countIn, paramAt}
+use Rattle.config.proofs.Lists.{param-far, invalid-few, get-short}
 
-pub response-short : (p : Profile) (v : Verdict) → length (responseOf p v) ≤ controlLimit
+-- a set's list is whole
+pub response-short : (p : Profile) (b m : Octets) (v : Verdict) → (v ≡ SetsConfig → paramAt m (countIn m) ≤ controlLimit)
+    → length (responseOf p b m v) ≤ controlLimit
 unfolding responseOf
-response-short p (Refuses status) = omega arith
-response-short p (Resets type) = omega arith
-response-short p Initialises = omega arith
-response-short p (Opens id t) = omega arith
-response-short p (Closes id) = omega arith
-response-short p (Turns rf) = omega arith
-response-short p (Selects pair) = omega arith
-response-short p (Deactivates type rf) = omega arith
+response-short p b m (Refuses status) w = omega arith
+response-short p b m (Resets type) w = omega arith
+response-short p b m Initialises w = omega arith
+response-short p b m (Opens id t) w = omega arith
+response-short p b m (Closes id) w = omega arith
+response-short p b m (Turns rf) w = omega arith
+response-short p b m (Selects pair) w = omega arith
+response-short p b m (Deactivates type rf) w = omega arith
+response-short p b m SetsConfig w = omega (arith, w refl, param-far m (countIn m), invalid-few m (countIn m))
+response-short p b m GetsConfig w = get-short b m
 
 pub notice-short : (v : Verdict) → length (noticeMessage v .payload) ≤ controlLimit
 unfolding noticeMessage
@@ -37,6 +43,8 @@ notice-short (Closes id) = omega arith
 notice-short (Turns rf) = omega arith
 notice-short (Selects pair) = omega arith
 notice-short (Deactivates type rf) = omega arith
+notice-short SetsConfig = omega arith
+notice-short GetsConfig = omega arith
 
 -- an entry a connection at most
 entry-count : (owed : List ℕ) → entryCount owed ≤ length owed

@@ -13,9 +13,10 @@ use Rattle.state.specs.declared.kinds.Activation.{Activation}
 use Rattle.state.specs.declared.kinds.ControllerSide.{ControllerSide}
 use Rattle.state.specs.declared.kinds.Counts.{Counts}
 use Rattle.state.specs.declared.verdict.Verdict.{Verdict}
-use Rattle.state.specs.declared.verdict.Verdict.the-variants.{Refuses, Resets, Initialises, Opens, Closes, Turns, Selects, Deactivates}
+use Rattle.state.specs.declared.verdict.Verdict.the-variants.{Refuses, Resets, Initialises, Opens, Closes, Turns, Selects, Deactivates, SetsConfig, GetsConfig}
 use Rattle.messages.specs.declared.layout.Note.{Note}
 use Rattle.state.specs.Conn.{connOf, owing}
+use Rattle.config.specs.Commands.{setRsp, getRsp}
 
 -- a control message that the controller sends
 pub record Message : Type 0 where
@@ -96,20 +97,22 @@ deactivateNtf type reason = type ∷ reason ∷ []
 
 -- ---- what a verdict is answered with
 
--- status first; a status other than 00 stands alone
-unfoldable pub responseOf : Profile → Verdict → Octets
-responseOf p (Refuses status) = status ∷ []
-responseOf p (Resets type) = statusOk ∷ []
-responseOf p Initialises = initRsp (p .control)
-responseOf p (Opens id t) = createRsp t id
-responseOf p (Closes id) = statusOk ∷ []
-responseOf p (Turns rf) = statusOk ∷ []
-responseOf p (Selects pair) = statusOk ∷ []
-responseOf p (Deactivates type rf) = statusOk ∷ []
+-- status first; a status other than 00 stands alone but for 09 of the configuration commands, which lists. b has the values before the command, m is its payload
+unfoldable pub responseOf : Profile → Octets → Octets → Verdict → Octets
+responseOf p b m (Refuses status) = status ∷ []
+responseOf p b m (Resets type) = statusOk ∷ []
+responseOf p b m Initialises = initRsp (p .control)
+responseOf p b m (Opens id t) = createRsp t id
+responseOf p b m (Closes id) = statusOk ∷ []
+responseOf p b m (Turns rf) = statusOk ∷ []
+responseOf p b m (Selects pair) = statusOk ∷ []
+responseOf p b m (Deactivates type rf) = statusOk ∷ []
+responseOf p b m SetsConfig = setRsp m
+responseOf p b m GetsConfig = getRsp b m
 
 -- the same GID and OID as the command's
-abbrev pub responseMessage : ℕ → ℕ → Profile → Verdict → Message
-responseMessage gid oid p v = record { gid = gid; oid = oid; payload = responseOf p v }
+abbrev pub responseMessage : ℕ → ℕ → Profile → Octets → Octets → Verdict → Message
+responseMessage gid oid p b m v = record { gid = gid; oid = oid; payload = responseOf p b m v }
 
 -- the notification after the response
 unfoldable pub noticeMessage : Verdict → Message
@@ -121,3 +124,5 @@ noticeMessage (Closes id) = nothing
 noticeMessage (Turns rf) = nothing
 noticeMessage (Selects pair) = nothing
 noticeMessage (Deactivates type rf) = record { gid = gidRf; oid = oidDeactivate; payload = deactivateNtf type hostRequest }
+noticeMessage SetsConfig = nothing
+noticeMessage GetsConfig = nothing

@@ -1,5 +1,7 @@
 // The octets of every message that the controller sends, written into the caller's buffer. It has room for the
 // longest payload of a control message.
+use config::get;
+use config::set;
 use state::conn::conn_of;
 use state::conn::owing;
 use state::fields;
@@ -18,6 +20,8 @@ ghost use lib.Dec.{eqb};
 ghost use Rattle.octets.specs.Octets.{pick, splice};
 ghost use Rattle.state.specs.Names.{gidCore, gidRf, oidReset, oidGenericError, oidDiscover, oidActivated, oidDeactivate};
 ghost use Rattle.state.specs.Runs.{controlLimit};
+ghost use Rattle.config.specs.Table.{configSize};
+ghost use Rattle.config.specs.Commands.{countIn, paramAt, setRsp, getRsp};
 ghost use Rattle.messages.specs.Layout.{Put, resetNtf, initRsp, createRsp, genericErrorNtf, discoverNtf, activatedNtf, deactivateNtf, creditsMessage, responseMessage, noticeMessage};
 
 // A message that was written: its GID and OID, and its length; length 0 is no message.
@@ -89,9 +93,44 @@ fn create_rsp(out: &mut [u8; CONTROL_LIMIT], gid: u8, oid: u8, t: Terms, id: u8)
     emit(out, gid, oid, &o)
 }
 
-// The response to a command: its GID and OID, and what the verdict is answered with.
-pub fn response(out: &mut [u8; CONTROL_LIMIT], gid: u8, oid: u8, p: Profile, v: Verdict) -> Note
-    ensures { λ r. ⌜ Put (now (out .entry)) (responseMessage gid oid p v) r (now (out .exit)) ⌝ }
+// CORE_SET_CONFIG_RSP (003, Table 11) to a whole list.
+fn set_config_rsp(out: &mut [u8; CONTROL_LIMIT], gid: u8, oid: u8, m: &[u8]) -> Note
+    requires { ⌜ paramAt (now m) (countIn (now m)) ≤ controlLimit ⌝ }
+    ensures { λ r. ⌜ Put (now (out .entry)) (record { gid = gid; oid = oid; payload = setRsp (now (m .entry)) }) r (now (out .exit)) ⌝ }
+{
+    let n = set::set_rsp(out, m);
+    Note {
+        gid: gid,
+        oid: oid,
+        len: n,
+    }
+}
+
+// CORE_GET_CONFIG_RSP (003, Table 12).
+fn get_config_rsp(out: &mut [u8; CONTROL_LIMIT], gid: u8, oid: u8, b: &[u8], m: &[u8]) -> Note
+    requires { ⌜ length (now b) ≡ configSize ⌝ }
+    ensures { λ r. ⌜ Put (now (out .entry)) (record { gid = gid; oid = oid; payload = getRsp (now (b .entry)) (now (m .entry)) }) r (now (out .exit)) ⌝ }
+{
+    let n = get::get_rsp(out, b, m);
+    Note {
+        gid: gid,
+        oid: oid,
+        len: n,
+    }
+}
+
+// The response to a command: its GID and OID, and what the verdict is answered with. b has the values, m is the command's payload.
+pub fn response(
+    out: &mut [u8; CONTROL_LIMIT],
+    gid: u8,
+    oid: u8,
+    p: Profile,
+    b: &[u8],
+    m: &[u8],
+    v: Verdict,
+) -> Note
+    requires { ⌜ (length (now b) ≡ configSize) × (v ≡ Verdict.SetsConfig → paramAt (now m) (countIn (now m)) ≤ controlLimit) ⌝ }
+    ensures { λ r. ⌜ Put (now (out .entry)) (responseMessage gid oid p (now (b .entry)) (now (m .entry)) v) r (now (out .exit)) ⌝ }
 {
     match v {
         Verdict::Refuses(s) => status(out, gid, oid, s),
@@ -102,6 +141,8 @@ pub fn response(out: &mut [u8; CONTROL_LIMIT], gid: u8, oid: u8, p: Profile, v: 
         Verdict::Turns(_) => status(out, gid, oid, names::STATUS_OK),
         Verdict::Selects(_) => status(out, gid, oid, names::STATUS_OK),
         Verdict::Deactivates(_, _) => status(out, gid, oid, names::STATUS_OK),
+        Verdict::SetsConfig => set_config_rsp(out, gid, oid, m),
+        Verdict::GetsConfig => get_config_rsp(out, gid, oid, b, m),
     }
 }
 
@@ -150,6 +191,8 @@ pub fn notice(out: &mut [u8; CONTROL_LIMIT], v: Verdict) -> Note
         Verdict::Turns(_) => no_message(),
         Verdict::Selects(_) => no_message(),
         Verdict::Deactivates(kind, _) => deactivate_ntf(out, kind, names::HOST_REQUEST),
+        Verdict::SetsConfig => no_message(),
+        Verdict::GetsConfig => no_message(),
     }
 }
 

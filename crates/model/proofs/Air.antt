@@ -183,6 +183,7 @@ module _ (s : State) (aim : ℕ) (l : ℕ → Ledger) (ps : List Octets) (a : Ai
         heard = f .heard;
         standing = standing-change change (isActive (k .rf)) (aired-ok (s .profile) a) there (f .standing);
         limits = f .limits;
+        config = f .config;
       }
 
 -- ---- a message of the endpoint
@@ -211,6 +212,7 @@ speaks-keeps s aim l m short active silent f =
             heard = f .heard;
             standing = standing-at 0 (spoken (segments 255 m)) (λ k. refl) (λ k. refl) (f .standing .stores 0) (f .standing);
             limits = f .limits;
+            config = f .config;
           };
     }
 

@@ -106,6 +106,8 @@ module _ (d : ℕ) where
   answer-keeps gid oid f command.Select n aim m = tt
   answer-keeps gid oid f command.Deactivate n aim m = tt
   answer-keeps gid oid f command.Unknown n aim m = tt
+  answer-keeps gid oid f command.SetConfig n aim m = tt
+  answer-keeps gid oid f command.GetConfig n aim m = tt
 
   answered-keeps : (gid oid : ℕ) → closing (named gid oid) ≡ false → (aim : ℕ) (m : Octets)
       → Keeps m (Answered (answerOf (commandOf gid oid) aim m))

@@ -121,6 +121,7 @@ module _ (s : State) (aim : ℕ) (l : ℕ → Ledger) (c : ℕ) (p : Octets) (st
         heard = f .heard;
         standing = standing-at c (λ k. paid (eaten k)) (λ k. refl) (λ k. refl) rest-stored (f .standing);
         limits = f .limits;
+        config = f .config;
       }
 
   plain : isLoop c ≡ false → Kept (next eaten []) (counted [])
@@ -141,6 +142,7 @@ module _ (s : State) (aim : ℕ) (l : ℕ → Ledger) (c : ℕ) (p : Octets) (st
         heard = f .heard;
         standing = standing-at c eaten (λ k. refl) (λ k. refl) rest-stored (f .standing);
         limits = f .limits;
+        config = f .config;
       })
 
   consumed-fine : Kept (consumedAs c (x ∷ []) p st s .next) (tallied (consume c) (eventOf (consume c) (record { answer = taken; effect = consumedAs c (x ∷ []) p st s })) (accountOf s aim l))
@@ -213,6 +215,7 @@ module _ (s : State) (aim : ℕ) (l : ℕ → Ledger) where
         heard = f .heard;
         standing = record { stores = f .standing .stores; air = f .standing .air; known = f .standing .known; granted = f .standing .granted };
         limits = f .limits;
+        config = f .config;
       }
     where
       note : Octets
@@ -254,6 +257,7 @@ module _ (s : State) (aim : ℕ) (l : ℕ → Ledger) where
             heard = f .heard;
             standing = standing-at 0 (λ k. paid (spoken h k)) (λ k. refl) (λ k. refl) (f .standing .stores 0) (f .standing);
             limits = f .limits;
+            config = f .config;
           }
         where
           back : ℕ

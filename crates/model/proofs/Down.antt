@@ -21,7 +21,7 @@ use Rattle.model.specs.calls.Down.{answering, asked, arriving, takingDow
 use Rattle.model.specs.Bench.{rules}
 use Rattle.model.specs.Observer.{Ledger, Account, arrivedL, arrival, putsUp, eventOf}
 use Rattle.model.specs.invariant.Items.{itemsOf, segsIn, segsOf}
-use Rattle.model.specs.invariant.Commands.{named, headsIn, heads, ordersIn, replies, NoDatum, Tidy}
+use Rattle.model.specs.invariant.Commands.{named, headsIn, heads, ordersIn, replies, NoDatum, Tidy, Aims}
 use Rattle.model.specs.invariant.Bench.{Order, Fine, Kept, Keeps, GoodAt, accountOf, tallied}
 use Rattle.model.proofs.Cases.{clash, each, right-nil}
 use Rattle.model.proofs.Needs.{need}
@@ -29,6 +29,7 @@ use Rattle.model.proofs.Acts.{deliver-good, drop-good}
 use Rattle.nfcc.proofs.Verdicts.{Fits, judge-fits, judge-legal}
 use Rattle.model.proofs.Order.{one-only, other-way, way-run, way-more, way-last, way-low, way-small}
 use Rattle.model.proofs.Fine.{stored-append, order-open, at-keeps, standing-at}
+use Rattle.model.proofs.Messages.{judge-answerable}
 use Rattle.model.proofs.DownAnswer.{Behind, decided-keeps}
 
 -- what is seen of a packet that the controller takes
@@ -63,12 +64,13 @@ module _ (s : State) (aim : ℕ) (l : ℕ → Ledger) (p : Octets) (w : List Oct
                     tidy = λ x. rw (means, i .ends) at (f .order .tidy x);
                     empty = λ x e. (f .order .empty x (rw (means, i .head) e)) .1;
                   };
-              way = other-way aim (s .asking) p w (f .way) (rw means (i .order));
+              way = other-way (Aims aim) (s .asking) p w (f .way) (rw means (i .order));
               aimed = f .aimed;
               sound = f .sound;
               heard = f .heard;
               standing = f .standing;
               limits = f .limits;
+              config = f .config;
             };
       }
 
@@ -119,12 +121,13 @@ module _ (s : State) (aim : ℕ) (l : ℕ → Ledger) (p : Octets) (w : List Oct
                     → GoodAt d (pick b (withController (stored p (s .conns d .controller)) (s .conns d)) (s .conns d)) (segsOf d w) (itemsOf aim d (s .up)) (pick b (pick (l d .controller .opened) (arrivedL (l d)) (l d)) (l d)))
                     (λ g. deliver-good p x (rw means refl) here g) (λ d g. g) d (data-good d);
                 order = order-open (λ d z. at-keeps c (λ k. withController (stored p (k .controller)) k) (s .conns) (λ k. k .controller .opened) (λ k. refl) d) data-order;
-                way = other-way aim (s .asking) p w (f .way) (rw means refl);
+                way = other-way (Aims aim) (s .asking) p w (f .way) (rw means refl);
                 aimed = f .aimed;
                 sound = f .sound;
                 heard = f .heard;
                 standing = standing-at c (stored p) (λ k. refl) (λ k. refl) (stored-append c (s .conns c .controller .store) (p ∷ []) (f .standing .stores c) (rw means (refl, tt))) (f .standing);
                 limits = f .limits;
+                config = f .config;
               };
         }
 
@@ -144,12 +147,13 @@ module _ (s : State) (aim : ℕ) (l : ℕ → Ledger) (p : Octets) (w : List Oct
                     → GoodAt d (s .conns d) (segsOf d w) (itemsOf aim d (s .up)) (pick b (pick (l d .controller .opened) (arrivedL (l d)) (l d)) (l d)))
                     (λ g. drop-good x shut g) (λ d g. g) d (data-good d);
                 order = data-order;
-                way = other-way aim (s .asking) p w (f .way) (rw means refl);
+                way = other-way (Aims aim) (s .asking) p w (f .way) (rw means refl);
                 aimed = f .aimed;
                 sound = f .sound;
                 heard = f .heard;
                 standing = f .standing;
                 limits = f .limits;
+                config = f .config;
               };
         }
 
@@ -180,12 +184,13 @@ module _ (s : State) (aim : ℕ) (l : ℕ → Ledger) (p : Octets) (w : List Oct
                       tidy = λ x. rw means at (f .order .tidy x);
                       empty = λ x e. (f .order .empty x (rw means e)) .1;
                     };
-                way = way-more aim (s .asking) p w mt gid oid b means order (f .way);
+                way = way-more (Aims aim) (s .asking) p w mt gid oid b means order (f .way);
                 aimed = f .aimed;
                 sound = f .sound;
                 heard = f .heard;
                 standing = f .standing;
                 limits = f .limits;
+                config = f .config;
               };
         }
 
@@ -201,7 +206,7 @@ module _ (s : State) (aim : ℕ) (l : ℕ → Ledger) (p : Octets) (w : List Oct
       unfolding after-last segsOf Tidy
       last-behind =
           let q = one-only [] (heads w ++ replies (s .up)) (named gid oid) (s .host .pending) (rw last-head at (f .order .single)) in
-          let whole = way-last aim (s .asking) p w mt gid oid b means order (f .way) in
+          let whole = way-last (Aims aim) (s .asking) p w mt gid oid b means order (f .way) in
           record {
             good = λ d. rw means at (f .good d);
             clear = λ d z o. rw means at (f .order .clear d z o);
@@ -210,29 +215,31 @@ module _ (s : State) (aim : ℕ) (l : ℕ → Ledger) (p : Octets) (w : List Oct
             bare = λ x. rw (means, order) at (f .order .tidy x);
             standing = f .standing;
             limits = f .limits;
+            config = f .config;
             way = whole .rest;
             aimed = f .aimed;
             sound = f .sound;
             heard = f .heard;
-            low = way-low aim (s .asking) p w mt gid oid (last b) means order (f .way);
-            small = way-small aim (s .asking) p w mt gid oid (last b) means order (f .way);
+            low = way-low (Aims aim) (s .asking) p w mt gid oid (last b) means order (f .way);
+            small = way-small (Aims aim) (s .asking) p w mt gid oid (last b) means order (f .way);
           }
 
       whole-command : finished controlLimit (run (f .way .so-far)) (last b) ≡ (f .way .so-far ++ b) ∷ []
       whole-command =
-          let whole = way-last aim (s .asking) p w mt gid oid b means order (f .way) in
+          let whole = way-last (Aims aim) (s .asking) p w mt gid oid b means order (f .way) in
           rw (within controlLimit (f .way .so-far) b (whole .short))
 
       last-keeps : Kept (askedAs (run (f .way .so-far)) gid oid (last b) .next) (counted w s aim l (control mt gid oid (last b)) (askedAs (run (f .way .so-far)) gid oid (last b) .toUp))
       unfolding after-last
       last-keeps =
-          let whole = way-last aim (s .asking) p w mt gid oid b means order (f .way) in
+          let whole = way-last (Aims aim) (s .asking) p w mt gid oid b means order (f .way) in
           let m = f .way .so-far ++ b in
           let v = judgeOf (s .profile) (s .controller) (isOpen after-last) gid oid m in
           rw whole-command
-          (decided-keeps after-last aim l gid oid last-behind v
-          (subst (λ (n : ℕ). Fits gid oid n (s .profile) v) (whole .aimed) (judge-fits (s .profile) (s .controller) (isOpen after-last) gid oid m))
-          (judge-legal (isOpen after-last) (s .profile) (s .controller) gid oid m))
+          (decided-keeps after-last aim l gid oid last-behind m v
+          (subst (λ (n : ℕ). Fits gid oid n (s .profile) v) (whole .as-taken) (judge-fits (s .profile) (s .controller) (isOpen after-last) gid oid m))
+          (judge-legal (isOpen after-last) (s .profile) (s .controller) gid oid m)
+          (judge-answerable (s .profile) (s .controller) (isOpen after-last) gid oid (s .config) m (f .config) (whole .short)))
 
   asked-keeps : (mt gid oid : ℕ) → eqb mt 1 ≡ true → (x : Segment) → meaning p ≡ control mt gid oid x
       → Kept (askedAs (run (f .way .so-far)) gid oid x .next) (counted w s aim l (control mt gid oid x) (askedAs (run (f .way .so-far)) gid oid x .toUp))
@@ -248,7 +255,7 @@ module _ (s : State) (aim : ℕ) (l : ℕ → Ledger) (p : Octets) (w : List Oct
   arriving-keeps (datum c n x) means = on (Arrives (datum c n x)) (isOpen s c) (λ e. stored-keeps c n x means e) (λ e. dropped-keeps c n x means e)
   arriving-keeps (control mt gid oid x) means =
       on (Arrives (control mt gid oid x)) (eqb mt 1)
-      (λ e. subst (λ (r : Run). Arrives (control mt gid oid x) (askedAs r gid oid x)) (sym (way-run aim (s .asking) p w mt gid oid x means e (f .way))) (asked-keeps mt gid oid e x means))
+      (λ e. subst (λ (r : Run). Arrives (control mt gid oid x) (askedAs r gid oid x)) (sym (way-run (Aims aim) (s .asking) p w mt gid oid x means e (f .way))) (asked-keeps mt gid oid e x means))
       (λ e. ignored-keeps (control mt gid oid x) means (not-asked mt gid oid x e))
   arriving-keeps junk means = ignored-keeps junk means junk-ignored
 

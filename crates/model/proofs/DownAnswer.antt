@@ -34,13 +34,14 @@ use Rattle.model.specs.Changes.{atController}
 use Rattle.model.specs.calls.Down.{answers, deciding}
 use Rattle.model.specs.Observer.{Ledger, putsUp}
 use Rattle.model.specs.invariant.Items.{putsL, Item, itemsBy, itemsOf, segsOf}
-use Rattle.model.specs.invariant.Commands.{OnItsWay, Name, named, heads, replies, pendingName, NoData}
-use Rattle.model.specs.invariant.Bench.{Aimed, Kept, GoodAt, Sound, Standing, accountOf}
+use Rattle.model.specs.invariant.Commands.{Aims, OnItsWay, Name, named, heads, replies, pendingName, NoData}
+use Rattle.model.specs.invariant.Bench.{Aimed, Kept, GoodAt, Sound, Standing, ConfigWithin, accountOf}
 use Rattle.model.proofs.Cases.{clash, each, right-nil}
 use Rattle.model.proofs.Acts.{MayPut, puts-good}
 use Rattle.nfcc.proofs.Verdicts.{Fits, Legal}
 use Rattle.model.proofs.Meanings.{itemsOf-append, meaning-notice}
-use Rattle.model.proofs.Messages.{answeredBy, says-response, items-answers, Notices, notices-verdict, meaning-answer}
+use Rattle.model.proofs.Parameters.{after-within}
+use Rattle.model.proofs.Messages.{answeredBy, Answerable, says-response, items-answers, Notices, notices-verdict, meaning-answer}
 use Rattle.model.proofs.Order.{replies-append, no-segs, no-data-tidy}
 use Rattle.model.proofs.Closing.{closing-reset, closing-close, closing, closing-pending, no-close, shut-now}
 use Rattle.model.proofs.Fine.{ChangeOk, standing-change, sound-control, kept, Plain, puts-change, put-all, sound-append}
@@ -56,6 +57,8 @@ verdict-plain (verdict.Closes c) d = on Plain (eqb c d) (λ e. tt) (λ e. tt)
 verdict-plain (verdict.Turns rf) d = tt
 verdict-plain (verdict.Selects pair) d = tt
 verdict-plain (verdict.Deactivates type rf) d = on Plain (eqb 0 d) (λ e. tt) (λ e. tt)
+verdict-plain verdict.SetsConfig d = tt
+verdict-plain verdict.GetsConfig d = tt
 
 -- a dynamic Conn ID is one of the five
 pub dynamic-conn : (c : ℕ) → 2 ≤ c → c ≤ 5 → noConn c ≡ false
@@ -68,10 +71,10 @@ unfolding replies
 notices-replies [] n = refl
 notices-replies (p ∷ ps) n = rw (n .0 .3) (notices-replies ps (n .1))
 
-answers-replies : (gid oid : ℕ) (p : Profile) (v : Verdict) → gid < 16 → oid < 64 → replies (answers gid oid p v) ≡ named gid oid ∷ []
+answers-replies : (gid oid : ℕ) (p : Profile) (b m : Octets) (v : Verdict) → gid < 16 → oid < 64 → replies (answers gid oid p b m v) ≡ named gid oid ∷ []
 unfolding replies
-answers-replies gid oid p v low small =
-    rw (meaning-answer gid oid p v low small) (ap (λ (ns : List Name). named gid oid ∷ ns) (notices-replies (noticePackets (noticeMessage v)) (notices-verdict v)))
+answers-replies gid oid p b m v low small =
+    rw (meaning-answer gid oid p b m v low small) (ap (λ (ns : List Name). named gid oid ∷ ns) (notices-replies (noticePackets (noticeMessage v)) (notices-verdict v)))
 
 pub notice-sound : (gid oid : ℕ) (m : Octets) → gid < 16 → oid < 64 → length m ≤ controlLimit
     → Sound (noticePackets (record { gid = gid; oid = oid; payload = m }))
@@ -88,6 +91,8 @@ verdict-sound (verdict.Closes c) = tt
 verdict-sound (verdict.Turns rf) = tt
 verdict-sound (verdict.Selects pair) = tt
 verdict-sound (verdict.Deactivates type rf) = notice-sound 1 6 (deactivateNtf type 0x00) (omega arith) (omega arith) (omega arith)
+verdict-sound verdict.SetsConfig = tt
+verdict-sound verdict.GetsConfig = tt
 
 -- a response that says something was written
 answered-written : (aim gid oid : ℕ) (m : Octets) (a : Answer) → says aim 2 gid oid m ≡ Answered a → written 2 gid oid m ≡ true
@@ -97,11 +102,13 @@ answered-written aim gid oid m a e = go (written 2 gid oid m) refl e
     go true w h = w
     go false w h = absurd (let z : _≡_ {A = ℕ} 0 1 = cc in omega arith)
 
-answers-sound : (aim gid oid : ℕ) (p : Profile) (v : Verdict) → ProfileWithin p → Fits gid oid aim p v → gid < 16 → oid < 64 → Sound (answers gid oid p v)
-answers-sound aim gid oid p v limits f low small =
-    sound-append (responsePacket (responseMessage gid oid p v) ∷ []) (noticePackets (noticeMessage v))
-    (sound-control (responsePacket (responseMessage gid oid p v)) 2 gid oid (responseOf p v) (meaning-answer gid oid p v low small)
-    (inl (refl, answered-written aim gid oid (responseOf p v) (answeredBy p v) (says-response p limits aim gid oid v f))) (response-short p v))
+answers-sound : (aim gid oid : ℕ) (p : Profile) (b m : Octets) (v : Verdict) → ProfileWithin p → Fits gid oid aim p v → Answerable b m v → gid < 16 → oid < 64
+    → Sound (answers gid oid p b m v)
+answers-sound aim gid oid p b m v limits f a low small =
+    let r = responseOf p b m v in
+    sound-append (responsePacket (responseMessage gid oid p b m v) ∷ []) (noticePackets (noticeMessage v))
+    (sound-control (responsePacket (responseMessage gid oid p b m v)) 2 gid oid r (meaning-answer gid oid p b m v low small)
+    (inl (refl, answered-written aim gid oid r (answeredBy p v) (says-response p limits aim b m gid oid v f a))) (response-short p b m v (a .whole)))
     (verdict-sound v)
 
 -- what a verdict opens is the profile's
@@ -114,6 +121,8 @@ verdict-ok gid oid aim p (verdict.Closes c) f d = on (ChangeOk p d) (eqb c d) (�
 verdict-ok gid oid aim p (verdict.Turns rf) f d = tt
 verdict-ok gid oid aim p (verdict.Selects pair) f d = tt
 verdict-ok gid oid aim p (verdict.Deactivates type rf) f d = on (ChangeOk p d) (eqb 0 d) (λ e. tt) (λ e. tt)
+verdict-ok gid oid aim p verdict.SetsConfig f d = tt
+verdict-ok gid oid aim p verdict.GetsConfig f d = tt
 
 -- the state behind the command's last packet: no other command is under way, and nothing was pushed behind one that closes
 pub record Behind (s : State) (aim : ℕ) (l : ℕ → Ledger) (gid oid : ℕ) : Type 0 where
@@ -124,7 +133,8 @@ pub record Behind (s : State) (aim : ℕ) (l : ℕ → Ledger) (gid oid : ℕ) :
   pub bare : isClosing (s .host .pending) ≡ true → NoData (s .down)
   pub standing : Standing (s .conns) (isActive (s .controller .rf)) (s .profile)
   pub limits : ProfileWithin (s .profile)
-  pub way : OnItsWay aim (s .asking) (s .down)
+  pub config : ConfigWithin (s .config)
+  pub way : OnItsWay (Aims aim) (s .asking) (s .down)
   pub aimed : Aimed (s .host .pending) aim
   pub sound : Sound (s .up)
   pub heard : s .hearing .run ≡ run []
@@ -162,6 +172,8 @@ module _ (s : State) (aim : ℕ) (l : ℕ → Ledger) (gid oid : ℕ) (b : Behin
   verdict-may (verdict.Turns rf) f g d = tt
   verdict-may (verdict.Selects pair) f g d = tt
   verdict-may (verdict.Deactivates type rf) f g d = each 0 (λ d b. May d (itemsBy (pick b closes stays))) tt (λ d. tt) d
+  verdict-may verdict.SetsConfig f g d = tt
+  verdict-may verdict.GetsConfig f g d = tt
 
   abbrev Clear : ℕ → Change → Type 0
   Clear d c = atController c (s .conns d .controller) .opened ≡ false → segsOf d (s .down) ≡ []
@@ -175,6 +187,8 @@ module _ (s : State) (aim : ℕ) (l : ℕ → Ledger) (gid oid : ℕ) (b : Behin
   verdict-clear (verdict.Turns rf) f d z = b .clear d z
   verdict-clear (verdict.Selects pair) f d z = b .clear d z
   verdict-clear (verdict.Deactivates type rf) f d z = rw z (b .clear d z)
+  verdict-clear verdict.SetsConfig f d z = b .clear d z
+  verdict-clear verdict.GetsConfig f d z = b .clear d z
 
   swap : (c : ℕ) → eqb 0 c ≡ false → eqb c 0 ≡ false
   swap c e = ne-eqb c 0 (λ (z : c ≡ 0). eqb-false 0 c e (sym z))
@@ -190,32 +204,35 @@ module _ (s : State) (aim : ℕ) (l : ℕ → Ledger) (gid oid : ℕ) (b : Behin
   verdict-air (verdict.Turns rf) f g = g .1 ∙ sym (g .0) ∙ b .standing .air
   verdict-air (verdict.Selects pair) f g = sym g ∙ b .standing .air
   verdict-air (verdict.Deactivates type rf) f g = g .1
+  verdict-air verdict.SetsConfig f g = b .standing .air
+  verdict-air verdict.GetsConfig f g = b .standing .air
 
-  pub decided-keeps : (v : Verdict) → Fits gid oid aim (s .profile) v → Legal (s .controller .rf) (isOpen s) v
-      → Kept (deciding gid oid v s .next) (putsUp (answers gid oid (s .profile) v) (accountOf s aim l))
-  decided-keeps v f g =
+  pub decided-keeps : (m : Octets) (v : Verdict) → Fits gid oid aim (s .profile) v → Legal (s .controller .rf) (isOpen s) v
+      → Answerable (s .config) m v → Kept (deciding gid oid m v s .next) (putsUp (answers gid oid (s .profile) (s .config) m v) (accountOf s aim l))
+  decided-keeps m v f g a =
       kept
       record {
         good =
             λ d.
-            rw (put-all aim d ps (l d), itemsOf-append aim d (s .up) ps, items-answers (s .profile) (b .limits) aim d gid oid (b .low) (b .small) v f)
+            rw (put-all aim d ps (l d), itemsOf-append aim d (s .up) ps, items-answers (s .profile) (b .limits) aim d gid oid (s .config) m (b .low) (b .small) v f a)
             (subst (λ (k : Connection). GoodAt d k (segsOf d (s .down)) (itemsOf aim d (s .up) ++ itemsBy (changeBy v d)) (putsL (itemsBy (changeBy v d)) (l d)))
             (puts-change (changeBy v d) (s .conns d) (verdict-plain v d))
             (puts-good (itemsBy (changeBy v d)) (verdict-may v f g d) (b .good d)));
         order =
             record {
               clear = verdict-clear v f;
-              single = rw (replies-append (s .up) ps, answers-replies gid oid (s .profile) v (b .low) (b .small), ← append-assoc, b .alone) (sym (b .asked));
+              single = rw (replies-append (s .up) ps, answers-replies gid oid (s .profile) (s .config) m v (b .low) (b .small), ← append-assoc, b .alone) (sym (b .asked));
               tidy = λ x. no-data-tidy (s .down) (b .bare x);
               empty = λ x e. b .bare x;
             };
         way = b .way;
         aimed = b .aimed;
-        sound = sound-append (s .up) ps (b .sound) (answers-sound aim gid oid (s .profile) v (b .limits) f (b .low) (b .small));
+        sound = sound-append (s .up) ps (b .sound) (answers-sound aim gid oid (s .profile) (s .config) m v (b .limits) f a (b .low) (b .small));
         heard = b .heard;
         standing = standing-change (changeBy v) (isActive (controllerAfter (s .controller) v .rf)) (verdict-ok gid oid aim (s .profile) v f) (verdict-air v f g) (b .standing);
         limits = b .limits;
+        config = after-within (s .config) m v (b .config);
       }
     where
       ps : List Octets
-      ps = answers gid oid (s .profile) v
+      ps = answers gid oid (s .profile) (s .config) m v

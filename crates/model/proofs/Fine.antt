@@ -26,10 +26,11 @@ use Rattle.model.specs.Changes.{atController, atHost}
 use Rattle.model.specs.calls.Consume.{isLoop}
 use Rattle.model.specs.Observer.{Ledger, blank, putBy, readBy, putAll, changeIn}
 use Rattle.model.specs.invariant.Items.{Item, loaded, itemsBy, itemsIn, itemsOf, segsOf, putsK, readsK, putsL, readsL}
-use Rattle.model.specs.invariant.Commands.{heads, replies, Tidy, Name}
+use Rattle.model.specs.invariant.Commands.{heads, replies, Tidy, Name, Aims}
 use Rattle.model.specs.invariant.Bench.{Order, SoundIn, Sound, StoredIn, StoredFor, Standing, Fine, Kept, accountOf}
 use Rattle.model.proofs.Cases.{clash, each, each-append}
 use Rattle.model.proofs.Acts.{cold-good}
+use Rattle.model.proofs.Parameters.{defaults-within}
 use Rattle.model.proofs.Order.{no-way}
 use Rattle.state.specs.Profile.{ProfileWithin}
 
@@ -210,10 +211,11 @@ cold-fine p h =
     record {
       good = λ d. cold-good (isLoop d);
       order = record { clear = λ d z c. refl; single = refl; tidy = λ b. tt; empty = λ b e. tt };
-      way = no-way 0;
+      way = no-way (Aims 0);
       aimed = tt;
       sound = tt;
       heard = refl;
       standing = record { stores = λ d. tt; air = refl; known = λ d e. refl; granted = λ d e. clash e refl };
       limits = h;
+      config = defaults-within;
     }

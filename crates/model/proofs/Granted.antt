@@ -7,7 +7,7 @@ use lib.Dec.{eqb}
 use lib.ListN.{length, getD}
 use Rattle.octets.specs.Octets.{Octets, pick}
 use Rattle.model.specs.Kinds.{Terms, Command, Notice}
-use Rattle.model.specs.Kinds.command.{Reset, Init, ConnCreate, ConnClose, Discover, Select, Deactivate, Unknown}
+use Rattle.model.specs.Kinds.command.{Reset, Init, ConnCreate, ConnClose, Discover, Select, Deactivate, Unknown, SetConfig, GetConfig}
 use Rattle.model.specs.Kinds.notice as notice
 use Rattle.model.specs.Kinds.answer.{Done}
 use Rattle.model.specs.Kinds.heard.{Nothing, Answered}
@@ -44,6 +44,8 @@ module _ (m : Octets) (d : ℕ) where
   answer-octet Select aim h = tt
   answer-octet Deactivate aim h = tt
   answer-octet Unknown aim h = tt
+  answer-octet SetConfig aim h = tt
+  answer-octet GetConfig aim h = tt
 
   response-octet : (c : Command) (aim : ℕ) → (statusAlone m || okWritten c m) ≡ true → GrantsOctet (changeHeard (Answered (answerOf c aim m)) m d)
   unfolding answerOf

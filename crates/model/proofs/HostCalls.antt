@@ -19,14 +19,14 @@ use Rattle.packets.specs.Headers.{dataHeader, controlHeader}
 use Rattle.wires.specs.Meaning.{datum, control, meaning}
 use Rattle.model.specs.State.{State, at}
 use Rattle.model.specs.Effects.{taken, fresh, power, command, send, push, report}
-use Rattle.model.specs.Refusals.{isNil, noConn}
+use Rattle.model.specs.Refusals.{isNil, noConn, first}
 use Rattle.dh.specs.Host.{isClosing}
 use Rattle.model.specs.calls.Push.{pushing}
 use Rattle.model.specs.Bench.{rules}
 use Rattle.model.specs.Observer.{Ledger, sentL, pushedL, eventOf}
 use Rattle.model.specs.invariant.Items.{itemsOf, segsOf}
-use Rattle.model.specs.invariant.Commands.{heads, replies}
-use Rattle.model.specs.invariant.Bench.{accountOf, Kept, Keeps, GoodAt, tallied}
+use Rattle.model.specs.invariant.Commands.{heads, replies, Aims}
+use Rattle.model.specs.invariant.Bench.{accountOf, Fine, Kept, Keeps, GoodAt, tallied}
 use Rattle.model.proofs.Cases.{clash, each, nil-of, left-nil, right-nil}
 use Rattle.model.proofs.Needs.{need}
 use Rattle.model.proofs.Link.{credit-left}
@@ -47,31 +47,28 @@ module _ (s : State) (aim : ℕ) (l : ℕ → Ledger) where
   pub report-keeps : (c : ℕ) → Keeps (report c) s aim l
   report-keeps c t f = kept f
 
-  pub command-keeps : (gid oid : ℕ) (m : Octets) → Keeps (command gid oid m) s aim l
-  command-keeps gid oid m t f =
-      kept
+  -- what is known of a command that is taken: it fits its packets, and none is under way
+  pub record Commanded (gid oid : ℕ) (m : Octets) : Type 0 where
+    pub low : gid < 16
+    pub small : oid < 64
+    pub short : length m ≤ controlLimit
+    pub means : (x : Segment) → meaning (segmentPacket (controlHeader 1 gid oid) x) ≡ control 1 gid oid x
+    pub no-heads : heads (s .down) ≡ []
+    pub no-replies : replies (s .up) ≡ []
+
+  pub commanded : (gid oid : ℕ) (m : Octets) → first (rules (command gid oid m) s) ≡ taken → Fine s aim l → Commanded gid oid m
+  commanded gid oid m t f =
       record {
-        good = λ d. rw (segs d, items-aim (aimIn m) aim d (s .up) no-replies) (f .good d);
-        order =
-            record {
-              clear = λ d z c. rw (segs d) (f .order .clear d z c);
-              single = rw (heads-append (s .down) ps, ordered-heads gid oid means (s .host .size) m, no-heads, no-replies);
-              tidy = λ b. tidy-append (s .down) ps no-heads (no-data-tidy ps (ordered-no-data gid oid means (segments (s .host .size) m)));
-              empty = λ b e. absurd (cons≢nil (right-nil (heads (s .down)) (rw (heads-append (s .down) ps, ordered-heads gid oid means (s .host .size) m) at e)));
-            };
-        way = command-way aim (s .host .size) (s .asking) (s .down) gid oid m low small means short no-heads (f .way);
-        aimed = refl;
-        sound = f .sound;
-        heard = f .heard;
-        standing = f .standing;
-        limits = f .limits;
+        low = low;
+        small = small;
+        short = ltb-false _ _ (or-right (ltb 15 gid || ltb 63 oid) (ltb 255 (length m)) third);
+        means = meaning-command gid oid low small;
+        no-heads = left-nil (heads (s .down)) (replies (s .up)) idle;
+        no-replies = right-nil (heads (s .down)) idle;
       }
     where
       third : (ltb 15 gid || ltb 63 oid || ltb 255 (length m)) ≡ false
       third = need 3 (rules (command gid oid m) s) t
-
-      ps : List Octets
-      ps = packetsOf (controlHeader 1 gid oid) (s .host .size) m
 
       low : gid < 16
       low = let h : gid ≤ 15 = ltb-false 15 gid (or-left (ltb 15 gid) (ltb 63 oid) (or-left (ltb 15 gid || ltb 63 oid) (ltb 255 (length m)) third)) in omega arith
@@ -79,23 +76,38 @@ module _ (s : State) (aim : ℕ) (l : ℕ → Ledger) where
       small : oid < 64
       small = let h : oid ≤ 63 = ltb-false 63 oid (or-right (ltb 15 gid) (ltb 63 oid) (or-left (ltb 15 gid || ltb 63 oid) (ltb 255 (length m)) third)) in omega arith
 
-      short : length m ≤ controlLimit
-      short = ltb-false _ _ (or-right (ltb 15 gid || ltb 63 oid) (ltb 255 (length m)) third)
-
-      means : (x : Segment) → meaning (segmentPacket (controlHeader 1 gid oid) x) ≡ control 1 gid oid x
-      means = meaning-command gid oid low small
-
       idle : heads (s .down) ++ replies (s .up) ≡ []
       idle = f .order .single ∙ idle-pending (s .host .pending) (need 5 (rules (command gid oid m) s) t)
 
-      no-heads : heads (s .down) ≡ []
-      no-heads = left-nil (heads (s .down)) (replies (s .up)) idle
+  pub command-keeps : (gid oid : ℕ) (m : Octets) → Keeps (command gid oid m) s aim l
+  command-keeps gid oid m t f =
+      kept
+      record {
+        good = λ d. rw (segs d, items-aim (aimIn m) aim d (s .up) (k .no-replies)) (f .good d);
+        order =
+            record {
+              clear = λ d z c. rw (segs d) (f .order .clear d z c);
+              single = rw (heads-append (s .down) ps, ordered-heads gid oid (k .means) (s .host .size) m, k .no-heads, k .no-replies);
+              tidy = λ b. tidy-append (s .down) ps (k .no-heads) (no-data-tidy ps (ordered-no-data gid oid (k .means) (segments (s .host .size) m)));
+              empty = λ b e. absurd (cons≢nil (right-nil (heads (s .down)) (rw (heads-append (s .down) ps, ordered-heads gid oid (k .means) (s .host .size) m) at e)));
+            };
+        way = command-way (Aims aim) (Aims (aimIn m)) (s .host .size) (s .asking) (s .down) gid oid m (k .low) (k .small) (k .means) (k .short) (k .no-heads) (f .way) refl;
+        aimed = refl;
+        sound = f .sound;
+        heard = f .heard;
+        standing = f .standing;
+        limits = f .limits;
+        config = f .config;
+      }
+    where
+      k : Commanded gid oid m
+      k = commanded gid oid m t f
 
-      no-replies : replies (s .up) ≡ []
-      no-replies = right-nil (heads (s .down)) idle
+      ps : List Octets
+      ps = packetsOf (controlHeader 1 gid oid) (s .host .size) m
 
       segs : (d : ℕ) → segsOf d (s .down ++ ps) ≡ segsOf d (s .down)
-      segs d = segsOf-append d (s .down) ps ∙ ap (λ (x : List Segment). segsOf d (s .down) ++ x) (segsOf-command gid oid low small d (s .host .size) m) ∙ append-nil (segsOf d (s .down))
+      segs d = segsOf-append d (s .down) ps ∙ ap (λ (x : List Segment). segsOf d (s .down) ++ x) (segsOf-command gid oid (k .low) (k .small) d (s .host .size) m) ∙ append-nil (segsOf d (s .down))
 
   pub send-keeps : (c : ℕ) (m : Octets) → Keeps (send c m) s aim l
   send-keeps c m t f =
@@ -116,6 +128,7 @@ module _ (s : State) (aim : ℕ) (l : ℕ → Ledger) where
         heard = f .heard;
         standing = standing-same (at-keeps c (λ k. withHost (sent m (k .host)) k) (s .conns) (λ k. k .controller) (λ k. refl)) (f .standing);
         limits = f .limits;
+        config = f .config;
       }
 
   pub push-keeps : (c : ℕ) → Keeps (push c) s aim l
@@ -162,12 +175,13 @@ module _ (s : State) (aim : ℕ) (l : ℕ → Ledger) where
                   tidy = λ b. clash b free;
                   empty = λ b. clash b free;
                 };
-            way = data-way aim (s .asking) (s .down) p c 0 x means (f .way);
+            way = data-way (Aims aim) (s .asking) (s .down) p c 0 x means (f .way);
             aimed = f .aimed;
             sound = f .sound;
             heard = f .heard;
             standing = standing-same (at-keeps c (λ k. withHost (pushed h (k .host)) k) (s .conns) (λ k. k .controller) (λ k. refl)) (f .standing);
             limits = f .limits;
+            config = f .config;
           }
         where
           p : Octets

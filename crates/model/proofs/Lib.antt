@@ -9,6 +9,7 @@ pub mod Acts
 pub mod Granted
 pub mod Meanings
 pub mod Messages
+pub mod Parameters
 pub mod Order
 pub mod Closing
 pub mod Fine
@@ -33,8 +34,11 @@ pub mod WellFormed
 pub mod DataOpen
 pub mod Paid
 pub mod Discards
+pub mod Config
 pub mod Whole
 pub mod Limits
 pub mod Discarded
+pub mod ConfigPlayed
 pub mod Profiles
 pub mod Wraps
+pub mod ConfigCredits

@@ -15,7 +15,7 @@ use Rattle.packets.specs.Packet.{packetOf, readOf, payloadOf, Writable}
 use Rattle.packets.specs.Segments.{Segment, more, last, segment, body, flag, marked, segments, segmentPacket, packetsOf}
 use Rattle.packets.proofs.RoundTrip.{read-written, payload-written}
 use Rattle.model.specs.Kinds.pending as pending
-use Rattle.model.specs.Kinds.command.{Reset, Init, ConnCreate, ConnClose, Discover, Select, Deactivate, Unknown}
+use Rattle.model.specs.Kinds.command.{Reset, Init, ConnCreate, ConnClose, Discover, Select, Deactivate, Unknown, SetConfig, GetConfig}
 use Rattle.model.specs.Kinds.answer.{Done, ClosesAll, Sized, Opens, Closes}
 use Rattle.model.specs.Kinds.heard.{Nothing, Dropped, Answered, Activated, Deactivated, Credits}
 use Rattle.state.specs.Conn.{metered}
@@ -139,6 +139,8 @@ ok-aimless Discover aim d m n = refl
 ok-aimless Select aim d m n = refl
 ok-aimless Deactivate aim d m n = refl
 ok-aimless Unknown aim d m n = refl
+ok-aimless SetConfig aim d m n = refl
+ok-aimless GetConfig aim d m n = refl
 
 heard-aimless : (aim mt gid oid d : ℕ) (m n : Octets)
     → creditsSaid d m (heardWritten (aimedAt aim) mt gid oid n) ≡ creditsSaid d m (heardWritten (aimedAt 0) mt gid oid n)

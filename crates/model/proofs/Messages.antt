@@ -12,7 +12,7 @@ use lib.ListN.{length, getD, drop}
 use borrow.Author.Tests.{eqb-true, eqb-false, ne-eqb, ltb-true, leb-true, leb-false}
 use Rattle.octets.specs.Octets.{Octets, pick}
 use Rattle.packets.specs.Segments.{last}
-use Rattle.model.specs.Kinds.{Terms, Profile, Activation, Pairs, Rf, Verdict, Event, Aired, Answer, Heard}
+use Rattle.model.specs.Kinds.{Terms, Profile, Activation, Pairs, Rf, Controller, Verdict, Event, Aired, Answer, Heard}
 use Rattle.model.specs.Kinds.verdict as verdict
 use Rattle.model.specs.Kinds.event.{Bad, Found, Poll, Listen, Failed, Sleeps, LinkLost, Releases, Endpoint}
 use Rattle.model.specs.Kinds.aired.{Refused}
@@ -23,11 +23,13 @@ use Rattle.state.specs.Commands.{commandOf}
 use Rattle.messages.specs.Layout.{Message, resetNtf, creditsNtf, entriesFrom, genericErrorNtf, discoverNtf, activatedNtf, deactivateNtf, responseOf, responseMessage, noticeMessage}
 use Rattle.state.specs.Radio.{isActive, isListening, isAsleep, polls}
 use Rattle.state.specs.Profile.{ProfileWithin}
+use Rattle.state.specs.Runs.{controlLimit}
+use Rattle.config.specs.Commands.{countIn, paramAt, setRsp, getRsp}
 use Rattle.dh.specs.Contents.{written, noticeOf, entryId, entryCredits, entryOk, entriesOk, creditsWritten}
 use Rattle.dh.specs.Host.{answerOf, heardWritten, creditsFor, creditsIn}
 use Rattle.air.specs.Air.{airMessage, airedBy, isRefused}
 use Rattle.ends.specs.RoundTrips.{TermsOk, TargetOk}
-use Rattle.state.proofs.Chains.{every-at, on}
+use Rattle.state.proofs.Chains.{every-at, on, pick-same}
 use Rattle.ends.proofs.RoundTrips.{round-trips}
 use Rattle.messages.specs.Packets.{responsePacket, noticePacket, noticePackets}
 use Rattle.wires.specs.Meaning.{control, meaning}
@@ -37,8 +39,10 @@ use Rattle.ends.specs.Changes.{stays, opens, closes, changeBy, changeAired, cha
 use Rattle.model.specs.calls.Down.{answers}
 use Rattle.model.specs.calls.Credit.{allZero}
 use Rattle.model.specs.invariant.Items.{Item, closed, itemsBy, itemsOf}
+use Rattle.model.specs.invariant.Bench.{ConfigWithin}
 use Rattle.model.proofs.Meanings.{meaning-response, meaning-notice}
-use Rattle.nfcc.proofs.Verdicts.{Fits}
+use Rattle.nfcc.specs.Controller.{judgeOf}
+use Rattle.nfcc.proofs.Verdicts.{Fits, judge-whole}
 use Rattle.air.proofs.Taken.{Within, found-by, poll-by, listen-by, failed-by}
 
 -- ---- a profile within its limits
@@ -59,26 +63,45 @@ answeredBy p (verdict.Closes c) = Closes c
 answeredBy p (verdict.Turns rf) = Done
 answeredBy p (verdict.Selects pair) = Done
 answeredBy p (verdict.Deactivates type rf) = Done
+answeredBy p verdict.SetsConfig = Done
+answeredBy p verdict.GetsConfig = Done
+
+-- what the answer to a verdict goes by: the configuration b, and the list of a set, which is whole
+pub record Answerable (b m : Octets) (v : Verdict) : Type 0 where
+  pub config : ConfigWithin b
+  pub whole : v ≡ verdict.SetsConfig → paramAt m (countIn m) ≤ controlLimit
+
+-- so it is of every verdict on a command that fits its run
+pub judge-answerable : (p : Profile) (k : Controller) (isOpen : ℕ → Bool) (gid oid : ℕ) (b m : Octets) → ConfigWithin b → length m ≤ controlLimit
+    → Answerable b m (judgeOf p k isOpen gid oid m)
+judge-answerable p k isOpen gid oid b m c short = record { config = c; whole = λ e. omega (arith, judge-whole p k isOpen gid oid m e) }
 
 -- the host makes of a response what the verdict was
-module _ (p : Profile) (limits : ProfileWithin p) (aim : ℕ) where
+module _ (p : Profile) (limits : ProfileWithin p) (aim : ℕ) (b m : Octets) where
   says-turn : (oid : ℕ) → (oid ≡ 3) ⊎ (oid ≡ 6) → says aim 2 1 oid (0x00 ∷ []) ≡ Answered Done
   unfolding heardWritten answerOf commandOf
   says-turn oid (inl e) = rw (e, round-trips .rf-written .0)
   says-turn oid (inr e) = rw (e, round-trips .rf-written .2)
 
-  pub says-response : (gid oid : ℕ) (v : Verdict) → Fits gid oid aim p v → says aim 2 gid oid (responseOf p v) ≡ Answered (answeredBy p v)
+  says-config : (oid : ℕ) (r : Octets) → (oid ≡ 2) ⊎ (oid ≡ 3) → written 2 0 oid r ≡ true → says aim 2 0 oid r ≡ Answered Done
+  unfolding heardWritten answerOf commandOf
+  says-config oid r (inl e) w = rw (w, e) (ap Answered (pick-same (eqb (getD r 0 0) 0) Done))
+  says-config oid r (inr e) w = rw (w, e) (ap Answered (pick-same (eqb (getD r 0 0) 0) Done))
+
+  pub says-response : (gid oid : ℕ) (v : Verdict) → Fits gid oid aim p v → Answerable b m v → says aim 2 gid oid (responseOf p b m v) ≡ Answered (answeredBy p v)
   unfolding responseOf heardWritten answerOf commandOf
-  says-response gid oid (verdict.Refuses status) f = rw (round-trips .status-written gid oid status f, ne-eqb status 0 f)
-  says-response gid oid (verdict.Resets type) f = rw (f .0, f .1, round-trips .reset-written)
-  says-response gid oid verdict.Initialises f = rw (f .0, f .1, round-trips .init-written (p .control) (limits .control-least))
-  says-response gid oid (verdict.Opens c t) f =
+  says-response gid oid (verdict.Refuses status) f a = rw (round-trips .status-written gid oid status f, ne-eqb status 0 f)
+  says-response gid oid (verdict.Resets type) f a = rw (f .0, f .1, round-trips .reset-written)
+  says-response gid oid verdict.Initialises f a = rw (f .0, f .1, round-trips .init-written (p .control) (limits .control-least))
+  says-response gid oid (verdict.Opens c t) f a =
       let ok : TermsOk t = rw (f .4) (terms-within p c limits) in
       rw (f .0, f .1, round-trips .create-written t c ok (f .2) (f .3))
-  says-response gid oid (verdict.Closes c) f = rw (f .0, f .1, f .2, round-trips .close-written)
-  says-response gid oid (verdict.Turns rf) f = rw (f .0) (says-turn oid (f .1))
-  says-response gid oid (verdict.Selects pair) f = rw (f .0, f .1, round-trips .rf-written .1)
-  says-response gid oid (verdict.Deactivates type rf) f = rw (f .0, f .1, round-trips .rf-written .2)
+  says-response gid oid (verdict.Closes c) f a = rw (f .0, f .1, f .2, round-trips .close-written)
+  says-response gid oid (verdict.Turns rf) f a = rw (f .0) (says-turn oid (f .1))
+  says-response gid oid (verdict.Selects pair) f a = rw (f .0, f .1, round-trips .rf-written .1)
+  says-response gid oid (verdict.Deactivates type rf) f a = rw (f .0, f .1, round-trips .rf-written .2)
+  says-response gid oid verdict.SetsConfig f a = rw (f .0, f .1) (says-config 2 (setRsp m) (inl refl) (round-trips .set-written m (a .whole refl)))
+  says-response gid oid verdict.GetsConfig f a = rw (f .0, f .1) (says-config 3 (getRsp b m) (inr refl) (round-trips .get-written b m (a .config .long) (a .config .values)))
 
 -- ---- what the notifications say
 
@@ -120,34 +143,36 @@ unfolding itemsOf
 items-response aim d gid oid m ns low small = rw (meaning-response gid oid low small m)
 
 -- what the controller's answer is for a connection is what its verdict does to the connection
-module _ (p : Profile) (limits : ProfileWithin p) (aim d gid oid : ℕ) (low : gid < 16) (small : oid < 64) where
-  after-response : (v : Verdict) → Fits gid oid aim p v
-      → itemsOf aim d (answers gid oid p v) ≡ itemsBy (changeAnswered (answeredBy p v) d) ++ itemsOf aim d (noticePackets (noticeMessage v))
-  after-response v f =
-      items-response aim d gid oid (responseOf p v) (noticePackets (noticeMessage v)) low small
-      ∙ ap (λ (h : Heard). itemsBy (changeHeard h (responseOf p v) d) ++ itemsOf aim d (noticePackets (noticeMessage v))) (says-response p limits aim gid oid v f)
+module _ (p : Profile) (limits : ProfileWithin p) (aim d gid oid : ℕ) (b m : Octets) (low : gid < 16) (small : oid < 64) where
+  after-response : (v : Verdict) → Fits gid oid aim p v → Answerable b m v
+      → itemsOf aim d (answers gid oid p b m v) ≡ itemsBy (changeAnswered (answeredBy p v) d) ++ itemsOf aim d (noticePackets (noticeMessage v))
+  after-response v f a =
+      items-response aim d gid oid (responseOf p b m v) (noticePackets (noticeMessage v)) low small
+      ∙ ap (λ (h : Heard). itemsBy (changeHeard h (responseOf p b m v) d) ++ itemsOf aim d (noticePackets (noticeMessage v))) (says-response p limits aim b m gid oid v f a)
 
-  pub items-answers : (v : Verdict) → Fits gid oid aim p v → itemsOf aim d (answers gid oid p v) ≡ itemsBy (changeBy v d)
+  pub items-answers : (v : Verdict) → Fits gid oid aim p v → Answerable b m v → itemsOf aim d (answers gid oid p b m v) ≡ itemsBy (changeBy v d)
   unfolding noticeMessage itemsOf
-  items-answers (verdict.Refuses status) f = after-response (verdict.Refuses status) f
-  items-answers (verdict.Resets type) f =
-      after-response (verdict.Resets type) f
+  items-answers (verdict.Refuses status) f a = after-response (verdict.Refuses status) f a
+  items-answers (verdict.Resets type) f a =
+      after-response (verdict.Resets type) f a
       ∙ ap (λ (l : List Item). closed ∷ l)
       (items-notice aim d 0 0 (resetNtf type) (omega arith) (omega arith) Nothing (says-reset aim type (f .2)))
-  items-answers verdict.Initialises f = after-response verdict.Initialises f
-  items-answers (verdict.Opens c t) f = after-response (verdict.Opens c t) f ∙ append-nil (itemsBy (changeBy (verdict.Opens c t) d))
-  items-answers (verdict.Closes c) f = after-response (verdict.Closes c) f ∙ append-nil (itemsBy (changeBy (verdict.Closes c) d))
-  items-answers (verdict.Turns rf) f = after-response (verdict.Turns rf) f
-  items-answers (verdict.Selects pair) f = after-response (verdict.Selects pair) f
-  items-answers (verdict.Deactivates type rf) f =
-      after-response (verdict.Deactivates type rf) f
+  items-answers verdict.Initialises f a = after-response verdict.Initialises f a
+  items-answers (verdict.Opens c t) f a = after-response (verdict.Opens c t) f a ∙ append-nil (itemsBy (changeBy (verdict.Opens c t) d))
+  items-answers (verdict.Closes c) f a = after-response (verdict.Closes c) f a ∙ append-nil (itemsBy (changeBy (verdict.Closes c) d))
+  items-answers (verdict.Turns rf) f a = after-response (verdict.Turns rf) f a
+  items-answers (verdict.Selects pair) f a = after-response (verdict.Selects pair) f a
+  items-answers (verdict.Deactivates type rf) f a =
+      after-response (verdict.Deactivates type rf) f a
       ∙ items-notice aim d 1 6 (deactivateNtf type 0x00) (omega arith) (omega arith) Deactivated (says-deactivated aim type 0x00 (round-trips .deactivate-written type (f .2)))
+  items-answers verdict.SetsConfig f a = after-response verdict.SetsConfig f a
+  items-answers verdict.GetsConfig f a = after-response verdict.GetsConfig f a
 
 -- ---- which packets answer a command: the first is the response, and any after it is a notification
 
-pub meaning-answer : (gid oid : ℕ) (p : Profile) (v : Verdict) → gid < 16 → oid < 64
-    → meaning (responsePacket (responseMessage gid oid p v)) ≡ control 2 gid oid (last (responseOf p v))
-meaning-answer gid oid p v low small = meaning-response gid oid low small (responseOf p v)
+pub meaning-answer : (gid oid : ℕ) (p : Profile) (b m : Octets) (v : Verdict) → gid < 16 → oid < 64
+    → meaning (responsePacket (responseMessage gid oid p b m v)) ≡ control 2 gid oid (last (responseOf p b m v))
+meaning-answer gid oid p b m v low small = meaning-response gid oid low small (responseOf p b m v)
 
 -- packets that are notifications, each
 abbrev pub Notices : List Octets → Type 0
@@ -170,6 +195,8 @@ notices-verdict (verdict.Closes c) = tt
 notices-verdict (verdict.Turns rf) = tt
 notices-verdict (verdict.Selects pair) = tt
 notices-verdict (verdict.Deactivates type rf) = notices-message (record { gid = 1; oid = 6; payload = deactivateNtf type 0x00 }) (omega arith) (omega arith)
+notices-verdict verdict.SetsConfig = tt
+notices-verdict verdict.GetsConfig = tt
 
 -- the notification of an event
 pub notices-air : (p : Profile) (e : Event) (m : Octets) → Notices (noticePackets (airMessage p e m))

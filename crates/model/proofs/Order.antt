@@ -9,7 +9,6 @@ use lib.Dec.{eqb, ltb}
 use lib.ListN.{length, take, drop}
 use borrow.Author.Tests.{eq-eqb}
 use Rattle.octets.specs.Octets.{Octets, pick}
-use Rattle.state.specs.Commands.{aimIn}
 use Rattle.state.proofs.Chains.{pick-same}
 use Rattle.packets.specs.Segments.{Segment, more, last, segmentsWithin, segments, parse, left, segmentPacket}
 use Rattle.packets.specs.Reassembly.{Run, run, grown, Fit}
@@ -24,6 +23,7 @@ use Rattle.model.specs.State.{noRun, ControlRun}
 use Rattle.dh.specs.Host.{isBusy}
 use Rattle.model.specs.Runs.{runFor, sameRun}
 use Rattle.model.specs.invariant.Items.{segsIn, segsOf}
+use Rattle.model.specs.Reachable.{Each}
 use Rattle.model.specs.invariant.Commands.{Name, named, headsIn, heads, repliesIn, replies, pendingName, Which, NoDatum, NoData, Tidy, ordersIn, orders, NonEmpty, Complete, NamedIn, AllNamed, OnItsWay}
 use Rattle.model.specs.calls.Down.{needsTwo}
 -- `need` can be named from here too
@@ -211,12 +211,12 @@ module _ (gid oid : ℕ) (means : (x : Segment) → meaning (segmentPacket (cont
 -- ---- the command that is on its way to the controller
 
 -- a new command, where none is under way
-pub command-way : (aim size : ℕ) (r : ControlRun) (w : List Octets) (gid oid : ℕ) (m : Octets) → gid < 16 → oid < 64
+pub command-way : (P Q : Name → Octets → Type 0) (size : ℕ) (r : ControlRun) (w : List Octets) (gid oid : ℕ) (m : Octets) → gid < 16 → oid < 64
     → ((x : Segment) → meaning (segmentPacket (controlHeader 1 gid oid) x) ≡ control 1 gid oid x)
-    → length m ≤ controlLimit → heads w ≡ [] → OnItsWay aim r w
-    → OnItsWay (aimIn m) r (w ++ ordered gid oid (segments size m))
+    → length m ≤ controlLimit → heads w ≡ [] → OnItsWay P r w → Q (named gid oid) m
+    → OnItsWay Q r (w ++ ordered gid oid (segments size m))
 unfolding left parse Fit
-command-way aim size r w gid oid m low small means short e q =
+command-way P Q size r w gid oid m low small means short e q known =
     let none = no-orders w e (q .complete) in
     let start : q .so-far ≡ [] = rw none at (q .whole) in
     let list : orders (w ++ ordered gid oid (segments size m)) ≡ segments size m = orders-append w _ ∙ (λ i. none i ++ ordered-orders gid oid means (segments size m) i) in
@@ -230,14 +230,14 @@ command-way aim size r w gid oid m low small means short e q =
       of-one = named-append (named gid oid) w (ordered gid oid (segments size m)) (unordered (named gid oid) w none) (ordered-named gid oid means (segments size m));
       complete = rw list (segments-complete size m);
       whole = rw (list, left-segments size [] m);
-      aims = rw (list, parse-segments size [] m) (refl, tt);
+      as-taken = rw (list, parse-segments size [] m) (known, tt);
       fits = rw (list, parse-segments size [] m) (short, tt);
     }
 
 -- no command under way
-pub no-way : (aim : ℕ) → OnItsWay aim noRun []
+pub no-way : (P : Name → Octets → Type 0) → OnItsWay P noRun []
 unfolding orders left parse Fit
-no-way aim =
+no-way P =
     record {
       name = named 0 0;
       low = omega arith;
@@ -248,7 +248,7 @@ no-way aim =
       of-one = tt;
       complete = tt;
       whole = refl;
-      aims = tt;
+      as-taken = tt;
       fits = tt;
     }
 
@@ -269,9 +269,9 @@ module _ (p : Octets) (c m : ℕ) (x : Segment) (means : meaning p ≡ datum c m
   named-data : (n : Name) (w : List Octets) → AllNamed n w → AllNamed n (w ++ (p ∷ []))
   named-data n w h = named-append n w (p ∷ []) h (rw means (tt, tt))
 
-pub data-way : (aim : ℕ) (r : ControlRun) (w : List Octets) (p : Octets) (c m : ℕ) (x : Segment) → meaning p ≡ datum c m x
-    → OnItsWay aim r w → OnItsWay aim r (w ++ (p ∷ []))
-data-way aim r w p c m x means q =
+pub data-way : (P : Name → Octets → Type 0) (r : ControlRun) (w : List Octets) (p : Octets) (c m : ℕ) (x : Segment) → meaning p ≡ datum c m x
+    → OnItsWay P r w → OnItsWay P r (w ++ (p ∷ []))
+data-way P r w p c m x means q =
     let same = orders-data p c m x means w in
     record {
       name = q .name;
@@ -283,7 +283,7 @@ data-way aim r w p c m x means q =
       of-one = named-data p c m x means (q .name) w (q .of-one);
       complete = rw same (q .complete);
       whole = rw same (q .whole);
-      aims = rw same (q .aims);
+      as-taken = rw same (q .as-taken);
       fits = rw same (q .fits);
     }
 
@@ -294,9 +294,9 @@ replies-notice w p gid oid m means = replies-append w (p ∷ []) ∙ rw means (a
 
 -- ---- the controller takes a packet of the command
 
-module _ (aim : ℕ) (r : ControlRun) (p : Octets) (w : List Octets) (q : OnItsWay aim r (p ∷ w)) where
+module _ (P : Name → Octets → Type 0) (r : ControlRun) (p : Octets) (w : List Octets) (q : OnItsWay P r (p ∷ w)) where
   -- one that is no command's
-  pub other-way : ordersIn (meaning p) ≡ [] → OnItsWay aim r w
+  pub other-way : ordersIn (meaning p) ≡ [] → OnItsWay P r w
   unfolding orders
   other-way e =
       record {
@@ -309,12 +309,12 @@ module _ (aim : ℕ) (r : ControlRun) (p : Octets) (w : List Octets) (q : OnItsW
         of-one = q .of-one .1;
         complete = rw e at (q .complete);
         whole = rw e at (q .whole);
-        aims = rw e at (q .aims);
+        as-taken = rw e at (q .as-taken);
         fits = rw e at (q .fits);
       }
 
-module _ (aim : ℕ) (r : ControlRun) (p : Octets) (w : List Octets) (mt gid oid : ℕ) (x : Segment)
-    (means : meaning p ≡ control mt gid oid x) (order : eqb mt 1 ≡ true) (q : OnItsWay aim r (p ∷ w)) where
+module _ (P : Name → Octets → Type 0) (r : ControlRun) (p : Octets) (w : List Octets) (mt gid oid : ℕ) (x : Segment)
+    (means : meaning p ≡ control mt gid oid x) (order : eqb mt 1 ≡ true) (q : OnItsWay P r (p ∷ w)) where
   -- it joins the run of its own command
   pub way-name : named gid oid ≡ q .name
   way-name = (rw means at (q .of-one .0)) order
@@ -340,57 +340,59 @@ module _ (aim : ℕ) (r : ControlRun) (p : Octets) (w : List Octets) (mt gid oid
   same-again so-far = rw (eq-eqb gid gid refl, eq-eqb oid oid refl)
 
 -- a segment that is followed by more
-pub way-more : (aim : ℕ) (r : ControlRun) (p : Octets) (w : List Octets) (mt gid oid : ℕ) (b : Octets)
-    → meaning p ≡ control mt gid oid (more b) → eqb mt 1 ≡ true → (q : OnItsWay aim r (p ∷ w))
-    → OnItsWay aim (record { mt = 1; gid = gid; oid = oid; run = grown controlLimit (run (q .so-far)) (more b) }) w
+pub way-more : (P : Name → Octets → Type 0) (r : ControlRun) (p : Octets) (w : List Octets) (mt gid oid : ℕ) (b : Octets)
+    → meaning p ≡ control mt gid oid (more b) → eqb mt 1 ≡ true → (q : OnItsWay P r (p ∷ w))
+    → OnItsWay P (record { mt = 1; gid = gid; oid = oid; run = grown controlLimit (run (q .so-far)) (more b) }) w
 unfolding left parse
-way-more aim r p w mt gid oid b means order q =
-    let list = way-orders aim r p w mt gid oid (more b) means order q in
+way-more P r p w mt gid oid b means order q =
+    let list = way-orders P r p w mt gid oid (more b) means order q in
     let whole : left (q .so-far ++ b) (orders w) ≡ [] = rw list at (q .whole) in
     let fits : Fit controlLimit (parse (q .so-far ++ b) (orders w)) = rw list at (q .fits) in
     let kept : grown controlLimit (run (q .so-far)) (more b) ≡ run (q .so-far ++ b) =
     rw (within controlLimit (q .so-far) b (run-fits controlLimit (q .so-far ++ b) (orders w) whole fits)) in
     record {
       name = named gid oid;
-      low = way-low aim r p w mt gid oid (more b) means order q;
-      small = way-small aim r p w mt gid oid (more b) means order q;
+      low = way-low P r p w mt gid oid (more b) means order q;
+      small = way-small P r p w mt gid oid (more b) means order q;
       so-far = q .so-far ++ b;
       kept = kept;
-      mine = ap (λ (x : Run). runFor (record { mt = 1; gid = gid; oid = oid; run = x }) 1 gid oid) kept ∙ same-again aim r p w mt gid oid (more b) means order q (q .so-far ++ b);
-      of-one = way-named aim r p w mt gid oid (more b) means order q;
+      mine = ap (λ (x : Run). runFor (record { mt = 1; gid = gid; oid = oid; run = x }) 1 gid oid) kept ∙ same-again P r p w mt gid oid (more b) means order q (q .so-far ++ b);
+      of-one = way-named P r p w mt gid oid (more b) means order q;
       complete = (rw list at (q .complete)) .1;
       whole = whole;
-      aims = rw list at (q .aims);
+      as-taken = subst (λ (n : Name). Each (P n) (parse (q .so-far ++ b) (orders w))) (sym (way-name P r p w mt gid oid (more b) means order q)) (rw list at (q .as-taken));
       fits = fits;
     }
 
 -- the last segment: what is known of the whole command, and what is then under way
-pub record Whole (aim : ℕ) (r : ControlRun) (w : List Octets) (gid oid : ℕ) (m : Octets) : Type 0 where
-  pub aimed : aimIn m ≡ aim
+pub record Whole (P : Name → Octets → Type 0) (r : ControlRun) (w : List Octets) (gid oid : ℕ) (m : Octets) : Type 0 where
+  pub as-taken : P (named gid oid) m
   pub short : length m ≤ controlLimit
-  pub rest : OnItsWay aim (record { mt = 1; gid = gid; oid = oid; run = run [] }) w
+  pub rest : OnItsWay P (record { mt = 1; gid = gid; oid = oid; run = run [] }) w
 
-pub way-last : (aim : ℕ) (r : ControlRun) (p : Octets) (w : List Octets) (mt gid oid : ℕ) (b : Octets)
-    → meaning p ≡ control mt gid oid (last b) → eqb mt 1 ≡ true → (q : OnItsWay aim r (p ∷ w))
-    → Whole aim r w gid oid (q .so-far ++ b)
+pub way-last : (P : Name → Octets → Type 0) (r : ControlRun) (p : Octets) (w : List Octets) (mt gid oid : ℕ) (b : Octets)
+    → meaning p ≡ control mt gid oid (last b) → eqb mt 1 ≡ true → (q : OnItsWay P r (p ∷ w))
+    → Whole P r w gid oid (q .so-far ++ b)
 unfolding left parse Fit
-way-last aim r p w mt gid oid b means order q =
-    let list = way-orders aim r p w mt gid oid (last b) means order q in
+way-last P r p w mt gid oid b means order q =
+    let list = way-orders P r p w mt gid oid (last b) means order q in
+    let here : P (named gid oid) (q .so-far ++ b) × Each (P (named gid oid)) (parse [] (orders w)) =
+    subst (λ (n : Name). P n (q .so-far ++ b) × Each (P n) (parse [] (orders w))) (sym (way-name P r p w mt gid oid (last b) means order q)) (rw list at (q .as-taken)) in
     record {
-      aimed = (rw list at (q .aims)) .0;
+      as-taken = here .0;
       short = (rw list at (q .fits)) .0;
       rest =
           record {
             name = named gid oid;
-            low = way-low aim r p w mt gid oid (last b) means order q;
-            small = way-small aim r p w mt gid oid (last b) means order q;
+            low = way-low P r p w mt gid oid (last b) means order q;
+            small = way-small P r p w mt gid oid (last b) means order q;
             so-far = [];
             kept = refl;
-            mine = same-again aim r p w mt gid oid (last b) means order q [];
-            of-one = way-named aim r p w mt gid oid (last b) means order q;
+            mine = same-again P r p w mt gid oid (last b) means order q [];
+            of-one = way-named P r p w mt gid oid (last b) means order q;
             complete = rw list at (q .complete);
             whole = rw list at (q .whole);
-            aims = (rw list at (q .aims)) .1;
+            as-taken = here .1;
             fits = (rw list at (q .fits)) .1;
           };
     }

@@ -11,7 +11,7 @@ use lib.ListN.{length, getD, drop}
 use Rattle.octets.specs.Octets.{Octets, pick}
 use Rattle.packets.specs.Segments.{Segment, more, last}
 use Rattle.model.specs.Kinds.{Profile, Pending, Command, Verdict, Event, Answer, Heard}
-use Rattle.model.specs.Kinds.command.{Reset, Init, ConnCreate, ConnClose, Discover, Select, Deactivate, Unknown}
+use Rattle.model.specs.Kinds.command.{Reset, Init, ConnCreate, ConnClose, Discover, Select, Deactivate, Unknown, SetConfig, GetConfig}
 use Rattle.model.specs.Kinds.verdict as verdict
 use Rattle.model.specs.Kinds.event.{Bad, Found, Poll, Listen, Failed, Sleeps, LinkLost, Releases, Endpoint}
 use Rattle.model.specs.Kinds.answer.{Done, ClosesAll, Sized, Opens, Closes}
@@ -32,7 +32,7 @@ use Rattle.ends.specs.Changes.{stays, opens, changeHeard}
 use Rattle.model.specs.calls.Down.{answers}
 use Rattle.nfcc.proofs.Verdicts.{Fits}
 use Rattle.model.proofs.Meanings.{meaning-notice}
-use Rattle.model.proofs.Messages.{answeredBy, says-response, meaning-answer}
+use Rattle.model.proofs.Messages.{answeredBy, Answerable, says-response, meaning-answer}
 use Rattle.model.proofs.Cases.{each}
 use Rattle.model.proofs.Fine.{ChangeOk}
 use Rattle.model.proofs.DownAnswer.{dynamic-conn}
@@ -80,6 +80,8 @@ ok-due r Discover a b m h = h
 ok-due r Select a b m h = h
 ok-due r Deactivate a b m h = h
 ok-due r Unknown a b m h = h
+ok-due r SetConfig a b m h = h
+ok-due r GetConfig a b m h = h
 
 written-due : (r : Profile) (p q : Pending) (mt gid oid : ℕ) (m : Octets) → Due r (heardWritten p mt gid oid m) → Due r (heardWritten q mt gid oid m)
 unfolding heardWritten answerOf
@@ -113,6 +115,8 @@ verdict-due p gid oid aim (verdict.Closes c) l f = tt
 verdict-due p gid oid aim (verdict.Turns rf) l f = tt
 verdict-due p gid oid aim (verdict.Selects pair) l f = tt
 verdict-due p gid oid aim (verdict.Deactivates type rf) l f = tt
+verdict-due p gid oid aim verdict.SetsConfig l f = tt
+verdict-due p gid oid aim verdict.GetsConfig l f = tt
 
 notice-said : (p : Profile) (gid oid : ℕ) (m : Octets) → gid < 16 → oid < 64 → Due p (noticed (noticeOf gid oid) m)
     → Said p (noticePacket (record { gid = gid; oid = oid; payload = m }) ∷ [])
@@ -135,13 +139,16 @@ after-said p (verdict.Closes c) = tt
 after-said p (verdict.Turns rf) = tt
 after-said p (verdict.Selects pair) = tt
 after-said p (verdict.Deactivates type rf) = notices-said p 1 6 (deactivateNtf type 0x00) (omega arith) (omega arith) tt
+after-said p verdict.SetsConfig = tt
+after-said p verdict.GetsConfig = tt
 
-pub answers-said : (p : Profile) (gid oid aim : ℕ) (v : Verdict) → ProfileWithin p → Fits gid oid aim p v → gid < 16 → oid < 64 → Said p (answers gid oid p v)
+pub answers-said : (p : Profile) (gid oid aim : ℕ) (b m : Octets) (v : Verdict) → ProfileWithin p → Fits gid oid aim p v → Answerable b m v → gid < 16 → oid < 64
+    → Said p (answers gid oid p b m v)
 unfolding Said
-answers-said p gid oid aim v l f low small = (
-  rw (meaning-answer gid oid p v low small)
-      (understood-due p (aimedAt aim) (aimedAt 0) 2 gid oid (responseOf p v)
-      (subst (Due p) (sym (says-response p l aim gid oid v f)) (verdict-due p gid oid aim v l f))),
+answers-said p gid oid aim b m v l f a low small = (
+  rw (meaning-answer gid oid p b m v low small)
+      (understood-due p (aimedAt aim) (aimedAt 0) 2 gid oid (responseOf p b m v)
+      (subst (Due p) (sym (says-response p l aim b m gid oid v f a)) (verdict-due p gid oid aim v l f))),
   after-said p v,
 )
 

@@ -38,7 +38,7 @@ use Rattle.messages.proofs.Lengths.{response-short}
 use Rattle.air.proofs.Taken.{Within}
 use Rattle.model.proofs.Meanings.{meaning-packet, meaning-data, meaning-command, meaning-response, meaning-notice}
 use Rattle.model.proofs.Fine.{conn-small}
-use Rattle.model.proofs.Messages.{entries-few}
+use Rattle.model.proofs.Messages.{Answerable, entries-few}
 
 -- ---- a packet as it was written
 
@@ -185,12 +185,14 @@ after-up (verdict.Closes c) = tt
 after-up (verdict.Turns rf) = tt
 after-up (verdict.Selects pair) = tt
 after-up (verdict.Deactivates type rf) = notices-up 1 6 (deactivateNtf type 0x00) (omega arith) (omega arith) (omega arith)
+after-up verdict.SetsConfig = tt
+after-up verdict.GetsConfig = tt
 
-pub answers-up : (gid oid : ℕ) (p : Profile) (v : Verdict) → gid < 16 → oid < 64 → Each UpOk (answers gid oid p v)
-answers-up gid oid p v low small = (
+pub answers-up : (gid oid : ℕ) (p : Profile) (b m : Octets) (v : Verdict) → Answerable b m v → gid < 16 → oid < 64 → Each UpOk (answers gid oid p b m v)
+answers-up gid oid p b m v a low small = (
   (
-    control-formed 2 gid oid false (responseOf p v) (omega arith) (omega arith) low small (response-short p v),
-    rw (meaning-response gid oid low small (responseOf p v)) (inl refl),
+    control-formed 2 gid oid false (responseOf p b m v) (omega arith) (omega arith) low small (response-short p b m v (a .whole)),
+    rw (meaning-response gid oid low small (responseOf p b m v)) (inl refl),
   ),
   after-up v,
 )

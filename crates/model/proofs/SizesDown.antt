@@ -11,6 +11,7 @@ use borrow.Author.Tests.{ltb-false, leb-false}
 use Rattle.octets.specs.Octets.{Octets}
 use Rattle.state.specs.Commands.{aimIn}
 use Rattle.packets.specs.Segments.{Segment, more, last}
+use Rattle.packets.specs.Reassembly.{Fit}
 use Rattle.model.specs.Kinds.{Profile, Verdict}
 use Rattle.state.specs.Runs.{controlLimit}
 use Rattle.state.specs.Profile.{ProfileWithin}
@@ -27,28 +28,29 @@ use Rattle.ends.specs.Changes.{changeBy}
 use Rattle.model.specs.calls.Down.{answers, deciding, answering, arriving, takingDown, tooTight, firstFull, needsTwo, storeFull}
 use Rattle.model.specs.Bench.{rules, act}
 use Rattle.model.specs.Observer.{Ledger}
+use Rattle.model.specs.invariant.Commands.{Aims}
 use Rattle.model.specs.invariant.Bench.{Fine}
 use Rattle.model.proofs.Cases.{clash}
 use Rattle.model.proofs.Needs.{need}
 use Rattle.nfcc.proofs.Verdicts.{Fits, judge-fits, after-steady}
-use Rattle.model.proofs.Messages.{notices-few}
+use Rattle.model.proofs.Messages.{Answerable, judge-answerable, notices-few}
 use Rattle.model.proofs.Order.{way-low, way-small}
 use Rattle.model.proofs.DownAnswer.{verdict-ok}
 use Rattle.model.proofs.Said.{said-append, answers-said}
-use Rattle.model.proofs.Small.{Small, grown-within, more-none, at-small, change-controller, open-known}
+use Rattle.model.proofs.Small.{Small, grown-within, finished-fits, more-none, at-small, change-controller, open-known}
 
 -- at most two packets answer a command
-answers-few : (gid oid : ℕ) (p : Profile) (v : Verdict) → length (answers gid oid p v) ≤ 2
-answers-few gid oid p v = omega (arith, notices-few (noticeMessage v))
+answers-few : (gid oid : ℕ) (p : Profile) (b m : Octets) (v : Verdict) → length (answers gid oid p b m v) ≤ 2
+answers-few gid oid p b m v = omega (arith, notices-few (noticeMessage v))
 
 -- a whole command is answered
-deciding-small : (s : State) (gid oid aim : ℕ) (v : Verdict) → ProfileWithin (s .profile) → Fits gid oid aim (s .profile) v → gid < 16 → oid < 64
-    → full 2 (s .up) ≡ false → Small s → Small (deciding gid oid v s .next)
-deciding-small s gid oid aim v l f low small fits m =
+deciding-small : (s : State) (gid oid aim : ℕ) (o : Octets) (v : Verdict) → ProfileWithin (s .profile) → Fits gid oid aim (s .profile) v → Answerable (s .config) o v
+    → gid < 16 → oid < 64 → full 2 (s .up) ≡ false → Small s → Small (deciding gid oid o v s .next)
+deciding-small s gid oid aim o v l f a low small fits m =
     record {
       downs = m .downs;
-      ups = rw length-append (omega (arith, ltb-false 16 (length (s .up) + 2) fits, answers-few gid oid (s .profile) v));
-      said = said-append (s .profile) (s .up) (answers gid oid (s .profile) v) (m .said) (answers-said (s .profile) gid oid aim v l f low small);
+      ups = rw length-append (omega (arith, ltb-false 16 (length (s .up) + 2) fits, answers-few gid oid (s .profile) (s .config) o v));
+      said = said-append (s .profile) (s .up) (answers gid oid (s .profile) (s .config) o v) (m .said) (answers-said (s .profile) gid oid aim (s .config) o v l f a low small);
       conns = λ d. change-controller d (changeBy v d) (s .conns d) (verdict-ok gid oid aim (s .profile) v f d) (m .conns d);
       steady = after-steady gid oid aim (s .profile) (s .controller) v f (m .steady);
       size-least = m .size-least;
@@ -91,13 +93,15 @@ module _ (s : State) (aim : ℕ) (l : ℕ → Ledger) (p : Octets) (w : List Oct
         asking = grown-within controlLimit (runFor (s .asking) 1 gid oid) x;
       }
 
-  answering-small : (gid oid : ℕ) (x : Segment) (ms : List Octets) (b : Bool) → gid < 16 → oid < 64 → full 2 (s .up) ≡ false
+  answering-small : (gid oid : ℕ) (x : Segment) (ms : List Octets) (b : Bool) → Fit controlLimit ms → gid < 16 → oid < 64 → full 2 (s .up) ≡ false
       → Small (answering gid oid ms b (withAsking (runAfter (s .asking) 1 gid oid x) (withDown w s)) .next)
-  answering-small gid oid x [] b low small fits = joined gid oid x
-  answering-small gid oid x (o ∷ ms) b low small fits =
+  unfolding Fit
+  answering-small gid oid x [] b short low small fits = joined gid oid x
+  answering-small gid oid x (o ∷ ms) b short low small fits =
       let z = withAsking (runAfter (s .asking) 1 gid oid x) (withDown w s) in
-      deciding-small z gid oid (aimIn o) (judgeOf (s .profile) (s .controller) (isOpen z) gid oid o) (f .limits)
-      (judge-fits (s .profile) (s .controller) (isOpen z) gid oid o) low small fits (joined gid oid x)
+      deciding-small z gid oid (aimIn o) o (judgeOf (s .profile) (s .controller) (isOpen z) gid oid o) (f .limits)
+      (judge-fits (s .profile) (s .controller) (isOpen z) gid oid o)
+      (judge-answerable (s .profile) (s .controller) (isOpen z) gid oid (s .config) o (f .config) (short .0)) low small fits (joined gid oid x)
 
   store-small : (c : ℕ) → isOpen s c ≡ true → (isOpen s c && leb 8 (length (s .conns c .controller .store))) ≡ false
       → Small (withConns (at c (λ k. withController (stored p (k .controller)) k) (s .conns)) (withDown w s))
@@ -130,8 +134,8 @@ module _ (s : State) (aim : ℕ) (l : ℕ → Ledger) (p : Octets) (w : List Oct
       (λ e. off)
   arriving-small (control mt gid oid (last b)) means two room =
       on Leads (eqb mt 1)
-      (λ e. answering-small gid oid (last b) (wholeBy (s .asking) 1 gid oid (last b)) _
-      (way-low aim (s .asking) p w mt gid oid (last b) means e (f .way)) (way-small aim (s .asking) p w mt gid oid (last b) means e (f .way))
+      (λ e. answering-small gid oid (last b) (wholeBy (s .asking) 1 gid oid (last b)) _ (finished-fits controlLimit (runFor (s .asking) 1 gid oid) (last b))
+      (way-low (Aims aim) (s .asking) p w mt gid oid (last b) means e (f .way)) (way-small (Aims aim) (s .asking) p w mt gid oid (last b) means e (f .way))
       (rw e at two))
       (λ e. off)
   arriving-small junk means two room = off

@@ -12,7 +12,7 @@ use lib.ListN.{length, drop, length-append, length-take, length-drop}
 use borrow.Author.Tests.{ltb-false}
 use Rattle.octets.specs.Octets.{Octets, pick}
 use Rattle.packets.specs.Segments.{Segment, more, last, segmentsWithin, segments}
-use Rattle.packets.specs.Reassembly.{Run, run, lost, grown, finished}
+use Rattle.packets.specs.Reassembly.{Run, run, lost, grown, finished, Fit}
 use Rattle.model.specs.Kinds.{Terms, Profile}
 use Rattle.state.specs.Conn.{termsOf}
 use Rattle.state.specs.Runs.{dataLimit, controlLimit}
@@ -52,6 +52,15 @@ grown-within limit (run r) (more b) =
 grown-within limit lost (more b) = tt
 grown-within limit (run r) (last b) = omega arith
 grown-within limit lost (last b) = omega arith
+
+-- and so is the message that it finishes
+pub finished-fits : (limit : ℕ) (r : Run) (x : Segment) → Fit limit (finished limit r x)
+unfolding Fit
+finished-fits limit (run r) (more b) = tt
+finished-fits limit lost (more b) = tt
+finished-fits limit (run r) (last b) =
+    on (Fit limit) (ltb limit (length r + length b)) (λ e. tt) (λ e. (omega (arith, ltb-false limit (length r + length b) e, length-append r b), tt))
+finished-fits limit lost (last b) = tt
 
 -- a segment that more follow finishes nothing
 pub more-none : (limit : ℕ) (r : Run) (b : Octets) → finished limit r (more b) ≡ []

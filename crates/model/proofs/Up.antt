@@ -76,6 +76,7 @@ module _ (s : State) (aim : ℕ) (l : ℕ → Ledger) (p : Octets) (w : List Oct
               heard = f .heard;
               standing = f .standing;
               limits = f .limits;
+              config = f .config;
             };
       }
 
@@ -118,6 +119,7 @@ module _ (s : State) (aim : ℕ) (l : ℕ → Ledger) (p : Octets) (w : List Oct
                 heard = f .heard;
                 standing = standing-same (at-keeps c (λ k. withHost (heardData x (credited n (k .host))) k) (s .conns) (λ k. k .controller) (λ k. refl)) (f .standing);
                 limits = f .limits;
+                config = f .config;
               };
         }
 
@@ -162,6 +164,7 @@ module _ (s : State) (aim : ℕ) (l : ℕ → Ledger) (p : Octets) (w : List Oct
               heard = refl;
               standing = standing-same (λ d. refl) (f .standing);
               limits = f .limits;
+              config = f .config;
             };
       }
 

@@ -12,6 +12,8 @@ use Rattle.octets.specs.Octets.{Octets, pick}
 use Rattle.packets.specs.Packet.{readOf, carrying}
 use Rattle.packets.specs.Reserved.{rfuBy}
 use Rattle.packets.specs.Segments.{Segment, segments, segmentPacket, packetsOf}
+use Rattle.packets.specs.Reassembly.{Fit}
+use Rattle.state.specs.Runs.{controlLimit}
 use Rattle.model.specs.Kinds.{Profile, Verdict, Aired}
 use Rattle.model.specs.Kinds.way as way
 use Rattle.model.specs.Kinds.aired.{Refused, Goes, Activates, Ends, Speaks}
@@ -29,7 +31,7 @@ use Rattle.wires.specs.Meaning.{Meaning, datum, control, junk, meaning}
 use Rattle.model.specs.State.{State, cold, isOpen, at, withConns, withDown, withUp, withAsking, withHearing}
 use Rattle.model.specs.Effects.{Call, fresh, power, command, send, push, down, consume, credit, air, reply, up, report, Effect, taken}
 use Rattle.model.specs.Refusals.{first, noConn, isNil, isHeld}
-use Rattle.model.specs.Runs.{runAfter, wholeBy}
+use Rattle.model.specs.Runs.{runFor, runAfter, wholeBy}
 use Rattle.ends.specs.Changes.{changeBy, changeAired, changeHeard}
 use Rattle.model.specs.calls.Push.{pushing}
 use Rattle.model.specs.calls.Down.{answers, deciding, answering, arriving, takingDown}
@@ -40,13 +42,15 @@ use Rattle.model.specs.calls.Up.{hearing, coming, takingUp}
 use Rattle.model.specs.Bench.{rules, act}
 use Rattle.model.specs.Observer.{Ledger}
 use Rattle.model.specs.Reachable.{Always, WellFormed, GoesDown, GoesUp, Each, Wires}
+use Rattle.model.specs.invariant.Commands.{Aims}
 use Rattle.model.specs.invariant.Bench.{Fine, StoredIn}
 use Rattle.model.proofs.Cases.{clash, each, each-append, each-map}
 use Rattle.model.proofs.Needs.{need}
 use Rattle.air.proofs.Taken.{event-within}
 use Rattle.model.proofs.Order.{way-low, way-small}
 use Rattle.model.proofs.Always.{Stays, always}
-use Rattle.model.proofs.Small.{Small, cold-small, held-terms}
+use Rattle.model.proofs.Messages.{Answerable, judge-answerable}
+use Rattle.model.proofs.Small.{Small, finished-fits, cold-small, held-terms}
 use Rattle.model.proofs.Sizes.{act-small}
 use Rattle.model.proofs.Shaped.{Formed, formed-well, formed-clear-up, formed-clear-down, DownOk, UpOk, Short, short-segments, data-down, data-up, carrying-formed, commands-down, answers-up, air-up, credit-up, ConnShaped, Shaped, cold-shaped, controller-shaped, host-shaped}
 
@@ -100,11 +104,12 @@ push-shaped s c t m = go (s .conns c .host .hand) refl
 
 -- ---- down
 
-deciding-shaped : (s : State) (gid oid : ℕ) (v : Verdict) → gid < 16 → oid < 64 → Shaped s → Shaped (deciding gid oid v s .next)
-deciding-shaped s gid oid v low small m =
+deciding-shaped : (s : State) (gid oid : ℕ) (o : Octets) (v : Verdict) → Answerable (s .config) o v → gid < 16 → oid < 64 → Shaped s
+    → Shaped (deciding gid oid o v s .next)
+deciding-shaped s gid oid o v a low small m =
     record {
       down = m .down;
-      up = each-append UpOk (s .up) (answers gid oid (s .profile) v) (m .up) (answers-up gid oid (s .profile) v low small);
+      up = each-append UpOk (s .up) (answers gid oid (s .profile) (s .config) o v) (m .up) (answers-up gid oid (s .profile) (s .config) o v a low small);
       conns = λ d. controller-shaped (changeBy v d) (s .conns d) (m .conns d);
     }
 
@@ -112,12 +117,14 @@ module _ (s : State) (aim : ℕ) (l : ℕ → Ledger) (p : Octets) (w : List Oct
   off : Shaped (withDown w s)
   off = record { down = m .down .1; up = m .up; conns = m .conns }
 
-  answering-shaped : (gid oid : ℕ) (x : Segment) (ms : List Octets) (b : Bool) → gid < 16 → oid < 64
+  answering-shaped : (gid oid : ℕ) (x : Segment) (ms : List Octets) (b : Bool) → Fit controlLimit ms → gid < 16 → oid < 64
       → Shaped (answering gid oid ms b (withAsking (runAfter (s .asking) 1 gid oid x) (withDown w s)) .next)
-  answering-shaped gid oid x [] b low small = record { down = m .down .1; up = m .up; conns = m .conns }
-  answering-shaped gid oid x (o ∷ ms) b low small =
+  unfolding Fit
+  answering-shaped gid oid x [] b short low small = record { down = m .down .1; up = m .up; conns = m .conns }
+  answering-shaped gid oid x (o ∷ ms) b short low small =
       let z = withAsking (runAfter (s .asking) 1 gid oid x) (withDown w s) in
-      deciding-shaped z gid oid (judgeOf (s .profile) (s .controller) (isOpen z) gid oid o) low small
+      deciding-shaped z gid oid o (judgeOf (s .profile) (s .controller) (isOpen z) gid oid o)
+      (judge-answerable (s .profile) (s .controller) (isOpen z) gid oid (s .config) o (f .config) (short .0)) low small
       (record { down = m .down .1; up = m .up; conns = m .conns })
 
   store-shaped : (c : ℕ) → Shaped (withConns (at c (λ k. withController (stored p (k .controller)) k) (s .conns)) (withDown w s))
@@ -139,8 +146,8 @@ module _ (s : State) (aim : ℕ) (l : ℕ → Ledger) (p : Octets) (w : List Oct
   arriving-shaped (datum c n x) means = on (λ (e : Effect). Shaped (e .next)) (isOpen s c) (λ o. store-shaped c) (λ o. off)
   arriving-shaped (control mt gid oid x) means =
       on (λ (e : Effect). Shaped (e .next)) (eqb mt 1)
-      (λ e. answering-shaped gid oid x (wholeBy (s .asking) 1 gid oid x) _
-      (way-low aim (s .asking) p w mt gid oid x means e (f .way)) (way-small aim (s .asking) p w mt gid oid x means e (f .way)))
+      (λ e. answering-shaped gid oid x (wholeBy (s .asking) 1 gid oid x) _ (finished-fits controlLimit (runFor (s .asking) 1 gid oid) x)
+      (way-low (Aims aim) (s .asking) p w mt gid oid x means e (f .way)) (way-small (Aims aim) (s .asking) p w mt gid oid x means e (f .way)))
       (λ e. off)
   arriving-shaped junk means = off
 

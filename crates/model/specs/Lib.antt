@@ -12,8 +12,11 @@ pub mod Observer
 pub mod Claim
 pub mod Reachable
 pub mod Discards
+pub mod Config
 pub mod invariant
 pub mod Table
 pub mod Limits
 pub mod Discarded
+pub mod ConfigPlayed
 pub mod Profiles
+pub mod ConfigCredits

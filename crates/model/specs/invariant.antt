@@ -4,3 +4,4 @@ pub mod Link
 pub mod Commands
 pub mod Bench
 pub mod Hands
+pub mod Configured

@@ -1,3 +1,4 @@
 pub mod CommandTrips
 pub mod Verdicts
 pub mod Small
+pub mod Judgements

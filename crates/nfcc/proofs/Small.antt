@@ -1,7 +1,7 @@
 -- Octets stay octets: what a verdict says of the radio, and the controller's numbers after it.
 -- Assumes nothing.
 use Prim.Native.Nat.{ℕ, _%_}
-use mathlib.Core.Bool.{Bool, not, _&&_}
+use mathlib.Core.Bool.{Bool, not, _&&_, _||_}
 use lib.ListN.{length, getD}
 use lib.Dec.{eqb, ltb, leb}
 use Rattle.octets.specs.Octets.{Octets}
@@ -16,7 +16,8 @@ use Rattle.state.specs.Commands.{commandOf}
 use Rattle.state.specs.Radio.{isIdle, listed}
 use Rattle.state.proofs.Chains.{on}
 use Rattle.state.proofs.Small.{PairSmall, RfSmall, PairsSmall, RadioSmall, nones-small}
-use Rattle.nfcc.specs.Controller.{shortest, allowed, resetBy, nextId, createBy, closeBy, configsOk, discoverBy, selectBy, sleepRejected, restState, deactivateBy, valuesOf, judgeOf, turned, controllerAfter}
+use Rattle.config.specs.Commands.{countIn, namesKnown}
+use Rattle.nfcc.specs.Controller.{shortest, allowed, resetBy, nextId, createBy, closeBy, configsOk, discoverBy, selectBy, sleepRejected, restState, deactivateBy, setBy, valuesOf, judgeOf, turned, controllerAfter}
 
 abbrev pub VerdictSmall : Verdict → Type 0
 VerdictSmall (verdict.Refuses status) = Unit {0}
@@ -27,6 +28,8 @@ VerdictSmall (verdict.Closes c) = Unit {0}
 VerdictSmall (verdict.Turns rf) = RfSmall rf
 VerdictSmall (verdict.Selects pair) = PairSmall pair
 VerdictSmall (verdict.Deactivates type rf) = RfSmall rf
+VerdictSmall verdict.SetsConfig = Unit {0}
+VerdictSmall verdict.GetsConfig = Unit {0}
 
 -- ---- the verdict
 
@@ -55,7 +58,7 @@ deactivate-small ListenSleep type = on VerdictSmall (ltb 3 type) (λ e. tt) (λ 
 
 module _ (p : Profile) (k : Controller) (isOpen : ℕ → Bool) (m : Octets) (octal : Octal m) where
   values-small : (c : Command) → VerdictSmall (valuesOf p k isOpen c m)
-  unfolding resetBy createBy closeBy discoverBy
+  unfolding resetBy createBy closeBy discoverBy setBy
   values-small command.Reset = on VerdictSmall (ltb 1 (getD m 0 0)) (λ e. tt) (λ e. tt)
   values-small command.Init = tt
   values-small command.ConnCreate =
@@ -71,6 +74,8 @@ module _ (p : Profile) (k : Controller) (isOpen : ℕ → Bool) (m : Octets) (oc
       (record { id = octal-at octal 0; protocol = octal-at octal 1 })
   values-small command.Deactivate = deactivate-small (k .rf) (getD m 0 0)
   values-small command.Unknown = tt
+  values-small command.SetConfig = on VerdictSmall (isIdle (k .rf) || not (namesKnown m (countIn m))) (λ e. tt) (λ e. tt)
+  values-small command.GetConfig = tt
 
   pub judge-small : (gid oid : ℕ) → VerdictSmall (judgeOf p k isOpen gid oid m)
   unfolding judgeOf
@@ -95,3 +100,5 @@ after-small k (verdict.Closes c) s h = h
 after-small k (verdict.Turns rf) s h = turned-small k rf s h
 after-small k (verdict.Selects pair) s h = turned-small k (W4HostSelect (Chosen pair)) s h
 after-small k (verdict.Deactivates type rf) s h = turned-small k rf s h
+after-small k verdict.SetsConfig s h = h
+after-small k verdict.GetsConfig s h = h

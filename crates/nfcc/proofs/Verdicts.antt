@@ -4,7 +4,7 @@ use Prim.Native.Nat.{ℕ, zero, suc, _%_, _≤_}
 use native.Mathlib.Omega.{arith}
 use mathlib.Core.Path.{_≡_, refl, sym, ap, subst}
 use mathlib.Core.Logic.{_⊎_, inl, inr}
-use mathlib.Core.Bool.{Bool, true, false, not, _&&_, true≢false, false≢true}
+use mathlib.Core.Bool.{Bool, true, false, not, _&&_, _||_, true≢false, false≢true}
 use lib.Dec.{eqb, ltb, leb}
 use lib.ListN.{length, getD}
 use borrow.Author.Tests.{eqb-true, ltb-true, ltb-false, leb-true, not-true, ne-eqb}
@@ -22,7 +22,8 @@ use Rattle.state.specs.Radio.{isIdle, isActive, listed}
 use Rattle.state.proofs.Chains.{on, and-left, and-right}
 use Rattle.state.proofs.Steady.{Steady}
 use Rattle.state.proofs.SmallVerdicts.{Bare, SmallTerms, SmallVerdict}
-use Rattle.nfcc.specs.Controller.{shortest, allowed, resetBy, after, seek, nextId, createBy, closeBy, configsOk, discoverBy, selectBy, sleepRejected, restState, deactivateBy, valuesOf, judgeOf, turned, controllerAfter}
+use Rattle.config.specs.Commands.{countIn, paramAt, namesKnown}
+use Rattle.nfcc.specs.Controller.{shortest, allowed, resetBy, after, seek, nextId, createBy, closeBy, configsOk, discoverBy, selectBy, sleepRejected, restState, deactivateBy, setBy, valuesOf, judgeOf, turned, controllerAfter}
 
 -- ---- which command a GID and an OID name
 
@@ -35,6 +36,8 @@ Named gid oid command.Discover = (gid ≡ 1) × (oid ≡ 3)
 Named gid oid command.Select = (gid ≡ 1) × (oid ≡ 4)
 Named gid oid command.Deactivate = (gid ≡ 1) × (oid ≡ 6)
 Named gid oid command.Unknown = Unit {0}
+Named gid oid command.SetConfig = (gid ≡ 0) × (oid ≡ 2)
+Named gid oid command.GetConfig = (gid ≡ 0) × (oid ≡ 3)
 
 pub command-named : (gid oid : ℕ) → Named gid oid (commandOf gid oid)
 unfolding commandOf
@@ -45,7 +48,9 @@ command-named gid oid =
     on (Named gid oid) (eqb oid 0) (λ o. (z, is 0 o))
     (λ x. on (Named gid oid) (eqb oid 1) (λ o. (z, is 1 o))
     (λ x. on (Named gid oid) (eqb oid 4) (λ o. (z, is 4 o))
-    (λ x. on (Named gid oid) (eqb oid 5) (λ o. (z, is 5 o)) (λ x. tt)))))
+    (λ x. on (Named gid oid) (eqb oid 5) (λ o. (z, is 5 o))
+    (λ x. on (Named gid oid) (eqb oid 2) (λ o. (z, is 2 o))
+    (λ x. on (Named gid oid) (eqb oid 3) (λ o. (z, is 3 o)) (λ x. tt)))))))
     (λ g. on (Named gid oid) (eqb gid 1)
     (λ g. let z = eqb-true gid 1 g in
     on (Named gid oid) (eqb oid 3) (λ o. (z, is 3 o))
@@ -64,6 +69,8 @@ Fits gid oid aim p (verdict.Closes c) = (gid ≡ 0) × (oid ≡ 5) × (c ≡ aim
 Fits gid oid aim p (verdict.Turns rf) = (gid ≡ 1) × ((oid ≡ 3) ⊎ (oid ≡ 6))
 Fits gid oid aim p (verdict.Selects pair) = (gid ≡ 1) × (oid ≡ 4)
 Fits gid oid aim p (verdict.Deactivates type rf) = (gid ≡ 1) × (oid ≡ 6) × (type ≤ 3)
+Fits gid oid aim p verdict.SetsConfig = (gid ≡ 0) × (oid ≡ 2)
+Fits gid oid aim p verdict.GetsConfig = (gid ≡ 0) × (oid ≡ 3)
 
 -- the Conn ID that is given is 2-5 and not open, where there is one
 abbrev Given : (ℕ → Bool) → ℕ → Type 0
@@ -139,6 +146,10 @@ module _ (p : Profile) (k : Controller) (isOpen : ℕ → Bool) (gid oid : ℕ) 
       on (Fits gid oid aim p) (ltb 3 type) (λ e. omega arith)
       (λ e. on (Fits gid oid aim p) (eqb type 0) (λ z. (n .0, inr (n .1))) (λ z. omega arith))
 
+  set-fits : (aim : ℕ) (m : Octets) → Named gid oid command.SetConfig → Fits gid oid aim p (setBy (k .rf) m)
+  unfolding setBy
+  set-fits aim m n = on (Fits gid oid aim p) (isIdle (k .rf) || not (namesKnown m (countIn m))) (λ e. n) (λ e. omega arith)
+
   -- a CONN_CLOSE that is long enough names a connection
   names-one : (m : Octets) → 1 ≤ length m → getD m 0 0 % 16 ≡ aimIn m
   names-one m h = ap (λ (b : Bool). pick b 1 (getD m 0 0 % 16)) (sym (ne-eqb (length m) 0 (λ z. omega (arith, h))))
@@ -154,6 +165,8 @@ module _ (p : Profile) (k : Controller) (isOpen : ℕ → Bool) (gid oid : ℕ) 
   values-fit command.Select m h n = select-fits (aimIn m) (k .rf) (k .pairs) (record { id = getD m 0 0; protocol = getD m 1 0 }) (getD m 2 0) n
   values-fit command.Deactivate m h n = deactivate-fits (aimIn m) (k .rf) (getD m 0 0) n
   values-fit command.Unknown m h n = omega arith
+  values-fit command.SetConfig m h n = set-fits (aimIn m) m n
+  values-fit command.GetConfig m h n = n
 
   -- every verdict fits its command
   pub judge-fits : (m : Octets) → Fits gid oid (aimIn m) p (judgeOf p k isOpen gid oid m)
@@ -163,6 +176,19 @@ module _ (p : Profile) (k : Controller) (isOpen : ℕ → Bool) (gid oid : ℕ) 
       let aim = aimIn m in
       on (Fits gid oid aim p) (ltb (length m) (shortest c m)) (λ e. omega arith)
       (λ e. on (Fits gid oid aim p) (allowed (k .phase) c) (λ a. values-fit c m (ltb-false (length m) (shortest c m) e) (command-named gid oid)) (λ a. omega arith))
+
+  -- a set that is taken is whole: its list is not cut short
+  pub judge-whole : (m : Octets) → judgeOf p k isOpen gid oid m ≡ verdict.SetsConfig → paramAt m (countIn m) ≤ length m
+  unfolding judgeOf commandOf shortest
+  judge-whole m e =
+      let named = subst (Fits gid oid (aimIn m) p) e (judge-fits m) in
+      go (ltb (length m) (paramAt m (countIn m))) refl (rw (named .0, named .1) at e)
+    where
+      go : (b : Bool) → ltb (length m) (paramAt m (countIn m)) ≡ b
+          → pick b (verdict.Refuses 0x05) (pick (allowed (k .phase) command.SetConfig) (setBy (k .rf) m) (verdict.Refuses 0x06)) ≡ verdict.SetsConfig
+          → paramAt m (countIn m) ≤ length m
+      go true l e = absurd (let z : _≡_ {A = ℕ} 0 1 = cc in omega arith)
+      go false l e = ltb-false (length m) (paramAt m (countIn m)) l
 
 -- ---- what a verdict says of the state that it was reached in, by the RF state and the connections open at the controller
 
@@ -175,6 +201,8 @@ Legal rf isOpen (verdict.Closes c) = (eqb c 0 ≡ false) × (isOpen c ≡ true)
 Legal rf isOpen (verdict.Turns next) = (isActive rf ≡ false) × (isActive next ≡ false)
 Legal rf isOpen (verdict.Selects pair) = isActive rf ≡ false
 Legal rf isOpen (verdict.Deactivates type next) = (isActive rf ≡ true) × (isActive next ≡ false)
+Legal rf isOpen verdict.SetsConfig = Unit {0}
+Legal rf isOpen verdict.GetsConfig = Unit {0}
 
 idle-inactive : (rf : Rf) → isIdle rf ≡ true → isActive rf ≡ false
 idle-inactive Idle e = refl
@@ -240,6 +268,10 @@ module _ (isOpen : ℕ → Bool) where
       on (Legal ListenSleep isOpen) (ltb 3 type) (λ e. tt)
       (λ e. on (Legal ListenSleep isOpen) (eqb type 0) (λ z. (refl, refl)) (λ z. tt))
 
+  set-legal : (rf : Rf) (m : Octets) → Legal rf isOpen (setBy rf m)
+  unfolding setBy
+  set-legal rf m = on (Legal rf isOpen) (isIdle rf || not (namesKnown m (countIn m))) (λ e. tt) (λ e. tt)
+
   values-legal : (p : Profile) (k : Controller) (c : Command) (m : Octets) → Legal (k .rf) isOpen (valuesOf p k isOpen c m)
   values-legal p k command.Reset m = reset-legal (k .rf) (getD m 0 0)
   values-legal p k command.Init m = tt
@@ -249,6 +281,8 @@ module _ (isOpen : ℕ → Bool) where
   values-legal p k command.Select m = select-legal (k .rf) (k .pairs) (record { id = getD m 0 0; protocol = getD m 1 0 }) (getD m 2 0)
   values-legal p k command.Deactivate m = deactivate-legal (k .rf) (getD m 0 0)
   values-legal p k command.Unknown m = tt
+  values-legal p k command.SetConfig m = set-legal (k .rf) m
+  values-legal p k command.GetConfig m = tt
 
   pub judge-legal : (p : Profile) (k : Controller) (gid oid : ℕ) (m : Octets) → Legal (k .rf) isOpen (judgeOf p k isOpen gid oid m)
   unfolding judgeOf
@@ -277,6 +311,8 @@ after-steady gid oid aim p k (verdict.Closes c) f m = m
 after-steady gid oid aim p k (verdict.Turns rf) f m = turned-steady k rf m
 after-steady gid oid aim p k (verdict.Selects pair) f m = turned-steady k _ m
 after-steady gid oid aim p k (verdict.Deactivates type rf) f m = turned-steady k rf m
+after-steady gid oid aim p k verdict.SetsConfig f m = m
+after-steady gid oid aim p k verdict.GetsConfig f m = m
 
 -- ---- what a verdict carries is octets, where the command's and the profile's are
 
@@ -307,7 +343,7 @@ deactivate-small ListenSleep type h =
 
 module _ (p : Profile) (k : Controller) (isOpen : ℕ → Bool) (m : Octets) (o : Octal m) (terms : (c : ℕ) → SmallTerms (termsOf p c)) where
   values-small : (c : Command) → SmallVerdict (valuesOf p k isOpen c m)
-  unfolding resetBy createBy closeBy discoverBy
+  unfolding resetBy createBy closeBy discoverBy setBy
   values-small command.Reset = on SmallVerdict (ltb 1 (getD m 0 0)) (λ e. omega arith) (λ e. octal-at o 0)
   values-small command.Init = tt
   values-small command.ConnCreate =
@@ -324,6 +360,8 @@ module _ (p : Profile) (k : Controller) (isOpen : ℕ → Bool) (m : Octets) (o 
       select-small (k .rf) (k .pairs) (record { id = getD m 0 0; protocol = getD m 1 0 }) (getD m 2 0) (octal-at o 0, octal-at o 1)
   values-small command.Deactivate = deactivate-small (k .rf) (getD m 0 0) (octal-at o 0)
   values-small command.Unknown = omega arith
+  values-small command.SetConfig = on SmallVerdict (isIdle (k .rf) || not (namesKnown m (countIn m))) (λ e. tt) (λ e. omega arith)
+  values-small command.GetConfig = tt
 
   pub judge-small : (gid oid : ℕ) → SmallVerdict (judgeOf p k isOpen gid oid m)
   unfolding judgeOf

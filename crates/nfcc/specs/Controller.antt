@@ -12,11 +12,13 @@ use Rattle.nfcc.specs.Kinds.selection.{Nothing, Chosen}
 use Rattle.nfcc.specs.Kinds.rf.{Idle, Discovery, W4AllDiscoveries, W4HostSelect, PollActive, ListenActive, ListenSleep}
 use Rattle.nfcc.specs.Kinds.phase.{Cold, Ready}
 use Rattle.nfcc.specs.Kinds.phase as phase
-use Rattle.nfcc.specs.Kinds.command.{Reset, Init, ConnCreate, ConnClose, Discover, Select, Deactivate, Unknown}
-use Rattle.nfcc.specs.Kinds.verdict.{Refuses, Resets, Initialises, Opens, Closes, Turns, Selects, Deactivates}
+use Rattle.nfcc.specs.Kinds.command.{Reset, Init, ConnCreate, ConnClose, Discover, Select, Deactivate, Unknown, SetConfig, GetConfig}
+use Rattle.nfcc.specs.Kinds.verdict.{Refuses, Resets, Initialises, Opens, Closes, Turns, Selects, Deactivates, SetsConfig, GetsConfig}
 use Rattle.state.specs.Conn.{termsOf, controllerClosedAt, controllerOpenedAt, controllerAllClosed, empty}
 use Rattle.state.specs.Radio.{isIdle, polls, listens, noPairs, listed}
 use Rattle.state.specs.Commands.{commandOf}
+use Rattle.config.specs.Stored.{defaults}
+use Rattle.config.specs.Commands.{countIn, paramAt, namesKnown, configAfter}
 
 -- ---- in order: unknown, too short, wrong state, values
 
@@ -30,6 +32,8 @@ shortest Discover m = 1 + 2 * getD m 0 0
 shortest Select m = 3
 shortest Deactivate m = 1
 shortest Unknown m = 0
+shortest SetConfig m = paramAt m (countIn m)
+shortest GetConfig m = 1 + countIn m
 
 abbrev pub isReset : Phase → Bool
 isReset Cold = false
@@ -51,6 +55,8 @@ allowed p Discover = isReady p
 allowed p Select = isReady p
 allowed p Deactivate = isReady p
 allowed p Unknown = true
+allowed p SetConfig = isReady p
+allowed p GetConfig = isReady p
 
 -- ---- CORE_RESET (003, Table 5)
 
@@ -143,6 +149,12 @@ deactivateBy (ListenActive a) type =
     pick (ltb toDiscovery type) (Refuses syntaxError)
     (pick (sleepRejected a type) (Refuses rejected) (ended type ListenSleep))
 
+-- ---- CORE_SET_CONFIG (003, Table 11)
+
+-- 003, L1794-1798: all of the table's are discovery parameters, which are set in IDLE alone; one that names none of them is answered in every state
+unfoldable pub setBy : Rf → Octets → Verdict
+setBy rf m = pick (isIdle rf || not (namesKnown m (countIn m))) SetsConfig (Refuses semanticError)
+
 -- ---- the judgement
 
 abbrev pub valuesOf : Profile → Controller → (ℕ → Bool) → Command → Octets → Verdict
@@ -154,6 +166,8 @@ valuesOf p k isOpen Discover m = discoverBy (k .rf) m
 valuesOf p k isOpen Select m = selectBy (k .rf) (k .pairs) (record { id = getD m 0 0; protocol = getD m 1 0 }) (getD m 2 0)
 valuesOf p k isOpen Deactivate m = deactivateBy (k .rf) (getD m 0 0)
 valuesOf p k isOpen Unknown m = Refuses syntaxError
+valuesOf p k isOpen SetConfig m = setBy (k .rf) m
+valuesOf p k isOpen GetConfig m = GetsConfig
 
 abbrev pub judgeAs : Profile → Controller → (ℕ → Bool) → Command → Octets → Verdict
 judgeAs p k isOpen c m =
@@ -179,6 +193,8 @@ controllerAfter k (Closes c) = k
 controllerAfter k (Turns rf) = turned k rf
 controllerAfter k (Selects p) = turned k (W4HostSelect (Chosen p))
 controllerAfter k (Deactivates t rf) = turned k rf
+controllerAfter k SetsConfig = k
+controllerAfter k GetsConfig = k
 
 -- ---- the connections after a verdict
 
@@ -191,6 +207,8 @@ connsAfter conns (Closes c) = controllerClosedAt conns c
 connsAfter conns (Turns rf) = conns
 connsAfter conns (Selects p) = conns
 connsAfter conns (Deactivates t rf) = controllerClosedAt conns 0
+connsAfter conns SetsConfig = conns
+connsAfter conns GetsConfig = conns
 
 -- the endpoint's message in hand: connection 0 opens and closes with none
 unfoldable pub endpointAfter : Hand → Verdict → Hand
@@ -202,3 +220,19 @@ endpointAfter h (Closes c) = pick (eqb c 0) empty h
 endpointAfter h (Turns rf) = h
 endpointAfter h (Selects p) = h
 endpointAfter h (Deactivates t rf) = empty
+endpointAfter h SetsConfig = h
+endpointAfter h GetsConfig = h
+
+-- ---- the values after a verdict on the command m
+
+unfoldable pub configBy : Octets → Octets → Verdict → Octets
+configBy b m (Refuses s) = b
+configBy b m (Resets t) = pick (eqb t 1) defaults b
+configBy b m Initialises = b
+configBy b m (Opens c t) = b
+configBy b m (Closes c) = b
+configBy b m (Turns rf) = b
+configBy b m (Selects p) = b
+configBy b m (Deactivates t rf) = b
+configBy b m SetsConfig = configAfter b m
+configBy b m GetsConfig = b

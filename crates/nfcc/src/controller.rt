@@ -1,4 +1,5 @@
 // The controller's judgement of a whole command (document 01, "What the controller answers"). What a verdict does is in effects.
+use config::set;
 use state::commands;
 use state::commands::Command;
 use state::conn::open_at;
@@ -33,7 +34,7 @@ use state::verdict::Verdict;
 ghost use mathlib.Core.Path.{_≡_};
 ghost use Rattle.nfcc.specs.Kinds.rf.{ListenActive, ListenSleep};
 ghost use Rattle.state.specs.Conn.{openAt};
-ghost use Rattle.nfcc.specs.Controller.{shortest, isReset, isReady, allowed, resetBy, after, nextId, opensAs, createBy, closeBy, configOk, configsOk, discoverBy, selectBy, sleepRejected, restState, ended, deactivateBy, valuesOf, judgeOf};
+ghost use Rattle.nfcc.specs.Controller.{shortest, isReset, isReady, allowed, resetBy, after, nextId, opensAs, createBy, closeBy, configOk, configsOk, discoverBy, selectBy, sleepRejected, restState, ended, deactivateBy, setBy, valuesOf, judgeOf};
 
 // The octets that a command must have; an unknown one is judged whatever its payload.
 fn shortest(c: Command, m: &[u8]) -> usize
@@ -49,6 +50,8 @@ fn shortest(c: Command, m: &[u8]) -> usize
         Command::Select => 3,
         Command::Deactivate => 1,
         Command::Unknown => 0,
+        Command::SetConfig => set::list_end(m, octets::octet_at(m, 0)),
+        Command::GetConfig => 1 + (octets::octet_at(m, 0) as usize),
     }
 }
 
@@ -89,6 +92,8 @@ fn allowed(p: Phase, c: Command) -> bool
         Command::Select => ready,
         Command::Deactivate => ready,
         Command::Unknown => true,
+        Command::SetConfig => ready,
+        Command::GetConfig => ready,
     }
 }
 
@@ -311,6 +316,19 @@ fn deactivate_by(rf: Rf, kind: u8) -> Verdict
     }
 }
 
+// CORE_SET_CONFIG_CMD: one that names a known parameter is taken in IDLE alone (003, 5.2.1).
+fn set_by(rf: Rf, m: &[u8]) -> Verdict
+    ensures { λ r. ⌜ r ≡ setBy rf (now (m .entry)) ⌝ }
+{
+    let idle = is_idle(rf);
+    let n = octets::octet_at(m, 0);
+    let known = set::names_known(m, n);
+    if idle | !known {
+        return Verdict::SetsConfig;
+    }
+    Verdict::Refuses(SEMANTIC_ERROR)
+}
+
 // The verdict on a command that is long enough and allowed, by its values.
 fn values_of(p: Profile, k: Controller, conns: [Counts; 5], c: Command, m: &[u8]) -> Verdict
     ensures { λ r. ⌜ r ≡ valuesOf p k (openAt conns) c (now (m .entry)) ⌝ }
@@ -339,6 +357,8 @@ fn values_of(p: Profile, k: Controller, conns: [Counts; 5], c: Command, m: &[u8]
         }
         Command::Deactivate => deactivate_by(rf, first),
         Command::Unknown => Verdict::Refuses(SYNTAX_ERROR),
+        Command::SetConfig => set_by(rf, m),
+        Command::GetConfig => Verdict::GetsConfig,
     }
 }
 

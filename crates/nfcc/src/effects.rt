@@ -1,4 +1,6 @@
-// What a verdict does: to the controller's numbers, to the connections, and to the endpoint's message.
+// What a verdict does: to the controller's numbers, to the connections, to the endpoint's message, and to the configuration parameters.
+use config::set::set_all;
+use config::stored::defaults;
 use state::conn::controller_all_closed;
 use state::conn::controller_closed_at;
 use state::conn::controller_opened_at;
@@ -14,9 +16,12 @@ use state::radio::no_pairs;
 use state::verdict::Verdict;
 ghost use mathlib.Core.Path.{_≡_};
 ghost use lib.Dec.{eqb};
+ghost use lib.ListN.{length};
 ghost use Rattle.octets.specs.Octets.{pick};
 ghost use Rattle.state.specs.Conn.{empty};
-ghost use Rattle.nfcc.specs.Controller.{turned, controllerAfter, connsAfter, endpointAfter};
+ghost use Rattle.config.specs.Table.{configSize};
+ghost use Rattle.config.specs.Stored as values;
+ghost use Rattle.nfcc.specs.Controller.{turned, controllerAfter, connsAfter, endpointAfter, configBy};
 
 // The controller in another RF state. The list of pairs is emptied in IDLE.
 fn turned(k: Controller, rf: Rf) -> Controller
@@ -69,6 +74,8 @@ pub fn controller_after(k: Controller, v: Verdict) -> Controller
         Verdict::Turns(next) => turned(k, next),
         Verdict::Selects(p) => turned(k, Rf::W4HostSelect(Selection::Chosen(p))),
         Verdict::Deactivates(_, next) => turned(k, next),
+        Verdict::SetsConfig => k,
+        Verdict::GetsConfig => k,
     }
 }
 
@@ -85,6 +92,8 @@ pub fn conns_after(conns: [Counts; 5], v: Verdict) -> [Counts; 5]
         Verdict::Turns(_) => conns,
         Verdict::Selects(_) => conns,
         Verdict::Deactivates(_, _) => controller_closed_at(conns, 0),
+        Verdict::SetsConfig => conns,
+        Verdict::GetsConfig => conns,
     }
 }
 
@@ -108,5 +117,37 @@ pub fn endpoint_after(h: Hand, v: Verdict) -> Hand
         Verdict::Turns(_) => h,
         Verdict::Selects(_) => h,
         Verdict::Deactivates(_, _) => empty_hand(),
+        Verdict::SetsConfig => h,
+        Verdict::GetsConfig => h,
+    }
+}
+
+// The values after a RESET: type 1 restores all, type 0 keeps all.
+fn reset_values(b: &mut [u8], kind: u8)
+    requires { ⌜ length (now b) ≡ configSize ⌝ }
+    ensures { λ _. ⌜ now (b .exit) ≡ pick (eqb kind 1) values.defaults (now (b .entry)) ⌝ }
+{
+    if kind == 1 {
+        let all = defaults();
+        octets::put(b, 0, &all);
+    }
+}
+
+// The values after a verdict on the command m. They are of all parameters.
+pub fn config_by(b: &mut [u8], m: &[u8], v: Verdict)
+    requires { ⌜ length (now b) ≡ configSize ⌝ }
+    ensures { λ _. ⌜ now (b .exit) ≡ configBy (now (b .entry)) (now (m .entry)) v ⌝ }
+{
+    match v {
+        Verdict::Refuses(_) => {}
+        Verdict::Resets(kind) => reset_values(b, kind),
+        Verdict::Initialises => {}
+        Verdict::Opens(_, _) => {}
+        Verdict::Closes(_) => {}
+        Verdict::Turns(_) => {}
+        Verdict::Selects(_) => {}
+        Verdict::Deactivates(_, _) => {}
+        Verdict::SetsConfig => set_all(b, m),
+        Verdict::GetsConfig => {}
     }
 }

@@ -1,2 +1,3 @@
 pub mod Octets
 pub mod Octal
+pub mod Hex

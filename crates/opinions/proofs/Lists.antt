@@ -4,8 +4,9 @@
 use mathlib.Core.Path.{_≡_, refl}
 use mathlib.Core.Bool.{true, false}
 use mathlib.Core.List.{[], _∷_}
+use Rattle.octets.specs.Hex.{hex}
 use Rattle.model.specs.Effects.{fresh, power, command, send, push, down, consume, credit, air, reply, up, report}
-use Rattle.opinions.specs.Shown.{hex, line, refusal, done, puts, hands, start, lines}
+use Rattle.opinions.specs.Shown.{line, refusal, done, puts, hands, start, lines}
 
 -- Payload 4 and two credits on connection 0: consume returns no packet there, so that a message of three packets waits
 -- for a notice; before and after it the five numbers of report come to the grant.
@@ -396,3 +397,107 @@ own-pairs :
     ∷ puts (hex 14 0x61050B0101040003030000000000) ∷ hands (hex 5 0x0000000003) ∷ done ∷ hands (hex 5 0x0300000000) ∷ []
 unfolding lines
 own-pairs = refl
+
+-- Sets and gets: before INIT, of every parameter, in two segments, with invalid, unknown and repeated ones, without
+-- octets, cut short and with octets to spare; a response that would pass 255 octets. The numbers of report stay.
+set-and-get :
+    lines
+    (fresh (hex 5 0x2004020401) ∷ command 0 2 (hex 3 0x010801) ∷ down ∷ up ∷ command 0 2 (hex 4 0x01080101) ∷ down ∷ up
+    ∷ command 0 3 (hex 2 0x0108) ∷ down ∷ up ∷ command 0 0 (hex 1 0x01) ∷ down ∷ up ∷ up ∷ command 0 1 (hex 2 0x0000)
+    ∷ down ∷ up ∷ command 0 3 (hex 16 0x0F08091011131418191A2021282A2F68) ∷ down ∷ up ∷ command 0 4 (hex 2 0x0100)
+    ∷ down ∷ up ∷ send 2 (hex 5 0x0102030405) ∷ push 2 ∷ down ∷ report 2
+    ∷ command 0 2 (hex 14 0x040801012002ABCD180103120100) ∷ down ∷ up ∷ command 0 3 (hex 4 0x03200818) ∷ down ∷ up
+    ∷ command 0 2 (hex 48 0x0F08010109010310015A1101011301E01401001801021901011A01FF20030102032101032801012A01CF2F01096801FE)
+    ∷ down ∷ down ∷ up ∷ command 0 3 (hex 16 0x0F08091011131418191A2021282A2F68) ∷ down ∷ up ∷ report 2
+    ∷ command 0 2 (hex 13 0x042F01042F0205052F01062F00) ∷ down ∷ up ∷ command 0 3 (hex 2 0x012F) ∷ down ∷ up
+    ∷ command 0 2 (hex 7 0x022F0107680107) ∷ down ∷ up ∷ command 0 3 (hex 4 0x032F682F) ∷ down ∷ up
+    ∷ command 0 2 (hex 5 0x0220000800) ∷ down ∷ up ∷ command 0 3 (hex 3 0x022008) ∷ down ∷ up
+    ∷ command 0 2 (hex 4 0x00080101) ∷ down ∷ up ∷ command 0 3 (hex 1 0x00) ∷ down ∷ up
+    ∷ command 0 2 (hex 5 0x0108010108) ∷ down ∷ up ∷ command 0 2 (hex 5 0x0209010409) ∷ down ∷ up
+    ∷ command 0 3 (hex 3 0x030809) ∷ down ∷ up ∷ command 0 2 [] ∷ down ∷ up ∷ command 0 3 (hex 3 0x020809) ∷ down ∷ up
+    ∷ command 0 3 (hex 5 0x0412080312) ∷ down ∷ up ∷ command 0 2 (hex 18 0x01200FA0A1A2A3A4A5A6A7A8A9AAABACADAE) ∷ down
+    ∷ up ∷ command 0 3 (hex 16 0x0F202020202020202020202020202020) ∷ down ∷ up ∷ command 0 3 (hex 2 0x0120) ∷ down ∷ up
+    ∷ consume 2 ∷ up ∷ report 2 ∷ [])
+    start
+    ≡ done ∷ puts (hex 6 0x200203010801) ∷ puts (hex 4 0x40020105) ∷ done ∷ puts (hex 7 0x20020401080101)
+    ∷ puts (hex 4 0x40020106) ∷ done ∷ puts (hex 5 0x2003020108) ∷ puts (hex 4 0x40030106) ∷ done
+    ∷ puts (hex 4 0x20000101) ∷ puts (hex 12 0x400001006000050201200000) ∷ done ∷ done ∷ puts (hex 5 0x2001020000)
+    ∷ puts (hex 19 0x40011000000000000400002000000000010100) ∷ done
+    ∷ puts (hex 19 0x2003100F08091011131418191A2021282A2F68)
+    ∷ puts (hex 49 0x40032E000F0801000901081001001101001301001401081801011901001A010820002101002801002A01302F0108680101)
+    ∷ done ∷ puts (hex 5 0x2004020100) ∷ puts (hex 7 0x40040400040202) ∷ done ∷ done ∷ puts (hex 7 0x12000401020304)
+    ∷ done ∷ hands (hex 5 0x0100010000) ∷ puts (hex 17 0x20020E040801012002ABCD180103120100)
+    ∷ puts (hex 7 0x40020409021812) ∷ done ∷ puts (hex 7 0x20030403200818)
+    ∷ puts (hex 15 0x40030C00032002ABCD080101180101) ∷ done
+    ∷ puts (hex 54 0x3002200F08010109010310015A1101011301E01401001801021901011A01FF20030102200210032101032801012A01CF2F01096801FE)
+    ∷ done ∷ puts (hex 5 0x4002020000) ∷ done ∷ puts (hex 19 0x2003100F08091011131418191A2021282A2F68)
+    ∷ puts (hex 52 0x400331000F08010109010310015A1101011301E01401001801021901011A01FF20030102032101032801012A01CF2F01096801FE)
+    ∷ done ∷ hands (hex 5 0x0100010000) ∷ puts (hex 16 0x20020D042F01042F0205052F01062F00) ∷ puts (hex 6 0x40020309012F)
+    ∷ done ∷ puts (hex 5 0x200302012F) ∷ puts (hex 8 0x40030500012F0108) ∷ done ∷ puts (hex 10 0x200207022F0107680107)
+    ∷ puts (hex 6 0x400203090168) ∷ done ∷ puts (hex 7 0x200304032F682F) ∷ puts (hex 14 0x40030B00032F01076801FE2F0107)
+    ∷ done ∷ puts (hex 8 0x2002050220000800) ∷ puts (hex 5 0x4002020000) ∷ done ∷ puts (hex 6 0x200303022008)
+    ∷ puts (hex 10 0x40030700022000080100) ∷ done ∷ puts (hex 7 0x20020400080101) ∷ puts (hex 5 0x4002020000) ∷ done
+    ∷ puts (hex 4 0x20030100) ∷ puts (hex 5 0x4003020000) ∷ done ∷ puts (hex 8 0x2002050108010108)
+    ∷ puts (hex 5 0x4002020000) ∷ done ∷ puts (hex 8 0x2002050209010409) ∷ puts (hex 4 0x40020105) ∷ done
+    ∷ puts (hex 6 0x200303030809) ∷ puts (hex 4 0x40030105) ∷ done ∷ puts (hex 3 0x200200) ∷ puts (hex 4 0x40020105)
+    ∷ done ∷ puts (hex 6 0x200303020809) ∷ puts (hex 11 0x4003080002080101090103) ∷ done
+    ∷ puts (hex 8 0x2003050412080312) ∷ puts (hex 11 0x4003080903120003001200) ∷ done
+    ∷ puts (hex 21 0x20021201200FA0A1A2A3A4A5A6A7A8A9AAABACADAE) ∷ puts (hex 5 0x4002020000) ∷ done
+    ∷ puts (hex 19 0x2003100F202020202020202020202020202020) ∷ puts (hex 4 0x4003010A) ∷ done
+    ∷ puts (hex 5 0x2003020120) ∷ puts (hex 22 0x4003130001200FA0A1A2A3A4A5A6A7A8A9AAABACADAE) ∷ done
+    ∷ puts (hex 7 0x12010401020304) ∷ done ∷ hands (hex 5 0x0200000000) ∷ []
+unfolding lines
+set-and-get = refl
+
+-- A set that names a parameter is refused elsewhere than in IDLE, a get is not; a reset of type 0 keeps the values, one
+-- of type 1, power and fresh restore the defaults.
+values-kept :
+    lines
+    (fresh (hex 5 0x2004020401) ∷ command 0 0 (hex 1 0x01) ∷ down ∷ up ∷ up ∷ command 0 1 (hex 2 0x0000) ∷ down ∷ up
+    ∷ command 0 2 (hex 11 0x030901032002ABCD680120) ∷ down ∷ up ∷ command 0 3 (hex 4 0x03682009) ∷ down ∷ up
+    ∷ command 1 3 (hex 3 0x010001) ∷ down ∷ up ∷ command 0 2 (hex 4 0x01090105) ∷ down ∷ up
+    ∷ command 0 2 (hex 4 0x01120100) ∷ down ∷ up ∷ command 0 2 (hex 5 0x0212000900) ∷ down ∷ up
+    ∷ command 0 3 (hex 3 0x020912) ∷ down ∷ up ∷ command 0 3 (hex 3 0x020918) ∷ down ∷ up ∷ air (hex 4 0x02010400) ∷ up
+    ∷ report 0 ∷ command 0 2 (hex 4 0x01090105) ∷ down ∷ up ∷ command 0 2 (hex 1 0x00) ∷ down ∷ up
+    ∷ command 0 3 (hex 2 0x0109) ∷ down ∷ up ∷ report 0 ∷ command 1 6 (hex 1 0x00) ∷ down ∷ up ∷ up
+    ∷ command 0 2 (hex 4 0x01090105) ∷ down ∷ up ∷ command 0 3 (hex 2 0x0109) ∷ down ∷ up ∷ command 0 0 (hex 1 0x00)
+    ∷ down ∷ up ∷ up ∷ command 0 1 (hex 2 0x0000) ∷ down ∷ up ∷ command 0 3 (hex 16 0x0F08091011131418191A2021282A2F68)
+    ∷ down ∷ up ∷ command 0 0 (hex 1 0x02) ∷ down ∷ up ∷ command 0 3 (hex 2 0x0109) ∷ down ∷ up
+    ∷ command 0 0 (hex 1 0x01) ∷ down ∷ up ∷ up ∷ command 0 1 (hex 2 0x0000) ∷ down ∷ up
+    ∷ command 0 3 (hex 16 0x0F08091011131418191A2021282A2F68) ∷ down ∷ up ∷ command 0 2 (hex 4 0x01180102) ∷ down ∷ up
+    ∷ command 0 3 (hex 2 0x0118) ∷ down ∷ up ∷ power ∷ command 0 0 (hex 1 0x00) ∷ down ∷ up ∷ up
+    ∷ command 0 1 (hex 2 0x0000) ∷ down ∷ up ∷ command 0 3 (hex 2 0x0118) ∷ down ∷ up ∷ command 0 2 (hex 4 0x01180102)
+    ∷ down ∷ up ∷ fresh (hex 5 0x2004020401) ∷ command 0 0 (hex 1 0x00) ∷ down ∷ up ∷ up ∷ command 0 1 (hex 2 0x0000)
+    ∷ down ∷ up ∷ command 0 3 (hex 2 0x0118) ∷ down ∷ up ∷ [])
+    start
+    ≡ done ∷ puts (hex 4 0x20000101) ∷ puts (hex 12 0x400001006000050201200000) ∷ done ∷ done
+    ∷ puts (hex 5 0x2001020000) ∷ puts (hex 19 0x40011000000000000400002000000000010100) ∷ done
+    ∷ puts (hex 14 0x20020B030901032002ABCD680120) ∷ puts (hex 5 0x4002020000) ∷ done ∷ puts (hex 7 0x20030403682009)
+    ∷ puts (hex 15 0x40030C00036801202002ABCD090103) ∷ done ∷ puts (hex 6 0x210303010001) ∷ puts (hex 4 0x41030100)
+    ∷ done ∷ puts (hex 7 0x20020401090105) ∷ puts (hex 4 0x40020106) ∷ done ∷ puts (hex 7 0x20020401120100)
+    ∷ puts (hex 6 0x400203090112) ∷ done ∷ puts (hex 8 0x2002050212000900) ∷ puts (hex 4 0x40020106) ∷ done
+    ∷ puts (hex 6 0x200303020912) ∷ puts (hex 7 0x40030409011200) ∷ done ∷ puts (hex 6 0x200303020918)
+    ∷ puts (hex 11 0x4003080002090103180101) ∷ done ∷ puts (hex 14 0x61050B0101040004010000000000) ∷ done
+    ∷ hands (hex 5 0x0100000000) ∷ puts (hex 7 0x20020401090105) ∷ puts (hex 4 0x40020106) ∷ done
+    ∷ puts (hex 4 0x20020100) ∷ puts (hex 5 0x4002020000) ∷ done ∷ puts (hex 5 0x2003020109)
+    ∷ puts (hex 8 0x4003050001090103) ∷ done ∷ hands (hex 5 0x0100000000) ∷ puts (hex 4 0x21060100)
+    ∷ puts (hex 9 0x410601006106020000) ∷ done ∷ done ∷ puts (hex 7 0x20020401090105) ∷ puts (hex 5 0x4002020000) ∷ done
+    ∷ puts (hex 5 0x2003020109) ∷ puts (hex 8 0x4003050001090105) ∷ done ∷ puts (hex 4 0x20000100)
+    ∷ puts (hex 12 0x400001006000050200200000) ∷ done ∷ done ∷ puts (hex 5 0x2001020000)
+    ∷ puts (hex 19 0x40011000000000000400002000000000010100) ∷ done
+    ∷ puts (hex 19 0x2003100F08091011131418191A2021282A2F68)
+    ∷ puts (hex 51 0x400330000F0801000901051001001101001301001401081801011901001A01082002ABCD2101002801002A01302F0108680120)
+    ∷ done ∷ puts (hex 4 0x20000102) ∷ puts (hex 4 0x40000105) ∷ done ∷ puts (hex 5 0x2003020109)
+    ∷ puts (hex 8 0x4003050001090105) ∷ done ∷ puts (hex 4 0x20000101) ∷ puts (hex 12 0x400001006000050201200000) ∷ done
+    ∷ done ∷ puts (hex 5 0x2001020000) ∷ puts (hex 19 0x40011000000000000400002000000000010100) ∷ done
+    ∷ puts (hex 19 0x2003100F08091011131418191A2021282A2F68)
+    ∷ puts (hex 49 0x40032E000F0801000901081001001101001301001401081801011901001A010820002101002801002A01302F0108680101)
+    ∷ done ∷ puts (hex 7 0x20020401180102) ∷ puts (hex 5 0x4002020000) ∷ done ∷ puts (hex 5 0x2003020118)
+    ∷ puts (hex 8 0x4003050001180102) ∷ done ∷ done ∷ puts (hex 4 0x20000100) ∷ puts (hex 12 0x400001006000050200200000)
+    ∷ done ∷ done ∷ puts (hex 5 0x2001020000) ∷ puts (hex 19 0x40011000000000000400002000000000010100) ∷ done
+    ∷ puts (hex 5 0x2003020118) ∷ puts (hex 8 0x4003050001180101) ∷ done ∷ puts (hex 7 0x20020401180102)
+    ∷ puts (hex 5 0x4002020000) ∷ done ∷ done ∷ puts (hex 4 0x20000100) ∷ puts (hex 12 0x400001006000050200200000)
+    ∷ done ∷ done ∷ puts (hex 5 0x2001020000) ∷ puts (hex 19 0x40011000000000000400002000000000010100) ∷ done
+    ∷ puts (hex 5 0x2003020118) ∷ puts (hex 8 0x4003050001180101) ∷ done ∷ []
+unfolding lines
+values-kept = refl

@@ -7,7 +7,8 @@ use Rattle.model.specs.Effects.{Call, command, push, down}
 use Rattle.model.specs.Bench.{step}
 use Rattle.model.specs.Observer.{events}
 use Rattle.calls.proofs.Played.{as-model}
-use Rattle.opinions.specs.Shown.{hex, Line, refusal, puts, lineOf, profile, start, lines}
+use Rattle.octets.specs.Hex.{hex}
+use Rattle.opinions.specs.Shown.{Line, refusal, puts, lineOf, profile, start, lines}
 use Rattle.opinions.specs.FirstPaper.{paper, paperShows}
 use Rattle.opinions.specs.OnOctets.{seenLine, PaperOnOctets}
 

@@ -5,7 +5,8 @@
 use mathlib.Core.Bool.{false}
 use mathlib.Core.List.{List, [], _∷_}
 use Rattle.model.specs.Effects.{Call, command, send, push, down, consume, credit, air, reply, up, report}
-use Rattle.opinions.specs.Shown.{hex, Line, line, refusal, done, puts, hands}
+use Rattle.octets.specs.Hex.{hex}
+use Rattle.opinions.specs.Shown.{Line, line, refusal, done, puts, hands}
 
 abbrev pub paper : List Call
 paper =

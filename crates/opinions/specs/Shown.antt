@@ -1,16 +1,21 @@
 -- A list of calls as the paper sheet shows it: for each call its answer, the drop flag, the reserved bits, the octets put on wires and the message.
 -- Assumes nothing.
-use Prim.Native.Nat.{ℕ, zero, suc, _/_, _%_}
+use Prim.Native.Nat.{ℕ}
 use mathlib.Core.Bool.{Bool, false}
 use mathlib.Core.List.{List, [], _∷_, _++_}
-use Rattle.octets.specs.Octets.{Octets, cut}
+use Rattle.octets.specs.Octets.{Octets, cut, over, splice}
+use Rattle.octets.specs.Hex.{hex}
 use Rattle.packets.specs.Packet.{octet0, octet1, packetOf, oidOf, carriedOf, spareOf, headerOf, readOf, carrying}
 use Rattle.packets.specs.Segments.{segmentsWithin, segments}
 use Rattle.state.specs.Conn.{placeOf, connOf, termsOf, carriable}
 use Rattle.state.specs.Radio.{listedIn, addedTo}
 use Rattle.state.specs.Commands.{commandOf}
 use Rattle.state.specs.Profile.{profileIn}
-use Rattle.nfcc.specs.Controller.{shortest, allowed, resetBy, after, seek, nextId, createBy, closeBy, configsOk, discoverBy, deactivateBy, judgeOf, controllerAfter}
+use Rattle.nfcc.specs.Controller.{shortest, allowed, resetBy, after, seek, nextId, createBy, closeBy, configsOk, discoverBy, deactivateBy, setBy, judgeOf, controllerAfter, configBy}
+use Rattle.config.specs.Table.{table, findIn, rowOf, allAllowed, acceptable}
+use Rattle.config.specs.Stored.{valueIn, zeroes, withValue}
+use Rattle.config.specs.Commands.{paramAt, setFirst, invalidIn, namesKnown, shownIn, unavailableIn, unavailableCount}
+use Rattle.config.specs.Written.{setWritten, valuesWritten, unavailableWritten, getWritten}
 use Rattle.messages.specs.Layout.{entriesFrom, entryCount, responseOf, noticeMessage}
 use Rattle.air.specs.Air.{foundIn, pollIn, listenIn, eventOf, foundBy, pollBy, listenBy, failedBy, airedBy, airMessage, controllerAired}
 use Rattle.dh.specs.Contents.{noticeOf, zeros, initWritten, createWritten, entriesOk, creditsWritten, discoverWritten, activatedWritten, deactivateWritten, written}
@@ -23,17 +28,6 @@ use Rattle.model.specs.Effects.{Call, Result, taken, refused, Outcome}
 use Rattle.model.specs.Refusals.{first}
 use Rattle.model.specs.calls.Credit.{allZero}
 use Rattle.model.specs.Bench.{step}
-
--- ---- octets as the sheet writes them
-
--- the n lowest octets of a number, put before m
-abbrev pub hexBefore : Octets → ℕ → ℕ → Octets
-hexBefore m zero x = m
-hexBefore m (suc n) x = hexBefore (x % 256 ∷ m) n (x / 256)
-
--- n octets as one number in hexadecimal digits: hex 3 0x0102FF is 1 ∷ 2 ∷ 255 ∷ []
-abbrev pub hex : ℕ → ℕ → Octets
-hex n x = hexBefore [] n x
 
 -- ---- lines
 
@@ -86,6 +80,6 @@ start = cold (profileIn profile)
 
 -- each call's line. What is named below unfolds wherever `lines` does, so that a list of calls computes.
 unfoldable pub lines : List Call → State → List Line
-unfolding cut octet0 octet1 packetOf oidOf carriedOf spareOf headerOf readOf carrying segmentsWithin segments placeOf connOf termsOf carriable listedIn addedTo commandOf shortest allowed resetBy after seek nextId createBy closeBy configsOk discoverBy deactivateBy judgeOf controllerAfter entriesFrom entryCount responseOf noticeMessage foundIn pollIn listenIn eventOf foundBy pollBy listenBy failedBy airedBy airMessage controllerAired noticeOf zeros initWritten createWritten entriesOk creditsWritten discoverWritten activatedWritten deactivateWritten written answerOf heardWritten hearOf creditsIn namesClosed hostAfter dropHeard meaning dataCount insideOf countedUp first allZero step
+unfolding cut over splice octet0 octet1 packetOf oidOf carriedOf spareOf headerOf readOf carrying segmentsWithin segments placeOf connOf termsOf carriable listedIn addedTo commandOf shortest allowed resetBy after seek nextId createBy closeBy configsOk discoverBy deactivateBy setBy judgeOf controllerAfter configBy entriesFrom entryCount responseOf noticeMessage table findIn rowOf allAllowed acceptable valueIn zeroes withValue paramAt setFirst invalidIn namesKnown shownIn unavailableIn unavailableCount setWritten valuesWritten unavailableWritten getWritten foundIn pollIn listenIn eventOf foundBy pollBy listenBy failedBy airedBy airMessage controllerAired noticeOf zeros initWritten createWritten entriesOk creditsWritten discoverWritten activatedWritten deactivateWritten written answerOf heardWritten hearOf creditsIn namesClosed hostAfter dropHeard meaning dataCount insideOf countedUp first allZero step
 lines [] s = []
 lines (c ∷ cs) s = lineOf (step c s) ∷ lines cs (step c s .effect .next)

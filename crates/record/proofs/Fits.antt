@@ -15,7 +15,8 @@ use Rattle.state.specs.Profile.{leastSize, profileOk}
 use Rattle.state.proofs.Chains.{every-at}
 use Rattle.state.proofs.Limits.{profile-within, within-profile}
 use Rattle.area.specs.Map.{areaSize, wireSlots, storeSlots, messageSize, controlSize, places}
-use Rattle.record.specs.Layout.{recordOctets, pairsRoom}
+use Rattle.config.specs.Stored.{parametersOk}
+use Rattle.record.specs.Layout.{recordOctets, configOctets, pairsRoom}
 use Rattle.record.specs.Reading.{decodeOf}
 use Rattle.record.specs.Judge.{ringOk, handOk, givenOk, hostSideOk, controllerSideOk, countsOk, countsOkIn, connsOk, endsOk, recordOk, tagsOk, judgeOf}
 use Rattle.record.specs.Fit.{FitRing, FitHand, FitCounts, Each, Fit, GrantedCounts, Granted}
@@ -205,9 +206,16 @@ fits-judged r f g =
       fits-conns (e .conns) (f .conns) g,
     )
 
-judged-ok : (area : Octets) → judgeOf area ≡ true → recordOk (decodeOf area) ≡ true
-unfolding judgeOf
-judged-ok area h = every-at (tagsOk (recordOctets area)) (recordOk (decodeOf area) ∷ []) h 1
+module _ (area : Octets) (h : judgeOf area ≡ true) where
+  judged-tests : (i : ℕ) → getD (tagsOk (recordOctets area) ∷ recordOk (decodeOf area) ∷ parametersOk (configOctets area) ∷ []) i true ≡ true
+  unfolding judgeOf
+  judged-tests = every-at (tagsOk (recordOctets area)) (recordOk (decodeOf area) ∷ parametersOk (configOctets area) ∷ []) h
+
+  judged-ok : recordOk (decodeOf area) ≡ true
+  judged-ok = judged-tests 1
+
+  pub judged-parameters : parametersOk (configOctets area) ≡ true
+  judged-parameters = judged-tests 2
 
 pub judged-fits : (area : Octets) → judgeOf area ≡ true → areaSize ≤ length area → Fit (decodeOf area)
 judged-fits area h long = ok-fits (decodeOf area) (judged-ok area h)

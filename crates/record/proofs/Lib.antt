@@ -8,6 +8,7 @@ pub mod Conns
 pub mod Saved
 pub mod Taken
 pub mod Outside
+pub mod Configured
 pub mod Claims
 pub mod Asked
 pub mod Controllers

@@ -17,7 +17,8 @@ use Rattle.record.specs.Kinds.phase.{Cold, Reset, Ready}
 use Rattle.record.specs.Kinds.pending as pending
 use Rattle.state.specs.Conn.{closedCounts}
 use Rattle.area.specs.Map.{areaSize, recordAt, recordRoom, wireSlots, messageSize, controlSize, places}
-use Rattle.record.specs.Layout.{recordOctets, pairsRoom, recordEnd, high, low, bit}
+use Rattle.config.specs.Stored.{parametersOk}
+use Rattle.record.specs.Layout.{recordOctets, configOctets, pairsRoom, recordEnd, high, low, bit}
 use Rattle.record.specs.Reading.{wideAt, pendingOf, phaseOf, rfOf, profileAt, progressAt, controlRunAt, handAt, ringAt, hostAt, pairAt, pairsAt, controllerAt, hostSideAt, controllerSideAt, countsAt, connsAt, endsOf, recordOf, decodeOf}
 use Rattle.record.specs.Writing.{pendingOctets, phaseOctet, rfOctets, profileOctets, controlRunOctets, handOctets, ringOctets, hostOctets, noPair, pairsOctets, controllerOctets, countsOctets, connsOctets, frontOctets, middleOctets, wiresOctets, encodeOf}
 use Rattle.record.specs.Judge.{recordOk, rfKnown, connKnown, connsKnown, tagsOk, judgeOf}
@@ -25,6 +26,7 @@ use Rattle.record.specs.Fit.{Shape, FitCounts, Fit}
 use Rattle.record.specs.Claims.{saved}
 use Rattle.record.proofs.Writing.{length-encode}
 use Rattle.record.proofs.Fits.{ok-fits}
+use Rattle.record.proofs.Outside.{same-config}
 
 -- ---- a list is its elements
 
@@ -290,10 +292,10 @@ module _ (area : Octets) (r : Record) (long : areaSize ≤ length area) (s : Sha
   unfolding decodeOf
   reads-back f = ap recordOf in-room ∙ parts r (pendingOctets (r .ends .host .pending)) (rfOctets (r .ends .controller .rf)) (rest area r) ∙ again-back r s f
 
-  pub judged-back : recordOk r ≡ true → judgeOf (saved area r) ≡ true
+  pub judged-back : recordOk r ≡ true → parametersOk (configOctets area) ≡ true → judgeOf (saved area r) ≡ true
   unfolding judgeOf
-  judged-back ok =
+  judged-back ok values =
       let p = r .ends .host .pending in
       let x = r .ends .controller .rf in
       let known = ap tagsOk in-room ∙ tags r (pendingOctets p) (rfOctets x) (rest area r) (pending-known p) (rf-known x) in
-      rw (known, reads-back (ok-fits r ok)) ok
+      rw (known, reads-back (ok-fits r ok), same-config area r, ok) values

@@ -1,4 +1,5 @@
--- What every call has of the record that it writes last: it is what the next call loads, judged good where credits are within the grant, from an area as long.
+-- What every call has of the record that it writes last: it is what the next call loads, judged good where credits are within the grant and the
+-- configuration has values that a set leaves, from an area as long.
 -- Assumes nothing.
 use Prim.Native.Nat.{_≤_}
 use native.Mathlib.Omega.{arith}
@@ -11,6 +12,8 @@ use Rattle.octets.proofs.Octal.{octal-splice}
 use Rattle.octets.proofs.Octets.{length-splice}
 use Rattle.record.specs.Kinds.{Record}
 use Rattle.area.specs.Map.{areaSize, recordAt}
+use Rattle.config.specs.Stored.{parametersOk}
+use Rattle.record.specs.Layout.{configOctets}
 use Rattle.record.specs.Reading.{decodeOf}
 use Rattle.record.specs.Writing.{encodeOf}
 use Rattle.record.specs.Judge.{judgeOf}
@@ -29,7 +32,7 @@ module _ (area : Octets) (r : Record) (long : areaSize ≤ length area) where
     pub saved-record : decodeOf (saved area r) ≡ r
     saved-record = reads-back area r long shape fit
 
-    pub saved-judged : Granted r → judgeOf (saved area r) ≡ true
+    pub saved-judged : Granted r → parametersOk (configOctets area) ≡ true → judgeOf (saved area r) ≡ true
     saved-judged g = judged-back area r long shape (fits-judged r fit g)
 
 pub saved-octal : (area : Octets) (r : Record) → Octal area → Small r → Octal (saved area r)

@@ -10,7 +10,8 @@ use Rattle.record.specs.Kinds.{Hand, Ring, HostSide, ControllerSide, Cou
 use Rattle.state.specs.Conn.{closedCounts}
 use Rattle.state.specs.Profile.{leastSize, profileOk}
 use Rattle.area.specs.Map.{wireSlots, storeSlots, messageSize, controlSize}
-use Rattle.record.specs.Layout.{recordOctets, lostPart, runPart, pendingPart, pairsRoom, rfPart, selectedPart, handPart, hostRunPart, controllerRunPart, hostSideSize, countsPart, hostPlace, hearingPlace, controllerPlace, askingPlace, endpointPlace, connsPlace}
+use Rattle.config.specs.Stored.{parametersOk}
+use Rattle.record.specs.Layout.{recordOctets, configOctets, lostPart, runPart, pendingPart, pairsRoom, rfPart, selectedPart, handPart, hostRunPart, controllerRunPart, hostSideSize, countsPart, hostPlace, hearingPlace, controllerPlace, askingPlace, endpointPlace, connsPlace}
 use Rattle.record.specs.Reading.{decodeOf}
 
 -- "over 16 packets a wire, 8 a store"; "a place .. that isn't there": a head that is no slot of so many
@@ -89,6 +90,6 @@ tagsOk s =
     && rfKnown (getD s (controllerPlace + rfPart) 0) (getD s (controllerPlace + selectedPart) 0)
     && connsKnown s connsPlace
 
--- row 1 does not apply to the area's record
+-- row 1 does not apply to the area's record, with the configuration behind it: values that a set leaves
 unfoldable pub judgeOf : Octets → Bool
-judgeOf area = tagsOk (recordOctets area) && recordOk (decodeOf area)
+judgeOf area = tagsOk (recordOctets area) && recordOk (decodeOf area) && parametersOk (configOctets area)

@@ -5,8 +5,9 @@
 use Prim.Native.Nat.{ℕ, _+_, _*_, _/_, _%_}
 use mathlib.Core.Bool.{Bool, true, false}
 use mathlib.Core.Path.{_≡_, refl}
-use Rattle.octets.specs.Octets.{Octets, cut}
+use Rattle.octets.specs.Octets.{Octets, cut, splice}
 use Rattle.area.specs.Map.{recordAt, recordRoom, places}
+use Rattle.config.specs.Table.{configSize}
 
 -- ---- the area (document 01: "the record rests in the last 512 of those octets")
 
@@ -130,12 +131,26 @@ downPlace = connsPlace + connsSize
 abbrev pub upPlace : ℕ
 upPlace = downPlace + ringSize
 
--- what is past this in the 512 octets is left alone
+-- what is past this in the 512 octets a record's writer leaves alone
 abbrev pub recordEnd : ℕ
 recordEnd = upPlace + ringSize
 
 pub sum-of-sizes : recordEnd ≡ 160
 sum-of-sizes = refl
+
+-- ---- behind it, the configuration: the values of the parameters as octets, which only the calls that set or show one touch
+
+-- where it starts in the area
+abbrev pub configAt : ℕ
+configAt = recordAt + recordEnd
+
+-- the configuration of an area
+unfoldable pub configOctets : Octets → Octets
+configOctets area = cut configAt configSize area
+
+-- the area with the configuration b
+abbrev pub configured : Octets → Octets → Octets
+configured area b = splice area configAt b
 
 -- ---- parts that are stored together
 

@@ -1,6 +1,7 @@
 // Row 1 of the refusals (document 01): whether the record in its octets is one that can be. Nothing branches: each
 // function is the definition of its name in specs/Judge.antt, test by test. Tags are looked at in the octets, since a
 // record has none that is not there.
+use crate::parameters;
 use crate::places;
 use area::map::AREA;
 use area::map::CONTROL;
@@ -8,6 +9,7 @@ use area::map::MESSAGE;
 use area::map::RECORD_AT;
 use area::map::STORE;
 use area::map::WIRE;
+use config::stored::parameters_ok;
 use state::kinds::ControllerSide;
 use state::kinds::Counts;
 use state::kinds::Ends;
@@ -148,7 +150,7 @@ fn tags_ok(s: &[u8]) -> bool
     tags & rf_known(s[RF], s[SELECTED]) & conns_known(s, places::CONNS)
 }
 
-// Whether row 1 does not apply.
+// Whether row 1 does not apply, to the record and to the configuration behind it.
 // The area's record r is decoded by the caller, who needs it too.
 pub fn judge(area: &[u8], r: Record) -> bool
     requires { ⌜ (areaSize ≤ length (now area)) × (r ≡ decodeOf (now area)) ⌝ }
@@ -156,5 +158,6 @@ pub fn judge(area: &[u8], r: Record) -> bool
 {
     let known = tags_ok(&area[RECORD_AT..AREA]);
     let ok = record_ok(r);
-    known & ok
+    let values = parameters_ok(parameters::values_of(area));
+    known & ok & values
 }

@@ -2,6 +2,8 @@
 // number stands here, and nowhere else in the code. Of a struct, SIZE is how many octets it has, and PART where something
 // stands in it.
 use area::map::PLACES;
+use area::map::RECORD_AT;
+use config::table::CONFIG_SIZE;
 
 pub const PROFILE_SIZE: usize = 11;
 
@@ -78,3 +80,8 @@ pub const DOWN: usize = CONNS + CONNS_SIZE;
 pub const UP: usize = DOWN + RING_SIZE;
 
 pub const END: usize = UP + RING_SIZE;
+
+// The configuration, which stands right behind the record: where it starts and where it ends in the area.
+pub const CONFIG_AT: usize = RECORD_AT + END;
+
+pub const CONFIG_END: usize = CONFIG_AT + CONFIG_SIZE;

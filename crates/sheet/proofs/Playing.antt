@@ -31,6 +31,7 @@ use Rattle.calls.specs.Read.{Found, foundOf, readCall, Says}
 use Rattle.calls.specs.Seen.{Puts, noPuts, putsAfter}
 use Rattle.calls.specs.Refines.{Good, Along, Refines}
 use Rattle.calls.specs.calls.Fresh.{freshed, freshCall}
+use Rattle.calls.proofs.Refine.{refined-good}
 use Rattle.calls.proofs.Displayed.{refined-shown}
 use Rattle.calls.proofs.Read.{read-says}
 use Rattle.calls.proofs.Demand.{all-refine}
@@ -50,11 +51,11 @@ use Rattle.sheet.proofs.Fitting.{kept}
 
 -- ---- a call's line is the line of what is seen of it
 
-seen-line : (x : Name) (c : Call) (p : Puts) (a : Octets) (o : Outcome) → Refines c p a o → WithinGrants (step c (viewOf a) .effect .next) → lineOf x o ≡ eventLine x (eventOf c (step c (viewOf a)))
+seen-line : (x : Name) (c : Call) (p : Puts) (a : Octets) (o : Outcome) → Refines c p a o → Good (o .area) → lineOf x o ≡ eventLine x (eventOf c (step c (viewOf a)))
 unfolding handedBy
-seen-line x c p a o r w =
+seen-line x c p a o r g =
     let room : (i : ℕ) → messageSize ≤ length (zeroBuffer i) = λ i. omega (arith, length-replicate {A = ℕ} messageSize 0) in
-    let put = refined-shown zeroBuffer c p a o r w room in
+    let put = refined-shown zeroBuffer c p a o r g room in
     (λ i.
     eventField x ++ answerField (o .word) ++ dropField (o .word) ++ rfuField (o .word) ++ (pktLabel ++ hexOf (joined (put .0 i) ++ joined (put .1 i))) ++ messageField o)
     ∙ ap (eventLine x) (r .event)
@@ -86,9 +87,10 @@ by-call : (x : Name) (c : Call) (p : Puts) (a out : Octets) → Octal (slice c) 
 by-call x c p a out v g room al w =
     let o = perform c a out in
     let r = all-refine c p a out v g room al in
+    let after = refined-good c p a o g r w in
     record {
-      line = seen-line x c p a o r w;
-      good = r .good w;
+      line = seen-line x c p a o r after;
+      good = after;
       next = r .next;
       room = omega (arith, kept c a out .room, room);
       puts = putsAfter c p (o .word);

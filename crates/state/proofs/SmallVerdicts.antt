@@ -30,3 +30,5 @@ SmallVerdict (verdict.Closes c) = Unit {0}
 SmallVerdict (verdict.Turns rf) = Bare rf
 SmallVerdict (verdict.Selects pair) = (pair .id ≤ 255) × (pair .protocol ≤ 255)
 SmallVerdict (verdict.Deactivates type rf) = (type ≤ 255) × Bare rf
+SmallVerdict verdict.SetsConfig = Unit {0}
+SmallVerdict verdict.GetsConfig = Unit {0}

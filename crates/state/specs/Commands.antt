@@ -5,8 +5,8 @@ use lib.Dec.{eqb}
 use lib.ListN.{length, getD}
 use Rattle.octets.specs.Octets.{Octets, pick}
 use Rattle.state.specs.Kinds.{Command}
-use Rattle.state.specs.Names.{gidCore, gidRf, oidReset, oidInit, oidConnCreate, oidConnClose, oidDiscover, oidSelect, oidDeactivate}
-use Rattle.state.specs.Kinds.command.{Reset, Init, ConnCreate, ConnClose, Discover, Select, Deactivate, Unknown}
+use Rattle.state.specs.Names.{gidCore, gidRf, oidReset, oidInit, oidConnCreate, oidConnClose, oidSetConfig, oidGetConfig, oidDiscover, oidSelect, oidDeactivate}
+use Rattle.state.specs.Kinds.command.{Reset, Init, ConnCreate, ConnClose, Discover, Select, Deactivate, Unknown, SetConfig, GetConfig}
 
 unfoldable pub commandOf : ℕ → ℕ → Command
 commandOf gid oid =
@@ -14,7 +14,9 @@ commandOf gid oid =
     (pick (eqb oid oidReset) Reset
     (pick (eqb oid oidInit) Init
     (pick (eqb oid oidConnCreate) ConnCreate
-    (pick (eqb oid oidConnClose) ConnClose Unknown))))
+    (pick (eqb oid oidConnClose) ConnClose
+    (pick (eqb oid oidSetConfig) SetConfig
+    (pick (eqb oid oidGetConfig) GetConfig Unknown))))))
     (pick (eqb gid gidRf)
     (pick (eqb oid oidDiscover) Discover
     (pick (eqb oid oidSelect) Select

@@ -18,6 +18,12 @@ oidReset = 0
 abbrev pub oidInit : ℕ
 oidInit = 1
 
+abbrev pub oidSetConfig : ℕ
+oidSetConfig = 2
+
+abbrev pub oidGetConfig : ℕ
+oidGetConfig = 3
+
 abbrev pub oidConnCreate : ℕ
 oidConnCreate = 4
 
@@ -57,6 +63,12 @@ syntaxError = 0x05
 
 abbrev pub semanticError : ℕ
 semanticError = 0x06
+
+abbrev pub invalidParam : ℕ
+invalidParam = 0x09
+
+abbrev pub sizeExceeded : ℕ
+sizeExceeded = 0x0A
 
 abbrev pub alreadyStarted : ℕ
 alreadyStarted = 0xA0

@@ -13,6 +13,8 @@ pub enum Command {
     Select,
     Deactivate,
     Unknown,
+    SetConfig,
+    GetConfig,
 }
 
 // The command that a GID and an OID name (003, Table 139).
@@ -25,6 +27,8 @@ pub fn command_of(gid: u8, oid: u8) -> Command
             names::OID_INIT => Command::Init,
             names::OID_CONN_CREATE => Command::ConnCreate,
             names::OID_CONN_CLOSE => Command::ConnClose,
+            names::OID_SET_CONFIG => Command::SetConfig,
+            names::OID_GET_CONFIG => Command::GetConfig,
             _ => Command::Unknown,
         },
         names::GID_RF => match oid {

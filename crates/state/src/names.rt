@@ -11,6 +11,10 @@ pub const OID_RESET: u8 = 0;
 
 pub const OID_INIT: u8 = 1;
 
+pub const OID_SET_CONFIG: u8 = 2;
+
+pub const OID_GET_CONFIG: u8 = 3;
+
 pub const OID_CONN_CREATE: u8 = 4;
 
 pub const OID_CONN_CLOSE: u8 = 5;
@@ -36,6 +40,10 @@ pub const REJECTED: u8 = 0x01;
 pub const SYNTAX_ERROR: u8 = 0x05;
 
 pub const SEMANTIC_ERROR: u8 = 0x06;
+
+pub const INVALID_PARAM: u8 = 0x09;
+
+pub const MESSAGE_SIZE_EXCEEDED: u8 = 0x0A;
 
 pub const ALREADY_STARTED: u8 = 0xA0;
 

@@ -17,6 +17,8 @@ use Rattle.views.specs.Kinds.{Hand, Counts}
 use Rattle.state.specs.Conn.{placeOf, closedCounts, countsOf}
 use Rattle.state.proofs.Places.{places-differ}
 use Rattle.state.proofs.Conns.{past-five}
+use Rattle.config.specs.Table.{configSize}
+use Rattle.record.specs.Layout.{configAt, configOctets}
 use Rattle.record.specs.Fit.{FitCounts}
 use Rattle.area.specs.Map.{payloadSize, storeSlots, storeSize, messageSize, places, storeAt, handAt, endpointAt, hostRunAt, controllerRunAt}
 use Rattle.area.specs.Ring.{tab, packetsFrom}
@@ -44,6 +46,11 @@ outside-then lo hi a b c f g i k h = g i k h ∙ f i k h
 pub same-outside : (lo hi at n : ℕ) (a b : Octets) → (at + n ≤ lo) ⊎ (hi ≤ at) → Outside lo hi a b → Same at n a b
 same-outside lo hi at n a b (inl h) o i k l m = o i k (inl (omega arith))
 same-outside lo hi at n a b (inr h) o i k l m = o i k (inr (omega arith))
+
+-- the configuration, behind the record
+pub config-outside : (lo hi : ℕ) (a b : Octets) → hi ≤ configAt → Outside lo hi a b → configOctets b ≡ configOctets a
+unfolding configOctets
+config-outside lo hi a b h o = o configAt configSize (inr h)
 
 -- ---- one connection
 

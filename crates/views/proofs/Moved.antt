@@ -14,12 +14,13 @@ use Rattle.packets.proofs.Packet.{length-packet, length-carrying}
 use Rattle.area.specs.Map.{downAt, upAt, storeAt, handAt, endpointAt, hostRunAt, controllerRunAt, askingAt, hearingAt, payloadSize, slotSize, wireSlots, wireSize, storeSize, messageSize, controlSize, storesAt}
 use Rattle.area.specs.Ring.{slotPacket, trim, freeAt, tookFrom, putInto}
 use Rattle.area.proofs.Rings.{slot-written, slot-copied, trim-carrying, wire, packets-put, packets-took}
+use Rattle.record.specs.Layout.{configOctets}
 use Rattle.record.specs.Plan.{withDown, withUp}
 use Rattle.model.specs.State as bench
 use Rattle.views.specs.View.{handOf, controlRunOf, connsOf, downOf, upOf, view}
 use Rattle.views.specs.Moves.{Sound}
 use Rattle.views.proofs.Parts.{Same, hand-same, run-same, packets-same}
-use Rattle.views.proofs.Frames.{Outside, outside-splice, same-outside, conns-kept}
+use Rattle.views.proofs.Frames.{Outside, outside-splice, same-outside, config-outside, conns-kept}
 
 -- ---- parts that a write leaves alone
 
@@ -46,6 +47,7 @@ module _ (a b : Octets) (r : Record) (s : Sound a r) where
     pub hearing : controlRunOf hearingAt b (r .ends .hearing) ≡ controlRunOf hearingAt a (r .ends .hearing)
     pub asking : controlRunOf askingAt b (r .ends .asking) ≡ controlRunOf askingAt a (r .ends .asking)
     pub conns : connsOf b (r .ends .endpoint) (r .ends .conns) ≡ connsOf a (r .ends .endpoint) (r .ends .conns)
+    pub config : configOctets b ≡ configOctets a
 
   pub on-wires : (lo hi : ℕ) → hi ≤ storesAt → Outside lo hi a b → Off lo hi
   on-wires lo hi h o =
@@ -62,6 +64,7 @@ module _ (a b : Octets) (r : Record) (s : Sound a r) where
               controller-run = same-outside lo hi (controllerRunAt p) messageSize a b (inr (omega arith)) o;
             })
             (endpoint-kept (same-outside lo hi endpointAt messageSize a b (inr (omega arith)) o));
+        config = config-outside lo hi a b (omega arith) o;
       }
 
 -- ---- the down wire
@@ -86,6 +89,7 @@ module _ (a : Octets) (r : Record) (s : Sound a r) where
         conns = off .conns i;
         down = packets-put downAt wireSlots wire a (r .down) v x l h e i;
         up = up-kept a b r s (same-outside downAt upAt upAt wireSize a b (inr (omega arith)) o) i;
+        config = off .config i;
       }
 
   pub put-down : (h : Header) (m : Octets) → length m ≤ payloadSize → r .down .count < wireSlots
@@ -118,6 +122,7 @@ module _ (a : Octets) (r : Record) (s : Sound a r) where
         conns = off .conns i;
         down = down-kept a b r s (same-outside upAt storesAt downAt wireSize a b (inl (omega arith)) o) i;
         up = packets-put upAt wireSlots wire a (r .up) v x l h e i;
+        config = off .config i;
       }
 
   pub put-up : (h : Header) (m : Octets) → length m ≤ payloadSize → r .up .count < wireSlots

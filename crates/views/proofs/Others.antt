@@ -1,5 +1,5 @@
--- The moves that are of no single dynamic connection: the endpoint's message, the control runs, what lies past the runs; and a cold
--- bench.
+-- The moves that are of no single dynamic connection: the endpoint's message, the control runs, what lies past the runs, the
+-- configuration in it; and a cold bench.
 -- Assumes nothing.
 use Prim.Native.Nat.{ℕ, zero, suc, _+_, _≤_, _<_}
 use native.Mathlib.Omega.{arith}
@@ -16,9 +16,13 @@ use Rattle.packets.specs.Reassembly.{run, grown}
 use Rattle.views.specs.Kinds as kinds
 use Rattle.state.specs.Conn.{start, empty, closedCounts, placeOf, countsOf, handWith}
 use Rattle.state.specs.Runs as runs
-use Rattle.area.specs.Map.{payloadSize, wireSize, storeSize, messageSize, controlSize, places, storesAt, downAt, upAt, storeAt, handAt, endpointAt, hostRunAt, controllerRunAt, askingAt, hearingAt, spareAt}
+use Rattle.area.specs.Map.{payloadSize, wireSize, storeSize, messageSize, controlSize, places, storesAt, downAt, upAt, storeAt, handAt, endpointAt, hostRunAt, controllerRunAt, askingAt, hearingAt, spareAt, areaSize}
 use Rattle.area.specs.Ring.{tab, packetsFrom}
 use Rattle.area.specs.Runs.{runArea}
+use Rattle.config.specs.Table.{configSize}
+use Rattle.config.specs.Stored.{defaults}
+use Rattle.record.specs.Layout.{configAt, configOctets, configured}
+use Rattle.record.proofs.Configured.{configured-back}
 use Rattle.record.specs.Plan.{withEndpoint, withHearing, withAsking, coldRecord}
 use Rattle.model.specs.Connection.{spoken}
 use Rattle.model.specs.Connection as connection
@@ -28,7 +32,7 @@ use Rattle.views.specs.View.{handOf, runOf, controlRunOf, connectionOf, 
 use Rattle.views.specs.Moves.{Sound}
 use Rattle.views.proofs.Parts.{hand-put}
 use Rattle.views.proofs.Runs.{run-joined, run-outside}
-use Rattle.views.proofs.Frames.{Outside, outside-splice, same-outside, KeptAt, conn-kept, conns-kept}
+use Rattle.views.proofs.Frames.{Outside, outside-splice, same-outside, config-outside, KeptAt, conn-kept, conns-kept}
 use Rattle.views.proofs.Moved.{hearing-kept, asking-kept, endpoint-kept, down-kept, up-kept}
 
 -- ---- what lies before and after the octets of the connections
@@ -55,8 +59,9 @@ module _ (a b : Octets) (r : Record) (s : Sound a r) (lo hi : ℕ) (o : Outside 
 
 -- ---- past the runs
 
-pub past-runs : (a : Octets) (r : Record) (s : Sound a r) (at : ℕ) (v : Octets) → spareAt ≤ at → view (splice a at v) r ≡ view a r
-past-runs a r s at v h i =
+-- of all that lies there the view has the configuration alone
+beyond-runs : (a : Octets) (r : Record) (s : Sound a r) (at : ℕ) (v : Octets) → spareAt ≤ at → view (splice a at v) r ≡ bench.withConfig (configOctets (splice a at v)) (view a r)
+beyond-runs a r s at v h i =
     let b : Octets = splice a at v in
     let o : Outside at (at + length v) a b = outside-splice at (at + length v) a at v (omega arith) (omega arith) in
     let lo = at in
@@ -70,7 +75,16 @@ past-runs a r s at v h i =
       conns = conns-before a b r s lo hi o (omega arith) i;
       down = down-before a b r s lo hi o (omega arith) i;
       up = up-before a b r s lo hi o (omega arith) i;
+      config = configOctets b;
     }
+
+pub past-runs : (a : Octets) (r : Record) (s : Sound a r) (at : ℕ) (v : Octets) → spareAt ≤ at → at + length v ≤ configAt → view (splice a at v) r ≡ view a r
+past-runs a r s at v h before =
+    beyond-runs a r s at v h
+    ∙ (λ i. bench.withConfig (config-outside at configAt a (splice a at v) (omega arith) (outside-splice at configAt a at v (omega arith) before) i) (view a r))
+
+pub put-config : (a : Octets) (r : Record) (s : Sound a r) (b : Octets) → length b ≡ configSize → view (configured a b) r ≡ bench.withConfig b (view a r)
+put-config a r s b n = beyond-runs a r s configAt b (omega arith) ∙ (λ i. bench.withConfig (configured-back a b (s .room) n i) (view a r))
 
 -- ---- the control runs
 
@@ -115,6 +129,7 @@ module _ (a : Octets) (r : Record) (s : Sound a r) (h : Header) (x : Segment) (e
         conns = conns-before a b r s lo hi o (omega arith) i;
         down = down-before a b r s lo hi o (omega arith) i;
         up = up-before a b r s lo hi o (omega arith) i;
+        config = config-outside lo hi a b (omega arith) o i;
       }
 
   pub join-asking : view (runArea controlSize askingAt a (runs.runFor (r .ends .asking) h) (body x)) (withAsking (runs.controlJoined (r .ends .asking) h (length (body x)) .next) r)
@@ -133,6 +148,7 @@ module _ (a : Octets) (r : Record) (s : Sound a r) (h : Header) (x : Segment) (e
         conns = conns-before a b r s lo hi o (omega arith) i;
         down = down-before a b r s lo hi o (omega arith) i;
         up = up-before a b r s lo hi o (omega arith) i;
+        config = config-outside lo hi a b (omega arith) o i;
       }
 
 -- ---- the endpoint's message
@@ -183,6 +199,7 @@ module _ (a : Octets) (r : Record) (s : Sound a r) (m : Octets) (h : length m �
         conns = λ d. spoken-at d i;
         down = down-before a b r s lo hi o (omega arith) i;
         up = up-before a b r s lo hi o (omega arith) i;
+        config = config-outside lo hi a b (omega arith) o i;
       }
 
 -- its numbers change, and no octet
@@ -212,7 +229,11 @@ unfolding handOf
 silent true = refl
 silent false = refl
 
-pub cold-view : (a : Octets) (p : Profile) → view a (coldRecord p) ≡ bench.cold p
+-- but for its configuration
+cold-ends : (a : Octets) (p : Profile) → view a (coldRecord p) ≡ bench.withConfig (configOctets a) (bench.cold p)
 unfolding handOf runOf packetsFrom tab cut
-cold-view a p i =
-    bench.withConns (λ d. connectionOf (placeOf d) a (all-closed (placeOf d) i) (silent (eqb 0 d) i)) (bench.cold p)
+cold-ends a p i =
+    bench.withConns (λ d. connectionOf (placeOf d) a (all-closed (placeOf d) i) (silent (eqb 0 d) i)) (bench.withConfig (configOctets a) (bench.cold p))
+
+pub cold-view : (a : Octets) (p : Profile) → areaSize ≤ length a → view (configured a defaults) (coldRecord p) ≡ bench.cold p
+cold-view a p long = cold-ends (configured a defaults) p ∙ (λ i. bench.withConfig (configured-back a defaults long refl i) (bench.cold p))

@@ -26,7 +26,7 @@ use Rattle.views.specs.View.{handOf, runOf, connectionOf, speechOf, view
 use Rattle.views.specs.Moves.{Sound, grew, joined}
 use Rattle.views.proofs.Parts.{hand-same, run-same, packets-same, hand-put}
 use Rattle.views.proofs.Runs.{run-joined, run-outside}
-use Rattle.views.proofs.Frames.{Outside, outside-splice, same-outside, KeptAt, conns-changed}
+use Rattle.views.proofs.Frames.{Outside, outside-splice, same-outside, config-outside, KeptAt, conns-changed}
 use Rattle.views.proofs.Moved.{hearing-kept, asking-kept, endpoint-kept, down-kept, up-kept}
 
 -- two places of one kind lie apart
@@ -73,6 +73,7 @@ module _ (a b : Octets) (r : Record) (s : Sound a r) (c : ℕ) (l : placeOf c < 
             (λ d ne j. pick (eqb 0 d) (endpoint-kept a b r s (same-outside lo hi endpointAt messageSize a b speech o) j) []) i;
         down = down-kept a b r s (same-outside lo hi downAt wireSize a b (inl (omega arith)) o) i;
         up = up-kept a b r s (same-outside lo hi upAt wireSize a b (inl (omega arith)) o) i;
+        config = config-outside lo hi a b (omega arith) o i;
       }
 
   -- what is kept of the connection itself

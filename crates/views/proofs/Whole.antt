@@ -16,7 +16,7 @@ use Rattle.views.specs.Moves.{Sound, Moves, Cold}
 use Rattle.views.proofs.Parts.{hand-gone}
 use Rattle.views.proofs.Moved.{put-down, put-up, echo-up, took-down, took-up}
 use Rattle.views.proofs.Places.{put-store, put-hand, join-host, join-controller, counts-set}
-use Rattle.views.proofs.Others.{put-endpoint, join-hearing, join-asking, past-runs, cold-view}
+use Rattle.views.proofs.Others.{put-endpoint, join-hearing, join-asking, past-runs, put-config, cold-view}
 use Rattle.views.proofs.Commands.{puts-down}
 
 pub moves : (a : Octets) (r : Record) → Sound a r → Moves a r
@@ -40,6 +40,7 @@ moves a r s =
       puts-down = puts-down a r s;
       counts-set = λ c k l. counts-set a r s c l k;
       past-runs = past-runs a r s;
+      put-config = put-config a r s;
     }
   where
     gone-hand : (c : ℕ) → placeOf c < places → countsOf (r .ends .conns) c .host .hand .full ≡ true → 1 ≤ countsOf (r .ends .conns) c .host .payload

@@ -13,6 +13,9 @@ use Rattle.packets.specs.Reassembly.{grown, finished, flagged}
 use Rattle.state.specs.Conn as conn
 use Rattle.state.specs.Conn.{placeOf, countsOf, handWith, handAfter}
 use Rattle.state.specs.Runs.{handedOn, joinedOf, runFor, controlJoined}
+use Rattle.config.specs.Table.{configSize}
+use Rattle.config.specs.Stored.{defaults}
+use Rattle.record.specs.Layout.{configAt, configured}
 use Rattle.record.specs.Fit.{Shape, Fit}
 use Rattle.record.specs.Plan.{withDown, withUp, withConns, withEndpoint, withHearing, withAsking, withHand, withHostRun, withStore, withControllerRun, coldRecord}
 use Rattle.area.specs.Map.{payloadSize, slotSize, wireSlots, storeSlots, messageSize, controlSize, places, downAt, upAt, storeAt, handAt, endpointAt, hostRunAt, controllerRunAt, askingAt, hearingAt, spareAt, areaSize}
@@ -122,8 +125,10 @@ module _ (a : Octets) (r : Record) where
         → view a (withConns (set (r .ends .conns) (placeOf c) k) r)
         ≡ bench.withConns (bench.at c (λ _. connectionOf (placeOf c) a k (speechOf a (r .ends .endpoint) c)) (view a r .conns)) (view a r)
     -- the record is written, or what is left over
-    pub past-runs : (at : ℕ) (v : Octets) → spareAt ≤ at → view (splice a at v) r ≡ view a r
+    pub past-runs : (at : ℕ) (v : Octets) → spareAt ≤ at → at + length v ≤ configAt → view (splice a at v) r ≡ view a r
+    -- the configuration is written
+    pub put-config : (b : Octets) → length b ≡ configSize → view (configured a b) r ≡ bench.withConfig b (view a r)
 
--- fresh and power: a cold record stands for a cold bench, whatever the area
+-- fresh and power: a cold record with every parameter at its default stands for a cold bench, whatever else the area has
 abbrev pub Cold : Type 0
-Cold = (a : Octets) (p : Profile) → view a (coldRecord p) ≡ bench.cold p
+Cold = (a : Octets) (p : Profile) → areaSize ≤ length a → view (configured a defaults) (coldRecord p) ≡ bench.cold p

@@ -12,6 +12,7 @@ use Rattle.views.specs.Kinds as kinds
 use Rattle.state.specs.Conn.{placeOf, countsOf}
 use Rattle.area.specs.Map.{payloadSize, wireSlots, storeSlots, downAt, upAt, storeAt, handAt, endpointAt, hostRunAt, controllerRunAt, askingAt, hearingAt}
 use Rattle.area.specs.Ring.{packetsIn}
+use Rattle.record.specs.Layout.{configOctets}
 use Rattle.record.specs.Reading.{decodeOf}
 use Rattle.model.specs.Connection.{HostEnd, ControllerEnd, Connection}
 use Rattle.model.specs.State.{ControlRun, State}
@@ -84,6 +85,7 @@ view a r =
       conns = connsOf a (r .ends .endpoint) (r .ends .conns);
       down = downOf a r;
       up = upOf a r;
+      config = configOctets a;
     }
 
 -- the state that an area stands for, by its own record

@@ -44,6 +44,8 @@ insideResponse command.Discover n = Other
 insideResponse command.Select n = Other
 insideResponse command.Deactivate n = Other
 insideResponse command.Unknown n = Other
+insideResponse command.SetConfig n = Other
+insideResponse command.GetConfig n = Other
 
 abbrev insideNotice : Notice → Inside
 insideNotice notice.Reset = Other
@@ -65,11 +67,16 @@ module _ (gid oid : ℕ) where
       go : (g b : Bool) → eqb oid 4 ≡ b → pick (g && b && eqb n 4) CreateRsp Other
           ≡ insideResponse
           (pick g
-          (pick (eqb oid 0) command.Reset (pick (eqb oid 1) command.Init (pick b command.ConnCreate (pick (eqb oid 5) command.ConnClose command.Unknown))))
+          (pick (eqb oid 0) command.Reset
+          (pick (eqb oid 1) command.Init
+          (pick b command.ConnCreate
+          (pick (eqb oid 5) command.ConnClose (pick (eqb oid 2) command.SetConfig (pick (eqb oid 3) command.GetConfig command.Unknown))))))
           (pick (eqb gid 1) (pick (eqb oid 3) command.Discover (pick b command.Select (pick (eqb oid 6) command.Deactivate command.Unknown))) command.Unknown)) n
       go true true e = rw (eqb-true oid 4 e) refl
       go true false e =
-          on none (eqb oid 0) (λ _. refl) (λ _. on none (eqb oid 1) (λ _. refl) (λ _. on none (eqb oid 5) (λ _. refl) (λ _. refl)))
+          on none (eqb oid 0) (λ _. refl)
+          (λ _. on none (eqb oid 1) (λ _. refl)
+          (λ _. on none (eqb oid 5) (λ _. refl) (λ _. on none (eqb oid 2) (λ _. refl) (λ _. on none (eqb oid 3) (λ _. refl) (λ _. refl)))))
       go false b e =
           on none (eqb gid 1)
           (λ _. on none (eqb oid 3) (λ _. refl) (λ _. on none b (λ _. refl) (λ _. on none (eqb oid 6) (λ _. refl) (λ _. refl))))
@@ -142,6 +149,8 @@ module _ (c : ℕ) (m : Octets) where
   response-same command.Select n l = no-grant command.Select refl
   response-same command.Deactivate n l = no-grant command.Deactivate refl
   response-same command.Unknown n l = no-grant command.Unknown refl
+  response-same command.SetConfig n l = no-grant command.SetConfig refl
+  response-same command.GetConfig n l = no-grant command.GetConfig refl
 
   -- what a notification says where it is written here, and nothing where it is not
   noticed-so : (x : Notice) → pick (noticeWritten x m) (creditsSaid c m (noticed x m)) 0 ≡ creditsSaid c m (pick (noticeWritten x m) (noticed x m) Nothing)

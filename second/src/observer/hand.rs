@@ -81,9 +81,9 @@ impl Observer {
     /// An OK response to CONN_CLOSE or RESET. What it discards from hand was sent before
     /// the command.
     pub(super) fn response_closes(&mut self, conn: u8) -> Result<(), String> {
-        let command = self.command.ok_or("a response to no command")?;
+        let command = self.command.as_ref().ok_or("a response to no command")?.number;
         let sent = self.account(conn).and_then(|account| account.host.hand.discard());
-        if sent.is_some_and(|sent| sent >= command.number) {
+        if sent.is_some_and(|sent| sent >= command) {
             return Err(format!("the close of {conn} discards a message that was sent after the command"));
         }
         self.discards += u64::from(sent.is_some());

@@ -214,8 +214,11 @@ impl Player {
         let any = self.random.octet();
         let length = self.random.pick(&[0, 1, 2, 3, 5, 31, 32, 33, 64, 65, 255, 256]);
         let noise = self.random.octets(length);
-        match self.random.below(18) {
-            16.. => self.short_command(),
+        let kinds = if self.configs { 27 } else { 18 };
+        match self.random.below(kinds) {
+            16..=17 => self.short_command(),
+            18..=22 => self.set_config(),
+            23.. => self.get_config(),
             0 => self.reset(),
             1 => self.command(CORE, CORE_RESET, &[any]),
             2 => self.command(CORE, CORE_INIT, &noise),
@@ -238,11 +241,15 @@ impl Player {
 
     /// A known command with an octet too few, or just enough.
     fn short_command(&mut self) -> Call {
-        let known =
-            [(CORE, CORE_RESET), (CORE, CORE_INIT), (CORE, CORE_CONN_CREATE), (CORE, CORE_CONN_CLOSE)];
-        let of_rf = [(RF, RF_DISCOVER), (RF, RF_DISCOVER_SELECT), (RF, RF_DEACTIVATE)];
-        let (gid, oid) =
-            if self.random.chance(55) { self.random.pick(&known) } else { self.random.pick(&of_rf) };
+        let of_core =
+            [CORE_RESET, CORE_INIT, CORE_CONN_CREATE, CORE_CONN_CLOSE, CORE_SET_CONFIG, CORE_GET_CONFIG];
+        let of_core = &of_core[..if self.configs { 6 } else { 4 }];
+        let of_rf = [RF_DISCOVER, RF_DISCOVER_SELECT, RF_DEACTIVATE];
+        let (gid, oid) = if self.random.chance(55) {
+            (CORE, self.random.pick(of_core))
+        } else {
+            (RF, self.random.pick(&of_rf))
+        };
         let length = self.random.below(4);
         let payload = self.random.octets(length);
         self.command(gid, oid, &payload)

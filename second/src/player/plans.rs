@@ -7,8 +7,11 @@ use crate::connection::{is_dynamic, CONN_IDS, FIRST_DYNAMIC, LAST_DYNAMIC, STATI
 use crate::controller::{Pair, Phase, Rf};
 use crate::layout::*;
 
+/// Of a hundred plans, how many are sets and gets.
+const CONFIGURING: usize = 26;
+
 impl Player {
-    fn then(&mut self, call: Call) {
+    pub(super) fn then(&mut self, call: Call) {
         self.plan.push_back(Step::Call(call));
     }
 
@@ -25,7 +28,7 @@ impl Player {
     }
 
     /// A command that is answered at once, most of the time.
-    fn then_command(&mut self, call: Call) {
+    pub(super) fn then_command(&mut self, call: Call) {
         self.then(call);
         if self.random.chance(90) {
             self.plan.push_back(Step::Settle);
@@ -38,6 +41,9 @@ impl Player {
         }
         if let Some(goal) = self.goal {
             return self.plan_goal(bench, goal);
+        }
+        if self.configs && self.random.chance(CONFIGURING) {
+            return self.plan_configure(bench);
         }
         if !any_open(bench) && self.random.chance(85) {
             return if self.random.chance(55) { self.plan_create() } else { self.plan_way_to_active(bench) };
@@ -102,10 +108,14 @@ impl Player {
         }
     }
 
-    fn plan_bring_up(&mut self) {
+    pub(super) fn plan_bring_up(&mut self) {
         self.plan.push_back(Step::Settle);
         let reset = self.reset();
         self.then_command(reset);
+        self.plan_init();
+    }
+
+    pub(super) fn plan_init(&mut self) {
         let mut payload = vec![0, 0];
         self.trail(&mut payload);
         let init = self.command(CORE, CORE_INIT, &payload);

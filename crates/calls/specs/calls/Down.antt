@@ -22,6 +22,8 @@ use Rattle.area.specs.Ring.{firstAt, freeAt, tookFrom, putInto}
 use Rattle.area.specs.Movers.{putsAll}
 use Rattle.area.specs.Runs.{runArea}
 use Rattle.record.specs.Reading.{decodeOf}
+use Rattle.nfcc.specs.Controller.{configBy}
+use Rattle.record.specs.Layout.{configOctets, configured}
 use Rattle.record.specs.Claims.{saved}
 use Rattle.record.specs.Fit.{FitRing}
 use Rattle.record.specs.Plan.{withDown, withUp, withEnds, withConns, withAsking, withStore}
@@ -103,24 +105,26 @@ abbrev pub commandIn : ℕ → Octets → Octets
 commandIn len a = cut askingAt len a
 
 -- the packets that go up: the response, and the notification after it where there is one
-abbrev pub answersTo : Record → Header → Verdict → List Octets
-answersTo t h v = answers (h .id) (h .oid) (t .ends .profile) v
+abbrev pub answersTo : Record → Header → Octets → Octets → Verdict → List Octets
+answersTo t h b m v = answers (h .id) (h .oid) (t .ends .profile) b m v
 
 abbrev pub moreUp : ℕ → Ring → Ring
 moreUp n k = record { head = k .head; count = k .count + n }
 
-abbrev pub answeredRecord : Record → Header → Verdict → Record
-answeredRecord t h v = withUp (moreUp (length (answersTo t h v)) (t .up)) (withEnds (endsAfter (t .ends) v) t)
+abbrev pub answeredRecord : Record → Header → Octets → Octets → Verdict → Record
+answeredRecord t h b m v = withUp (moreUp (length (answersTo t h b m v)) (t .up)) (withEnds (endsAfter (t .ends) v) t)
 
-abbrev pub answeredArea : Record → Header → Verdict → Octets → Octets
-answeredArea t h v a = putsAll upAt a (t .up) (answersTo t h v)
+-- the packets, and the configuration after the command
+abbrev pub answeredArea : Record → Header → Octets → Octets → Verdict → Octets → Octets
+answeredArea t h b m v a = configured (putsAll upAt a (t .up) (answersTo t h b m v)) (configBy b m v)
 
-abbrev pub answeredBy : Record → Header → Verdict → Octets → Octets → Outcome
-answeredBy t h v a out =
-    outcome (wordOf false false 0 0 (length (answersTo t h v))) (saved (answeredArea t h v a) (answeredRecord t h v)) out
+-- b is the configuration before it, m the command
+abbrev pub answeredBy : Record → Header → Octets → Octets → Verdict → Octets → Octets → Outcome
+answeredBy t h b m v a out =
+    outcome (wordOf false false 0 0 (length (answersTo t h b m v))) (saved (answeredArea t h b m v a) (answeredRecord t h b m v)) out
 
 abbrev pub answered : Record → Header → Octets → Octets → Octets → Outcome
-answered t h m a out = answeredBy t h (verdictOf (t .ends) (h .id) (h .oid) m) a out
+answered t h m a out = answeredBy t h (configOctets a) m (verdictOf (t .ends) (h .id) (h .oid) m) a out
 
 unfoldable pub commandDown : Record → ℕ → Header → ℕ → Octets → Octets → Outcome
 commandDown t slot h n a out =

@@ -1,4 +1,5 @@
--- fresh on octets: a profile of five octets or eleven; all octets of the area are zeroed, and the record of a cold bench is written. The record that was
+-- fresh on octets: a profile of five octets or eleven; all octets of the area are zeroed, and the record of a cold bench is written, with every parameter
+-- at its default. The record that was
 -- there is not judged.
 -- Assumes nothing.
 use Prim.Native.Nat.{ℕ}
@@ -10,6 +11,8 @@ use Rattle.octets.specs.Octets.{Octets, splice}
 use Rattle.state.specs.Profile.{profileIn}
 use Rattle.area.specs.Map.{areaSize, messageSize}
 use Rattle.area.specs.Movers.{zeros}
+use Rattle.config.specs.Stored.{defaults}
+use Rattle.record.specs.Layout.{configured}
 use Rattle.record.specs.Claims.{saved}
 use Rattle.record.specs.Plan.{coldRecord}
 use Rattle.views.specs.View.{viewOf}
@@ -28,7 +31,7 @@ abbrev pub roomRules : ℕ → ℕ → List Rule
 roomRules n room = rule 2 (ltb n areaSize) ∷ rule 2 (ltb room messageSize) ∷ []
 
 abbrev pub freshed : Octets → Octets → Octets → Outcome
-freshed m a out = outcome quietWord (saved (splice a 0 (zeros areaSize)) (coldRecord (profileIn m))) out
+freshed m a out = outcome quietWord (saved (configured (splice a 0 (zeros areaSize)) defaults) (coldRecord (profileIn m))) out
 
 unfoldable pub freshCall : Octets → Octets → Octets → Outcome
 freshCall a out m = decided (first (roomRules (length a) (length out) ++ rules (fresh m) (viewOf a))) (freshed m a out) a out

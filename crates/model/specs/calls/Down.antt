@@ -9,12 +9,12 @@ use Rattle.octets.specs.Octets.{Octets, pick}
 use Rattle.packets.specs.Types.{mtCommand}
 use Rattle.packets.specs.Segments.{Segment, more, last}
 use Rattle.model.specs.Kinds.{Profile, Verdict}
-use Rattle.nfcc.specs.Controller.{judgeOf, controllerAfter}
+use Rattle.nfcc.specs.Controller.{judgeOf, controllerAfter, configBy}
 use Rattle.messages.specs.Layout.{responseMessage, noticeMessage}
 use Rattle.model.specs.Connection.{withController, stored}
 use Rattle.messages.specs.Packets.{responsePacket, noticePackets}
 use Rattle.wires.specs.Meaning.{Meaning, datum, control, junk, meaning}
-use Rattle.model.specs.State.{State, isOpen, at, withConns, withDown, withControllerState, withAsking}
+use Rattle.model.specs.State.{State, isOpen, at, withConns, withDown, withControllerState, withAsking, withConfig}
 use Rattle.model.specs.Effects.{Effect, quiet, flaggedAs, puttingUp}
 use Rattle.model.specs.Refusals.{Rule, rule, isNil, full}
 use Rattle.model.specs.Runs.{runAfter, wholeBy, flagBy}
@@ -41,20 +41,21 @@ abbrev pub firstFull : State → List Octets → Bool
 firstFull s [] = false
 firstFull s (p ∷ w) = storeFull s (meaning p)
 
--- the response, and the notification after it
-abbrev pub answers : ℕ → ℕ → Profile → Verdict → List Octets
-answers gid oid p v = responsePacket (responseMessage gid oid p v) ∷ noticePackets (noticeMessage v)
+-- the response, and the notification after it; b is the configuration, m the command's payload
+abbrev pub answers : ℕ → ℕ → Profile → Octets → Octets → Verdict → List Octets
+answers gid oid p b m v = responsePacket (responseMessage gid oid p b m v) ∷ noticePackets (noticeMessage v)
 
-abbrev pub deciding : ℕ → ℕ → Verdict → State → Effect
-deciding gid oid v s =
-    puttingUp false (answers gid oid (s .profile) v) []
+abbrev pub deciding : ℕ → ℕ → Octets → Verdict → State → Effect
+deciding gid oid m v s =
+    puttingUp false (answers gid oid (s .profile) (s .config) m v) []
+    (withConfig (configBy (s .config) m v)
     (withControllerState (controllerAfter (s .controller) v)
-    (withConns (λ d. withController (atController (changeBy v d) (s .conns d .controller)) (s .conns d)) s))
+    (withConns (λ d. withController (atController (changeBy v d) (s .conns d .controller)) (s .conns d)) s)))
 
 -- a whole command is answered; a segment that ends none only joins its run
 abbrev pub answering : ℕ → ℕ → List Octets → Bool → State → Effect
 answering gid oid [] b s = flaggedAs b s
-answering gid oid (m ∷ ms) b s = deciding gid oid (judgeOf (s .profile) (s .controller) (isOpen s) gid oid m) s
+answering gid oid (m ∷ ms) b s = deciding gid oid m (judgeOf (s .profile) (s .controller) (isOpen s) gid oid m) s
 
 abbrev pub asked : ℕ → ℕ → Segment → State → Effect
 asked gid oid x s =

@@ -19,6 +19,8 @@ use Rattle.state.specs.Runs.{controlLimit}
 use Rattle.state.specs.Profile.{ProfileWithin}
 use Rattle.dh.specs.Contents.{written}
 use Rattle.dh.specs.Host.{isClosing}
+use Rattle.config.specs.Table.{configSize}
+use Rattle.config.specs.Stored.{parametersOk}
 use Rattle.wires.specs.Meaning.{Meaning, datum, control, junk, meaning}
 use Rattle.model.specs.Connection.{Connection}
 use Rattle.model.specs.State.{State}
@@ -30,7 +32,7 @@ use Rattle.model.specs.Observer.{Ledger, Account, Event, putsDown, putsU
 use Rattle.model.specs.Reachable.{Each}
 use Rattle.model.specs.invariant.Items.{Item, itemsOf, segsOf}
 use Rattle.model.specs.invariant.Link.{Good}
-use Rattle.model.specs.invariant.Commands.{Name, heads, replies, pendingName, NoData, Tidy, OnItsWay}
+use Rattle.model.specs.invariant.Commands.{Name, heads, replies, pendingName, NoData, Tidy, Aims, OnItsWay}
 
 -- the order of commands, data and answers: g the connections, w the down wire, ks the commands answered on the up wire, p the command
 -- that the host has unanswered
@@ -78,6 +80,11 @@ pub record Standing (g : ℕ → Connection) (active : Bool) (p : Profile) : Typ
   -- a grant is the profile's for that Conn ID
   pub granted : (d : ℕ) → g d .controller .opened ≡ true → g d .controller .grant ≡ termsOf p d .credits
 
+-- the configuration has its octets, and values that a set leaves: what a get shows is understood
+pub record ConfigWithin (b : Octets) : Type 0 where
+  pub long : length b ≡ configSize
+  pub values : parametersOk b ≡ true
+
 -- one connection, by its number
 abbrev pub GoodAt : ℕ → Connection → List Segment → List Item → Ledger → Type 0
 GoodAt d k ss is l = Good (isLoop d) k ss is l
@@ -89,7 +96,7 @@ pub record Fine (s : State) (aim : ℕ) (l : ℕ → Ledger) : Type 0 where
   -- commands, data and answers are in order
   pub order : Order (s .conns) (s .down) (replies (s .up)) (s .host .pending)
   -- the command under way arrives whole
-  pub way : OnItsWay aim (s .asking) (s .down)
+  pub way : OnItsWay (Aims aim) (s .asking) (s .down)
   -- the host and the observer remember the same connection
   pub aimed : Aimed (s .host .pending) aim
   -- what lies on the up wire is whole
@@ -100,6 +107,8 @@ pub record Fine (s : State) (aim : ℕ) (l : ℕ → Ledger) : Type 0 where
   pub standing : Standing (s .conns) (isActive (s .controller .rf)) (s .profile)
   -- the profile is within its limits
   pub limits : ProfileWithin (s .profile)
+  -- the configuration is within its own
+  pub config : ConfigWithin (s .config)
 
 -- an observer's account of a bench: its wires are those of the bench, and with its ledgers the bench is fine
 pub record Kept (s : State) (o : Account) : Type 0 where

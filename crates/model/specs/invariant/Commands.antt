@@ -106,12 +106,12 @@ NamedIn n junk = Unit {0}
 abbrev pub AllNamed : Name → List Octets → Type 0
 AllNamed n = Each (λ p. NamedIn n (meaning p))
 
--- every command still to be judged names the connection `aim`, if it names one
-abbrev pub AllAim : ℕ → List Octets → Type 0
-AllAim aim = Each (λ m. aimIn m ≡ aim)
+-- it names the connection `aim`, if it names one
+abbrev pub Aims : ℕ → Name → Octets → Type 0
+Aims aim n m = aimIn m ≡ aim
 
--- r is the controller's run of control packets, w the down wire
-pub record OnItsWay (aim : ℕ) (r : ControlRun) (w : List Octets) : Type 0 where
+-- r is the controller's run of control packets, w the down wire, P what is known of a command that was taken, by its name and its payload
+pub record OnItsWay (P : Name → Octets → Type 0) (r : ControlRun) (w : List Octets) : Type 0 where
   -- the command, by a GID and an OID that a header holds
   pub name : Name
   pub low : name .gid < 16
@@ -125,6 +125,6 @@ pub record OnItsWay (aim : ℕ) (r : ControlRun) (w : List Octets) : Type 0 wher
   -- the last of them is there too, and nothing is left over behind it
   pub complete : Complete (orders w)
   pub whole : left so-far (orders w) ≡ []
-  -- the whole command names the connection `aim`, and is within the limit
-  pub aims : AllAim aim (parse so-far (orders w))
+  -- the whole command still to be judged is as it was taken, and within the limit
+  pub as-taken : Each (P name) (parse so-far (orders w))
   pub fits : Fit controlLimit (parse so-far (orders w))

@@ -49,6 +49,18 @@ ok-alone-requires-5 c κs = search needs
 enum-told-8 : tie.Need-enum-told-8
 enum-told-8 c = search needs
 
+enum-told-9 : tie.Need-enum-told-9
+enum-told-9 c = search needs
+
+set-written-requires : tie.Need-set-written-requires
+set-written-requires c κs = search needs
+
+enum-told-10 : tie.Need-enum-told-10
+enum-told-10 c = search needs
+
+get-written-requires : tie.Need-get-written-requires
+get-written-requires c κs = search needs
+
 returns : tie.Need-returns
 returns c = rw (c .before .enum-told .given .1) (c .ok-alone .ensures)
 
@@ -73,6 +85,12 @@ returns-7 c = rw (c .before .enum-told7 .given .1) (c .ok-alone5 .ensures)
 returns-8 : tie.Need-returns-8
 returns-8 c = search needs
 
+returns-9 : tie.Need-returns-9
+returns-9 c = rw (c .before .enum-told9 .given .1) (c .set-written .ensures)
+
+returns-10 : tie.Need-returns-10
+returns-10 c = rw (c .before .enum-told10 .given .1) (c .get-written .ensures)
+
 pub ok-written-spec : {M : Type 1} → statement M
 ok-written-spec =
     tie.close
@@ -92,6 +110,10 @@ ok-written-spec =
     enum-told-7
     ok-alone-requires-5
     enum-told-8
+    enum-told-9
+    set-written-requires
+    enum-told-10
+    get-written-requires
     returns
     returns-2
     returns-3
@@ -99,4 +121,6 @@ ok-written-spec =
     returns-5
     returns-6
     returns-7
-    returns-8)
+    returns-8
+    returns-9
+    returns-10)

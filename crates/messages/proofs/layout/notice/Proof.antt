@@ -54,6 +54,18 @@ enum-known-v-2 c = search needs
 deactivate-ntf-requires : tie.Need-deactivate-ntf-requires
 deactivate-ntf-requires c κs = search needs
 
+enum-told-7 : tie.Need-enum-told-7
+enum-told-7 c = search needs
+
+no-message-requires-7 : tie.Need-no-message-requires-7
+no-message-requires-7 c κs = search needs
+
+enum-told-8 : tie.Need-enum-told-8
+enum-told-8 c = search needs
+
+no-message-requires-8 : tie.Need-no-message-requires-8
+no-message-requires-8 c κs = search needs
+
 returns : tie.Need-returns
 unfolding noticeMessage
 returns c = rw (c .before .enum-told .given .1) (put-nothing _ _ (c .no-message .ensures))
@@ -86,6 +98,14 @@ returns-8 : tie.Need-returns-8
 unfolding noticeMessage
 returns-8 c = rw (c .before .before .before .v2 .given .1) (c .deactivate-ntf .ensures)
 
+returns-9 : tie.Need-returns-9
+unfolding noticeMessage
+returns-9 c = rw (c .before .enum-told7 .given .1) (put-nothing _ _ (c .no-message7 .ensures))
+
+returns-10 : tie.Need-returns-10
+unfolding noticeMessage
+returns-10 c = rw (c .before .enum-told8 .given .1) (put-nothing _ _ (c .no-message8 .ensures))
+
 pub notice-spec : {M : Type 1} → statement M
 notice-spec =
     tie.close
@@ -106,6 +126,10 @@ notice-spec =
     no-message-requires-6
     enum-known-v-2
     deactivate-ntf-requires
+    enum-told-7
+    no-message-requires-7
+    enum-told-8
+    no-message-requires-8
     returns
     returns-2
     returns-3
@@ -113,4 +137,6 @@ notice-spec =
     returns-5
     returns-6
     returns-7
-    returns-8)
+    returns-8
+    returns-9
+    returns-10)

@@ -53,6 +53,18 @@ enum-told-6 c = search needs
 status-requires-6 : tie.Need-status-requires-6
 status-requires-6 c κs = search needs
 
+enum-told-7 : tie.Need-enum-told-7
+enum-told-7 c = search needs
+
+set-config-rsp-requires : tie.Need-set-config-rsp-requires
+set-config-rsp-requires c κs = c .before .before .before .before .before .pre .1 (c .before .enum-told7 .given .1)
+
+enum-told-8 : tie.Need-enum-told-8
+enum-told-8 c = search needs
+
+get-config-rsp-requires : tie.Need-get-config-rsp-requires
+get-config-rsp-requires c κs = search needs
+
 returns : tie.Need-returns
 unfolding responseOf
 returns c = rw (c .before .before .before .v .given .1) (c .status .ensures)
@@ -85,6 +97,14 @@ returns-8 : tie.Need-returns-8
 unfolding responseOf
 returns-8 c = rw (c .before .before .enum-told6 .given .1) (c .status6 .ensures)
 
+returns-9 : tie.Need-returns-9
+unfolding responseOf
+returns-9 c = rw (c .before .before .enum-told7 .given .1) (c .set-config-rsp .ensures)
+
+returns-10 : tie.Need-returns-10
+unfolding responseOf
+returns-10 c = rw (c .before .before .enum-told8 .given .1) (c .get-config-rsp .ensures)
+
 pub response-spec : {M : Type 1} → statement M
 response-spec =
     tie.close
@@ -105,6 +125,10 @@ response-spec =
     status-requires-5
     enum-told-6
     status-requires-6
+    enum-told-7
+    set-config-rsp-requires
+    enum-told-8
+    get-config-rsp-requires
     returns
     returns-2
     returns-3
@@ -112,4 +136,6 @@ response-spec =
     returns-5
     returns-6
     returns-7
-    returns-8)
+    returns-8
+    returns-9
+    returns-10)

@@ -35,6 +35,12 @@ enum-told-7 c = search needs
 enum-told-8 : tie.Need-enum-told-8
 enum-told-8 c = search needs
 
+enum-told-9 : tie.Need-enum-told-9
+enum-told-9 c = search needs
+
+enum-told-10 : tie.Need-enum-told-10
+enum-told-10 c = search needs
+
 returns : tie.Need-returns
 unfolding allowed
 returns c = rw (c .enum-told .given .1)
@@ -67,6 +73,14 @@ returns-8 : tie.Need-returns-8
 unfolding allowed
 returns-8 c = rw (c .enum-told8 .given .1)
 
+returns-9 : tie.Need-returns-9
+unfolding allowed
+returns-9 c = rw (c .enum-told9 .given .1, c .before .before .is-ready .ensures)
+
+returns-10 : tie.Need-returns-10
+unfolding allowed
+returns-10 c = rw (c .enum-told10 .given .1, c .before .before .is-ready .ensures)
+
 pub allowed-spec : {M : Type 1} → statement M
 allowed-spec =
     tie.close
@@ -81,6 +95,8 @@ allowed-spec =
     enum-told-6
     enum-told-7
     enum-told-8
+    enum-told-9
+    enum-told-10
     returns
     returns-2
     returns-3
@@ -88,4 +104,6 @@ allowed-spec =
     returns-5
     returns-6
     returns-7
-    returns-8)
+    returns-8
+    returns-9
+    returns-10)

@@ -41,6 +41,27 @@ enum-told-7 c = search needs
 enum-told-8 : tie.Need-enum-told-8
 enum-told-8 c = search needs
 
+enum-told-9 : tie.Need-enum-told-9
+enum-told-9 c = search needs
+
+octet-at-requires-2 : tie.Need-octet-at-requires-2
+octet-at-requires-2 c κs = search needs
+
+list-end-requires : tie.Need-list-end-requires
+list-end-requires c κs = search needs
+
+enum-told-10 : tie.Need-enum-told-10
+enum-told-10 c = search needs
+
+octet-at-requires-3 : tie.Need-octet-at-requires-3
+octet-at-requires-3 c κs = search needs
+
+cast-result-2 : tie.Need-cast-result-2
+cast-result-2 c = search needs
+
+add-result-2 : tie.Need-add-result-2
+add-result-2 c = search needs
+
 returns : tie.Need-returns
 unfolding shortest
 returns c = rw (c .enum-told .given .1)
@@ -73,6 +94,14 @@ returns-8 : tie.Need-returns-8
 unfolding shortest
 returns-8 c = rw (c .enum-told8 .given .1)
 
+returns-9 : tie.Need-returns-9
+unfolding shortest
+returns-9 c = rw (c .list-end .ensures, c .before .octet-at2 .ensures, c .before .before .enum-told9 .given .1)
+
+returns-10 : tie.Need-returns-10
+unfolding shortest
+returns-10 c = rw (c .octet-at3 .ensures, c .before .enum-told10 .given .1)
+
 pub shortest-spec : {M : Type 1} → statement M
 shortest-spec =
     tie.close
@@ -89,6 +118,13 @@ shortest-spec =
     enum-told-6
     enum-told-7
     enum-told-8
+    enum-told-9
+    octet-at-requires-2
+    list-end-requires
+    enum-told-10
+    octet-at-requires-3
+    cast-result-2
+    add-result-2
     returns
     returns-2
     returns-3
@@ -96,4 +132,6 @@ shortest-spec =
     returns-5
     returns-6
     returns-7
-    returns-8)
+    returns-8
+    returns-9
+    returns-10)

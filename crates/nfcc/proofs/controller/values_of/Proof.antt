@@ -55,6 +55,15 @@ deactivate-by-requires c κs = search needs
 enum-told-8 : tie.Need-enum-told-8
 enum-told-8 c = search needs
 
+enum-told-9 : tie.Need-enum-told-9
+enum-told-9 c = search needs
+
+set-by-requires : tie.Need-set-by-requires
+set-by-requires c κs = search needs
+
+enum-told-10 : tie.Need-enum-told-10
+enum-told-10 c = search needs
+
 returns : tie.Need-returns
 returns c = rw (c .reset-by .ensures, c .before .enum-told .given .1, c .before .before .before .octet-at .ensures)
 
@@ -87,6 +96,12 @@ returns-7 c = rw (c .deactivate-by .ensures, c .before .enum-told7 .given .1, c 
 returns-8 : tie.Need-returns-8
 returns-8 c = rw (c .enum-told8 .given .1)
 
+returns-9 : tie.Need-returns-9
+returns-9 c = rw (c .set-by .ensures, c .before .enum-told9 .given .1)
+
+returns-10 : tie.Need-returns-10
+returns-10 c = rw (c .enum-told10 .given .1)
+
 pub values-of-spec : {M : Type 1} → statement M
 values-of-spec =
     tie.close
@@ -108,6 +123,9 @@ values-of-spec =
     enum-told-7
     deactivate-by-requires
     enum-told-8
+    enum-told-9
+    set-by-requires
+    enum-told-10
     returns
     returns-2
     returns-3
@@ -115,4 +133,6 @@ values-of-spec =
     returns-5
     returns-6
     returns-7
-    returns-8)
+    returns-8
+    returns-9
+    returns-10)

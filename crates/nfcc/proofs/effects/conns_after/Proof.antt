@@ -41,6 +41,12 @@ enum-told-6 c = search needs
 controller-closed-at-requires-2 : tie.Need-controller-closed-at-requires-2
 controller-closed-at-requires-2 c κs = search needs
 
+enum-told-7 : tie.Need-enum-told-7
+enum-told-7 c = search needs
+
+enum-told-8 : tie.Need-enum-told-8
+enum-told-8 c = search needs
+
 returns : tie.Need-returns
 unfolding connsAfter
 returns c = rw (c .enum-told .given .1)
@@ -73,6 +79,14 @@ returns-8 : tie.Need-returns-8
 unfolding connsAfter
 returns-8 c = rw (c .controller-closed-at2 .ensures, c .before .enum-told6 .given .1)
 
+returns-9 : tie.Need-returns-9
+unfolding connsAfter
+returns-9 c = rw (c .enum-told7 .given .1)
+
+returns-10 : tie.Need-returns-10
+unfolding connsAfter
+returns-10 c = rw (c .enum-told8 .given .1)
+
 pub conns-after-spec : {M : Type 1} → statement M
 conns-after-spec =
     tie.close
@@ -89,6 +103,8 @@ conns-after-spec =
     enum-told-5
     enum-told-6
     controller-closed-at-requires-2
+    enum-told-7
+    enum-told-8
     returns
     returns-2
     returns-3
@@ -96,4 +112,6 @@ conns-after-spec =
     returns-5
     returns-6
     returns-7
-    returns-8)
+    returns-8
+    returns-9
+    returns-10)

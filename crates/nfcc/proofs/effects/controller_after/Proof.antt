@@ -41,6 +41,12 @@ enum-known-v-4 c = search needs
 turned-requires-3 : tie.Need-turned-requires-3
 turned-requires-3 c κs = search needs
 
+enum-told-5 : tie.Need-enum-told-5
+enum-told-5 c = search needs
+
+enum-told-6 : tie.Need-enum-told-6
+enum-told-6 c = search needs
+
 returns : tie.Need-returns
 unfolding controllerAfter
 returns c = rw (c .enum-told .given .1)
@@ -73,6 +79,14 @@ returns-8 : tie.Need-returns-8
 unfolding controllerAfter
 returns-8 c = rw (c .turned3 .ensures, c .before .before .v4 .given .1)
 
+returns-9 : tie.Need-returns-9
+unfolding controllerAfter
+returns-9 c = rw (c .enum-told5 .given .1)
+
+returns-10 : tie.Need-returns-10
+unfolding controllerAfter
+returns-10 c = rw (c .enum-told6 .given .1)
+
 pub controller-after-spec : {M : Type 1} → statement M
 controller-after-spec =
     tie.close
@@ -89,6 +103,8 @@ controller-after-spec =
     turned-requires-2
     enum-known-v-4
     turned-requires-3
+    enum-told-5
+    enum-told-6
     returns
     returns-2
     returns-3
@@ -96,4 +112,6 @@ controller-after-spec =
     returns-5
     returns-6
     returns-7
-    returns-8)
+    returns-8
+    returns-9
+    returns-10)

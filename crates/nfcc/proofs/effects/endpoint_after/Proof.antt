@@ -41,6 +41,12 @@ enum-told-6 c = search needs
 empty-hand-requires-2 : tie.Need-empty-hand-requires-2
 empty-hand-requires-2 c κs = search needs
 
+enum-told-7 : tie.Need-enum-told-7
+enum-told-7 c = search needs
+
+enum-told-8 : tie.Need-enum-told-8
+enum-told-8 c = search needs
+
 returns : tie.Need-returns
 unfolding endpointAfter
 returns c = rw (c .enum-told .given .1)
@@ -73,6 +79,14 @@ returns-8 : tie.Need-returns-8
 unfolding endpointAfter
 returns-8 c = rw (c .before .enum-told6 .given .1) (c .empty-hand2 .ensures)
 
+returns-9 : tie.Need-returns-9
+unfolding endpointAfter
+returns-9 c = rw (c .enum-told7 .given .1)
+
+returns-10 : tie.Need-returns-10
+unfolding endpointAfter
+returns-10 c = rw (c .enum-told8 .given .1)
+
 pub endpoint-after-spec : {M : Type 1} → statement M
 endpoint-after-spec =
     tie.close
@@ -89,6 +103,8 @@ endpoint-after-spec =
     enum-told-5
     enum-told-6
     empty-hand-requires-2
+    enum-told-7
+    enum-told-8
     returns
     returns-2
     returns-3
@@ -96,4 +112,6 @@ endpoint-after-spec =
     returns-5
     returns-6
     returns-7
-    returns-8)
+    returns-8
+    returns-9
+    returns-10)
