@@ -26,7 +26,7 @@ static void count(uint64_t word) { taken += nci_word_answer(word) == NCI_TAKEN; 
 static void ask(uint8_t gid, uint8_t oid, size_t len, uint8_t first) {
     octets[0] = first;
     count(nci_command(BENCH, gid, oid, octets, len));
-    count(nci_down(BENCH));
+    while (nci_word_answer(nci_down(BENCH)) == NCI_TAKEN) taken++;
     while (nci_up(BENCH) == NCI_TAKEN) continue;
 }
 
