@@ -201,6 +201,27 @@ static void say_read(const struct told *t) {
     }
 }
 
+/* "ran 12 moves, at rest", "ran 7 moves, message of 9 on 2 at controller, more to run": after a message
+ * moves may be left, and only "at rest" tells that none is. */
+static void say_run(const struct told *t) {
+    unsigned moves = nci_word_moves(t->word);
+    say(moves == 0 ? "no moves" : "ran ");
+    if (moves > 0)
+        say_count(moves, "move");
+    say(nci_word_dropped(t->word) ? ", some dropped" : "");
+    if (nci_word_handed_out(t->word)) {
+        say(", ");
+        say_message(nci_word_length(t->word));
+        say(" on ");
+        say_id(t->press.conn);
+        say(t->press.at_host ? " at host" : " at controller");
+    }
+    if (t->state.length == 0)
+        say(", record damaged");
+    else
+        say(t->press.at_rest ? ", at rest" : ", more to run");
+}
+
 /* Numbers that are not 0, and that the rest is. */
 static void say_report(const struct told *t) {
     static const char *const names[] = {"held", "down", "stored", "owed", "up"};
@@ -244,6 +265,7 @@ static void say_taken(const struct told *t) {
     case UP: say_up(t); break;
     case REPORT: say_report(t); break;
     case READ: say_read(t); break;
+    case RUN: say_run(t); break;
     default: break;
     }
 }

@@ -148,6 +148,23 @@ static void say_read(const struct told *t) {
     }
 }
 
+/* Where the message came out, and whether another press would make a move. */
+static void say_run(const struct told *t) {
+    unsigned moves = nci_word_moves(t->word);
+    if (moves == 0)
+        say("no moves");
+    else
+        say("%u move%s", moves, moves == 1 ? "" : "s");
+    say(nci_word_dropped(t->word) ? "; some dropped" : "");
+    say_handed_out(t->word);
+    if (nci_word_handed_out(t->word))
+        say(" at the %s on connection %u", t->press.at_host ? "host" : "controller", t->press.conn);
+    if (t->state.length == 0)
+        say("; the record is damaged");
+    else
+        say(t->press.at_rest ? "; at rest" : "; moves are left");
+}
+
 static void say_report(unsigned conn, const uint8_t *numbers) {
     say("connection %u: credits held %u, ", conn, numbers[0]);
     say(numbers[0] == NCI_NO_FLOW_CONTROL ? "no flow control, " : "");
@@ -170,6 +187,7 @@ static void say_taken(const struct told *t) {
     case UP: say_up(t); break;
     case REPORT: say_report(t->arg.at[0], t->message.at); break;
     case READ: say_read(t); break;
+    case RUN: say_run(t); break;
     default: break;
     }
 }
@@ -191,6 +209,8 @@ void say_full(const struct told *t) {
     say_hex(&t->message);
     /* - for an empty message, nothing for none */
     say(nci_word_handed_out(t->word) && t->message.length == 0 ? "-" : "");
+    if (t->call == RUN)
+        say(" moves=%u", nci_word_moves(t->word));
     say(" says=\"");
     if (answer == NCI_TAKEN)
         say_taken(t);

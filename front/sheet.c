@@ -40,7 +40,7 @@ static bool read_digits(struct octets *arg, struct text digits) {
 }
 
 static bool take_name(struct text *rest, enum call *call) {
-    for (unsigned i = FRESH; i <= READ; i++) {
+    for (unsigned i = FRESH; i <= RUN; i++) {
         struct text after = *rest;
         if (take_text(&after, call_name((enum call)i)) && take_text(&after, " arg=")) {
             *call = (enum call)i;

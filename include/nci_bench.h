@@ -28,8 +28,9 @@
  * What a call returns. One number of 64 bits, the word. The functions nci_word_..
  * below take it apart: the answer, the drop flag, whether a message was handed
  * out and how long it is, how many packets were put on each wire, which reserved bits
- * the packet had that was read. The word of a refused call is the refusal's number and
- * nothing else. The packets themselves can be read with nci_packet.
+ * the packet had that was read; of nci_run how many moves it made, in place of packets.
+ * The word of a refused call is the refusal's number and nothing else. The packets
+ * themselves can be read with nci_packet.
  *
  * Reserved bits. A sender is to leave these bits of a packet's octet 1, the second one,
  * at 0, and no end goes by them: bits 7 and 6 of a control packet, bits 7 to 2 of data
@@ -146,6 +147,7 @@ extern "C" {
  *   16 to 31  how many octets the message has that was handed out
  *   32 to 39  packets put on the down wire
  *   40 to 47  packets put on the up wire
+ *   32 to 47  of nci_run, which counts no packets: how many moves it made
  *   48 to 55  reserved bits at 1 of the packet that was read
  *   56 to 63  0 */
 
@@ -162,11 +164,14 @@ static inline int nci_word_handed_out(uint64_t word) { return (int)(word >> 9 & 
 /* How many octets the message has that was handed out. */
 static inline size_t nci_word_length(uint64_t word) { return (size_t)(word >> 16 & 0xFFFFu); }
 
-/* How many packets the call put on the down wire. */
+/* How many packets the call put on the down wire; not for nci_run. */
 static inline unsigned nci_word_put_down(uint64_t word) { return (unsigned)(word >> 32 & 0xFFu); }
 
-/* How many packets the call put on the up wire. */
+/* How many packets the call put on the up wire; not for nci_run. */
 static inline unsigned nci_word_put_up(uint64_t word) { return (unsigned)(word >> 40 & 0xFFu); }
+
+/* Of nci_run, and of no other call: how many moves it made. */
+static inline unsigned nci_word_moves(uint64_t word) { return (unsigned)(word >> 32 & 0xFFFFu); }
 
 /* Of nci_down, nci_up and nci_read: the reserved bits that were at 1 in octet 1 of the
  * packet that was read, in their places. 0 if the drop flag is 1, and of all other calls. */
@@ -294,6 +299,20 @@ uint64_t nci_credit(uint8_t *area, size_t area_len, uint8_t *out, size_t out_len
  * hand. */
 uint64_t nci_reply(uint8_t *area, size_t area_len, uint8_t *out, size_t out_len);
 
+/* ---- several keys at once */
+
+/* Run to rest. Moves are made until none is left, or until one hands a message out. Each is
+ * the first of these calls that is taken:
+ *   nci_up; nci_down; nci_consume for 0, 2, 3, 4, 5; nci_credit;
+ *   nci_push for 0, 2, 3, 4, 5; nci_reply.
+ * Area and buffer are as these calls leave them, made one after the other. Hands out what the
+ * last move hands out. The drop flag is set if that of a move is. The word has the number of
+ * moves, 0 at rest and at most 27,877, and counts no packets.
+ * On a bench that nci_fresh made, it is at rest where nothing is handed out: the next nci_run
+ * makes no move, and no message is in hand anywhere. On other octets a move may leave the
+ * record damaged, and is then the last. No refusal of its own. */
+uint64_t nci_run(uint8_t *area, size_t area_len, uint8_t *out, size_t out_len);
+
 /* ---- the air */
 
 /* An event of the RF field meets the controller. The event's octets, the kind first:
@@ -369,8 +388,8 @@ uint64_t nci_read(const uint8_t *octets, size_t octets_len);
  * raised when a call, its word, a number here or the record changes: a program that was built
  * with another one is built anew. It is the number in the shared object's name. The second
  * part is raised when something is added. */
-#define NCI_BENCH_VERSION 200u
-#define NCI_BENCH_VERSION_STRING "2.0"
+#define NCI_BENCH_VERSION 201u
+#define NCI_BENCH_VERSION_STRING "2.1"
 
 /* ---- packets: the header's octets (003, 3.4) */
 

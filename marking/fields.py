@@ -109,7 +109,11 @@ def reserved_words(value):
     return f"reserved bit{'s' if len(bits) > 1 else ''} {names} of octet 1 at 1"
 
 
-CALLS = "fresh power command send push down consume credit air reply up report read".split()
+def moves_words(value):
+    return counted(int(value), "move") if re.fullmatch(r"0|[1-9][0-9]{0,4}", value) else UNKNOWN
+
+
+CALLS = "fresh power command send push down consume credit air reply up report read run".split()
 DROPS = {"0": "nothing dropped", "1": "a packet, or an entry of a credit notice, dropped"}
 
 
@@ -121,5 +125,5 @@ def words(field, value):
         return card().get(value, "no number of the card")
     if field == "drop":
         return DROPS.get(value, UNKNOWN)
-    meaning = {"rfu": reserved_words, "pkt": packets_words, "msg": message_words}.get(field)
+    meaning = {"rfu": reserved_words, "pkt": packets_words, "msg": message_words, "moves": moves_words}.get(field)
     return meaning(value) if meaning else "no field of an answer"

@@ -132,14 +132,18 @@ UNITS = {
     "length": "lengthUnit",
     "put_down": "downUnit",
     "put_up": "upUnit",
+    "moves": "downUnit",
     "rfu": "rfuUnit",
 }
+# the row that is another reading of bits, which others have too
+OF_RUN = "of nci_run"
 
 
 def word_differs(texts):
-    """The table has all 64 bits in order, a row for each function and 0 elsewhere; the functions take what is defined."""
+    """The table has all 64 bits in order, those of run once more, a row for each function and 0 elsewhere; the functions take
+    what is defined."""
     table, taken = word_table(texts["header"]), word_functions(texts["header"])
-    bits = [bit for first, last, _ in table for bit in range(first, last + 1)]
+    bits = [bit for first, last, text in table if not text.startswith(OF_RUN) for bit in range(first, last + 1)]
     if bits != list(range(64)):
         yield f"the table has bits {bits}"
     if sorted((first, last) for first, last, text in table if text != "0") != sorted(taken.values()):
@@ -149,6 +153,10 @@ def word_differs(texts):
         unit = 1 if name == "answer" else int(units.get(UNITS.get(name), 0))
         if name not in taken or 1 << taken[name][0] != unit:
             yield f"{name} starts at {taken.get(name)}, and is defined with {unit}"
+    read = re.search(r"^movesIn w = w / (\w+) % (\d+)$", texts[WORD], re.M)
+    moves = taken.get("moves", (0, 0))
+    if read is None or (read[1], int(read[2])) != (UNITS["moves"], 1 << moves[1] - moves[0] + 1):
+        yield f"moves are read from bits {moves}, and defined as {read and read[0]}"
 
 
 # ---- the version

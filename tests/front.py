@@ -39,8 +39,10 @@ MOST_HEARD, MOST_OF_FRESH = 200, 300
 SAYS = r'says="[ !#-~]+"'
 CALLS = "fresh|power|command|send|push|down|consume|credit|air|reply|up|report|read"
 ANSWERS = "|".join(map(str, [0, *NUMBERS]))
+# of run packets are not told, nor reserved bits, and moves are counted
 LINE = re.compile(
     f"ev=(?:{CALLS}) ans=(?:{ANSWERS}) drop=[01] rfu=[0-9A-F]{{2}} pkt={HEX} msg=(?:-|{HEX}) {SAYS}"
+    f"|ev=run ans=0 drop=[01] rfu=00 pkt= msg=(?:-|{HEX}) moves=(?:0|[1-9][0-9]*) {SAYS}"
     f"|ev=bad ans=3 {SAYS}|ev=(?:octets|more|state|full|card|help|quit) ans=0 {SAYS}"
 )
 
@@ -60,7 +62,7 @@ def check_forged(suite, folder):
     for key, line, words in zip(keys, lines, brief):
         fields = FIELDS.fullmatch(line)
         bits = int(fields[4], 16) if fields else 0
-        good = fields is None or (len(heard(line)) <= MOST_HEARD and says_reserved(fields[7], bits))
+        good = fields is None or (len(heard(line)) <= MOST_HEARD and says_reserved(fields[8], bits))
         suite.holds(f"forged keys, words for {key}", good, line)
         suite.equal(f"forged keys in brief, {key}", brief_bits(words), bits)
 
@@ -216,6 +218,16 @@ def says_read(says, octets, dropped, rfu):
     return says_packet(packet, next(named(octets))) and bits == ([reserved_said(rfu)] if rfu else [])
 
 
+def says_run(says, dropped, message, moves):
+    """Whether a press says its fields, where the message came out, and whether a move is left: after no message none is.
+    tests/keys.py holds the end, the connection and the rest to the moves."""
+    said = f"{plural(moves, 'move') if moves else 'no moves'}{'; some dropped' * dropped}"
+    if message is None:
+        return says == f"{said}; at rest"
+    out = f"{said}; {counted(message)} handed out at the (?:host|controller) on connection [02345]; (?:at rest|moves are left)"
+    return moves > 0 and re.fullmatch(out, says)
+
+
 def heard(line):
     """A line without its octets."""
     return re.sub("(pkt|msg)=[0-9A-F]*", "", line)
@@ -227,11 +239,13 @@ def says_right(key, line, card):
     fields = FIELDS.fullmatch(line)
     if fields is None:
         return line.startswith("ev=bad ")
-    event, answer, dropped, rfu, packets, message, says = fields.groups()
+    event, answer, dropped, rfu, packets, message, moves, says = fields.groups()
     if answer != "0":
         return says == f"{answer}: {card[int(answer)]}"
     if event == "read":
         return says_read(says, bytes.fromhex(key.removeprefix("read ")), dropped == "1", int(rfu, 16))
+    if event == "run":
+        return says_run(says, dropped == "1", len(message.strip("-")) // 2 if message else None, int(moves))
     if event == "command":
         return says == command_said(bytes.fromhex(packets))
     names = list(named(bytes.fromhex(packets)))
@@ -254,7 +268,7 @@ def check_lists(suite, card):
         good = same and len(heard(line)) <= most and says_right(key, line, card)
         suite.holds(f"lists, {key}", good, f"{line}, expected\n  {answer}")
     met = {line.split()[0] for line in lines}
-    suite.equal("lists, every call", met >= {f"ev={call}" for call in CALLS.split("|")}, True)
+    suite.equal("lists, every call", met >= {f"ev={call}" for call in [*CALLS.split("|"), "run"]}, True)
 
 
 # ---- the card, help, and what is no key
@@ -281,7 +295,7 @@ def check_help(suite):
     with Worked(suite, terminal=False) as worked:
         answer = worked.press("help")
         names = answer.removeprefix('ev=help ans=0 says="').removesuffix('"').split()
-        suite.equal("number of keys", len(names), 39)
+        suite.equal("number of keys", len(names), 40)
         grouped = [worked.press(f"help {group}").split('"')[1].split(", ") for group in GROUPS]
         suite.equal("keys by group", sorted(sum(grouped, [])), sorted(names))
         document = (ROOT / "docs" / "FRONT-ENDS.md").read_text()
@@ -300,13 +314,13 @@ NO_KEYS = [
     "select 1", "select 1 4 1", "deactivate 0 0", "command", "command 0", "command 0 G", "command 0 0 1234567",
     "send", "send 2 48656C6C6", "send 2 4865-6C", "push", "push 2 2", "push two", "down 1", "up 1", "consume",
     "credit 2", "found 1 4 0", "poll 1 4", "listen 1 4", "failed 1", "sleeps 1", "lost 1", "releases 1", "says hello",
-    "air", "reply 0", "report", "read 20C00", "read 20 C0 0G", "power 1", "quit 1", "push\0 2",
+    "air", "reply 0", "run 0", "run 2", "report", "read 20C00", "read 20 C0 0G", "power 1", "quit 1", "push\0 2",
     "push\u00a02", "again 1", "octets 1", "more 1", "state 0", "brief 1", "full 1",
     "set", "set 08", "set 08 01 18", "set default", "set 0818 01", "set 08 010", "set PA_BAIL 01", "set 08 defaults",
     "set 08 PA_BAIL_OUT", "get 0g", "get 008", "get PA_BAIL_OUT_", "get default", "set 20 " + "00" * 256,
     # no lines of the sheet
     "ev=down", "ev=down arg=0", "ev=down  arg=", " ev=down arg=", "ev=push arg=0a", "ev=push arg=02 ", "EV=down arg=",
-    "ev=push arg=", "ev=help arg=", "ev=state arg=", "ev=fresh arg=20",
+    "ev=push arg=", "ev=run", "ev=run arg=00", "ev=runs arg=", "ev=help arg=", "ev=state arg=", "ev=fresh arg=20",
     # profiles of 1, 4, 6, 10 and 12 octets
     "fresh 20", "fresh 20040204", "fresh 200402040104", "fresh 20040204020402040204", "fresh 200402040204020402040104",
 ]
@@ -314,7 +328,7 @@ SAME_KEYS = [
     ("PUSH 2", "push 2"), ("  push\t02\r", "push 2"), ("Fresh 20 04 02 04 01", "fresh"), ("discover 0 80", "discover"),
     ("fresh 20 0402 0402 0402 0402 0401", "fresh"), ("fresh 200402040204020402ffFF", "fresh 20 0402 FFFF"),
     ("reset 1", "reset"), ("command 0 3f 4a4B", "Command 003F 4A 4B"), ("deactivate 00", "deactivate"),
-    ("close 2", "command 0 5 2"), ("create", "command 0 4 01 00"), ("read 20 c0 0", "Read 20C000"),
+    ("close 2", "command 0 5 2"), ("create", "command 0 4 01 00"), ("read 20 c0 0", "Read 20C000"), ("Run", "ev=run arg="),
     ("set 8 1", "command 0 2 01 08 01 01"), ("set 8 1 20 0102 7F 0", "command 0 2 03 080101 20020102 7F0100"),
     ("set 18 default", "command 0 2 01 18 00"), ("SET pf_bit_rate Default", "set 18 default"),
     ("get 8 20", "command 0 3 02 08 20"), ("get 0820", "get PA_BAIL_OUT pi_b_h_info"),

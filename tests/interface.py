@@ -44,8 +44,10 @@ PAST_GRANT = 500
 PAST_255 = 100
 # and at least so many packets with reserved bits at 1 are taken, of each kind and each way
 RESERVED = 250
+# and at least so many presses of run
+PRESSES = 10_000
 # groups of cases on benches made by hand
-GROUPS = 43
+GROUPS = 47
 # octets of stack that suffice for every call
 STACK = 12_288
 
@@ -185,6 +187,8 @@ def lists():
     assert int(met["calls"]) >= LIST_CALLS
     # most credits come back inside data packets, and some in notices
     assert int(met["carried"]) > int(met["noticed"]) > 0
+    # every list was brought to rest by presses, within the bound, and no message was in hand then
+    same(met["rests"], met["lists"])
 
 
 def damaged():
@@ -200,6 +204,8 @@ def damaged():
     assert min(past) >= PAST_GRANT and min(wrapped) >= PAST_255, f"past a grant {past}, past 255 {wrapped}"
     assert PAST_GRANT <= int(met["leftpast"]) <= sum(past) - PAST_GRANT, f"{met['leftpast']} of {past} left past a grant"
     same(met["wrapped-consume"], "0")
+    # presses, and those of them whose last move left credits past a grant
+    assert int(met["run"]) >= PRESSES and int(met["endpast"]) >= PAST_GRANT, f"{met['run']} presses, {met['endpast']} past"
     # packets with reserved bits at 1, shown and dropped; the place of credits is reserved going down alone
     kinds = [f"{way}-{kind}" for way in ("down", "up") for kind in ("control", "data", "dropped")] + ["down-credits"]
     reserved = {kind: int(met[f"rfu-{kind}"]) for kind in kinds}

@@ -6,7 +6,8 @@ and that what is lost is said.
     keys.py --built    leaves the building out
 
 A session in brief is in tests/data/brief.txt. Lines of the sheet, spoilt ones too, have to be answered as the program `paper`
-does, and a log has to be answered by it as its session was. tests/ear.py has what an ear can tell apart."""
+does, and a log has to be answered by it as its session was. tests/front_run.py has the key run, tests/ear.py what an ear can tell
+apart."""
 import random
 import re
 import subprocess
@@ -15,6 +16,7 @@ import tempfile
 from itertools import zip_longest
 from pathlib import Path
 
+from front_run import check_presses
 from programs import ROOT, Suite, built
 from worked import FIELDS, KEYS, NOTE, SECONDS, SEED, Worked, check_session, fed, fields, session, sheet_lines, unlike
 
@@ -115,7 +117,7 @@ def check_line_ends(suite):
 
 
 # keys whose calls have no octets, as far as they put, take and hand out nothing
-ALONE = ("power", "down", "up", "credit", "reply", "read")
+ALONE = ("power", "down", "up", "credit", "reply", "read", "run")
 NO_OCTETS = {*ALONE, *(f"ev={name} arg=" for name in ALONE)}
 PART = re.compile("(down|up|message|taken|typed|no more)(?: [0-9]+ of [0-9]+)?(?: length [0-9]+| from octet [0-9]+)?")
 WORDS = {word: f"{value:X}" for value, word in enumerate("alfa bravo charlie delta echo foxtrot".split(), 10)}
@@ -140,15 +142,17 @@ def split(packets):
 
 
 class Wires:
-    """The packets on both wires, by the fields of lines."""
+    """The packets on both wires, by the fields of lines. Behind run they are not known until it says that it is at rest."""
 
     def __init__(self):
-        self.down, self.up = [], []
+        self.down, self.up, self.known = [], [], True
 
-    def taken(self, event, answer, packets):
-        """The packet that a call takes; those that it puts are put."""
-        if event in ("fresh", "power") and answer == "0":
-            self.down, self.up = [], []
+    def taken(self, event, answer, packets, rests):
+        """The packet that a call takes, or None where it is not known; those that it puts are put."""
+        if event == "run" or (event in ("fresh", "power") and answer == "0"):
+            self.down, self.up, self.known = [], [], event != "run" or rests
+        if event in ("down", "up") and not self.known:
+            return None
         wire = {"down": self.down, "up": self.up}.get(event)
         first = wire.pop(0) if wire and answer == "0" else ""
         (self.down if event in ("command", "push") else self.up).extend(split(packets))
@@ -167,7 +171,8 @@ def check_octets(suite):
         if found is None:
             continue
         parts = said.get("down", "") + said.get("up", ""), said.get("message", ""), said.get("taken", "")
-        due = found[5], found[6].strip("-"), wires.taken(found[1], found[2], found[5])
+        taken = wires.taken(found[1], found[2], found[5], found[8].endswith("; at rest"))
+        due = found[5], found[6].strip("-"), parts[2] if taken is None else taken
         suite.equal(f"octets of {key}", parts, due)
         suite.equal(f"octets of {key}, typed", "typed" in said, not any(due) and key not in NO_OCTETS)
 
@@ -212,6 +217,7 @@ def main():
     check_sheet(suite)
     check_line_ends(suite)
     check_octets(suite)
+    check_presses(suite)
     check_again(suite)
     check_page(suite)
     with tempfile.TemporaryDirectory() as folder:

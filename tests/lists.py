@@ -7,7 +7,8 @@
 
 Each paper becomes the statement that the model gives the same answers; `rt check opinions` proves it by computing. A paper
 that has read in it does not: the model has no such call. Together they meet every call and every refusal, every number of
-credits inside a data packet, both lengths of a profile, every status of a set and of a get, and what read tells."""
+credits inside a data packet, both lengths of a profile, every status of a set and of a get, what read tells, and presses of
+Run to rest that make no move, that hand a message out, and that drop a packet."""
 import re
 import sys
 import textwrap
@@ -36,14 +37,23 @@ CALLS = {
     "report": (1, False),
 }
 READ = {"read": (0, True)}
+RUN = {"run": (0, False)}
+EVENTS = CALLS | READ | RUN
 # what read is to meet: packets with reserved bits at 1, and a drop
 READS = ("control", "data", "drop")
+# what presses are to meet
+PRESSES = {
+    "makes no move": lambda press: press.moves == 0,
+    "makes ten moves or more": lambda press: press.moves > 9,
+    "hands a message out": lambda press: press.message is not None,
+    "drops a packet": lambda press: press.drop,
+}
 # octets of a profile
 PROFILES = (5, 11)
 # CORE_SET_CONFIG_RSP and CORE_GET_CONFIG_RSP by the first octets of a packet, and the statuses of each
 CONFIGS = {b"\x40\x02": ("set", (0x00, 0x05, 0x06, 0x09)), b"\x40\x03": ("get", (0x00, 0x05, 0x06, 0x09, 0x0A))}
 # what crates/opinions/specs/Shown.antt lends to the statements
-SHOWN = ["line", "refusal", "done", "puts", "hands", "start", "lines"]
+SHOWN = ["line", "refusal", "done", "puts", "hands", "ran", "start", "lines", "calls", "runs", "strokeLines"]
 
 
 # ---- the papers
@@ -52,18 +62,19 @@ SHOWN = ["line", "refusal", "done", "puts", "hands", "start", "lines"]
 HEX = "(?:[0-9A-F]{2})*"
 HEADING = re.compile("# ([a-z-]+): (.+)")
 ASKED = re.compile(f"ev=([a-z]+) arg=({HEX})")
-ANSWERED = re.compile(f"ev=([a-z]+) ans=([0-9]+) drop=([01]) rfu=([0-9A-F]{{2}}) pkt=({HEX}) msg=(-|{HEX})")
+MOVES = " moves=(0|[1-9][0-9]*)"
+ANSWERED = re.compile(f"ev=([a-z]+) ans=([0-9]+) drop=([01]) rfu=([0-9A-F]{{2}}) pkt=({HEX}) msg=(-|{HEX})(?:{MOVES})?")
 
 
 class Call:
-    """A call and its answer, from two lines of the sheet."""
+    """A call or a press and its answer, from two lines of the sheet. A press alone has moves, and no packets."""
 
     def __init__(self, asked, answered):
         call, answer = ASKED.fullmatch(asked), ANSWERED.fullmatch(answered)
-        if not call or not answer or call[1] != answer[1] or call[1] not in CALLS | READ:
+        if not call or not answer or call[1] != answer[1] or call[1] not in EVENTS:
             raise SystemExit(f"not a call and its answer:\n{asked}\n{answered}")
         self.name, argument = call[1], bytes.fromhex(call[2])
-        singles, more = (CALLS | READ)[self.name]
+        singles, more = EVENTS[self.name]
         self.singles, self.octets = argument[:singles], argument[singles:] if more else None
         if len(self.singles) < singles or (len(argument) > singles and not more):
             raise SystemExit(f"octets missing or to spare:\n{asked}")
@@ -71,7 +82,10 @@ class Call:
         self.packets = bytes.fromhex(answer[5])
         # `-` is an empty message, nothing is none
         self.message = bytes.fromhex(answer[6].strip("-")) if answer[6] else None
-        if self.rfu and self.name in CALLS:
+        self.moves = None if answer[7] is None else int(answer[7])
+        if (self.name in RUN) != (self.moves is not None) or (self.name in RUN and (self.answer or self.packets)):
+            raise SystemExit(f"moves where none are told, or no press:\n{asked}\n{answered}")
+        if self.rfu and self.name not in READ:
             raise SystemExit(f"reserved bits on a bench that is played from fresh on:\n{asked}\n{answered}")
 
 
@@ -88,7 +102,8 @@ class Paper:
         self.stored = [line for line in lines if not ASKED.fullmatch(line)]
         self.answered = output(play, "\n".join(self.asked).encode())[0].decode().splitlines()
         self.calls = [Call(*pair) for pair in zip(self.asked, self.answered, strict=True)]
-        self.stated = all(call.name in CALLS for call in self.calls)
+        self.stated = all(call.name not in READ for call in self.calls)
+        self.pressed = any(call.name in RUN for call in self.calls)
 
     def text(self):
         lines = [line for pair in zip(self.asked, self.answered) for line in pair]
@@ -109,12 +124,12 @@ def read_kind(call):
 
 def missing(papers):
     """Calls never taken, refusals that a call never met, numbers of credits that no data packet carried up, numbers of
-    octets that no profile had, taken or refused, statuses that no set or get was answered with, and what read never met.
-    Refusals 1 and 2 are about areas, which the model does not have."""
+    octets that no profile had, taken or refused, statuses that no set or get was answered with, what read never met, and
+    what no press did. Refusals 1 and 2 are about areas, which the model does not have."""
     calls = [call for paper in papers for call in paper.calls]
     met = Counter((call.name, call.answer) for call in calls)
     table = refusals.load()
-    due = [(name, answer) for name in CALLS | READ for answer in [0, *refusals.own(table[name])]]
+    due = [(name, answer) for name in EVENTS for answer in [0, *refusals.own(table[name])]]
     carried = {call.packets[1] for call in calls if call.name in ("consume", "reply") and call.packets}
     profiles = {(len(call.octets), call.answer) for call in calls if call.name == "fresh"}
     unmet = sorted({(n, answer) for n in PROFILES for answer in (0, 3)} - profiles)
@@ -127,7 +142,9 @@ def missing(papers):
         for response, (name, due) in CONFIGS.items() for status in due if (response, status) not in statuses
     ]
     reads = {read_kind(call) for call in calls if call.name in READ}
-    return lacking + [f"no paper has read meet {kind}" for kind in READS if kind not in reads]
+    lacking += [f"no paper has read meet {kind}" for kind in READS if kind not in reads]
+    presses = [call for call in calls if call.name in RUN]
+    return lacking + [f"no paper has a press that {what}" for what, did in PRESSES.items() if not any(map(did, presses))]
 
 
 # ---- statements
@@ -142,8 +159,20 @@ def call_term(call):
     return " ".join(words if call.octets is None else [*words, octets(call.octets)])
 
 
+def stroke_term(call):
+    """Of a paper with presses: a press, or a call by its term."""
+    term = call_term(call)
+    return "runs" if call.name in RUN else f"calls ({term})" if " " in term else f"calls {term}"
+
+
+def message_term(call):
+    return "[]" if call.message is None else f"({octets(call.message)} ∷ [])"
+
+
 def line_term(call):
     """In a short form where one fits."""
+    if call.name in RUN:
+        return f"ran {call.moves} {str(call.drop).lower()} {message_term(call)}"
     shown = [call.answer != 0, call.drop, call.packets != b"", call.message is not None]
     if shown == [True, False, False, False]:
         return f"refusal {call.answer}"
@@ -153,8 +182,7 @@ def line_term(call):
         return f"puts {octets(call.packets)}"
     if shown == [False, False, False, True]:
         return f"hands {octets(call.message)}"
-    message = "[]" if call.message is None else f"({octets(call.message)} ∷ [])"
-    return f"line {call.answer} {str(call.drop).lower()} {octets(call.packets)} {message}"
+    return f"line {call.answer} {str(call.drop).lower()} {octets(call.packets)} {message_term(call)}"
 
 
 def list_lines(first, terms, last):
@@ -170,15 +198,16 @@ def list_lines(first, terms, last):
 
 
 def statement(paper):
+    lines, term = ("strokeLines", stroke_term) if paper.pressed else ("lines", call_term)
     return "\n".join(
         [
             *textwrap.wrap(paper.shows, WIDTH, initial_indent="-- ", subsequent_indent="-- "),
             f"{paper.name} :",
-            "    lines",
-            *list_lines("    (", map(call_term, paper.calls), ")"),
+            f"    {lines}",
+            *list_lines("    (", map(term, paper.calls), ")"),
             "    start",
             *list_lines("    ≡ ", map(line_term, paper.calls), ""),
-            "unfolding lines",
+            f"unfolding {lines}",
             f"{paper.name} = refl",
         ]
     )

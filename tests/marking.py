@@ -111,6 +111,13 @@ CHANGES = [
     ("first.txt", 3, "ev=push ans=6 drop=0 rfu=00 pkt= msg=", "", ["form, answers: an empty line\n"]),
     ("first.txt", 3, "ev=push ans=6 drop=0 rfu=00 pkt= msg=", "refused", ["form, answers: refused\n"]),
     ("first.txt", 11, "pkt=40040400040202", "pkt=40040400040203", ["create response, status OK"]),
+    ("run.txt", 4, "moves=3", "moves=4", ["moves, answers: 4, 4 moves\n", "moves, played: 3, 3 moves\n"]),
+    ("run.txt", 13, "moves=1", "moves=0", ["moves, answers: 0, 0 moves\n", "moves, played: 1, 1 move\n"]),
+    ("run.txt", 11, "moves=11", "moves=1211", ["moves, answers: 1211, 1211 moves\n", "moves, played: 11, 11 moves\n"]),
+    ("run.txt", 11, "moves=11", "moves=0B", ["moves, answers: 0B, no value of this field"]),
+    ("run.txt", 11, " moves=11", "", ["moves, answers: the field is missing", "moves, played: 11, 11 moves"]),
+    ("run.txt", 9, "msg=0200000000", "msg=0200000000 moves=0", ["moves, answers: 0, 0 moves", "moves, played: the field is missing"]),
+    ("run.txt", 44, "drop=1", "drop=0", ["drop, played: 1, a packet, or an entry of a credit notice, dropped"]),
     ("side-by-side.txt", 45, "ev=bad", "ev=BAD", ["ev, answers: BAD, no value of this field",
      "ev, played: bad, no line of the sheet", "the same but for capital and small letters"]),
 ]
@@ -132,6 +139,8 @@ def check_changes(suite, folder):
         wrong = [] if (complaint, status) == ("", 1) and out.startswith(first) else [f"{out} {complaint} {status}"]
         wrong += [f"{text!r} is not in {out!r}" for text in said if text not in out]
         wrong += [line for line in out.splitlines()[1:] if not line.startswith(f"line {number}, ")]
+        # a number is no row of octets
+        wrong += [line for line in out.splitlines() if re.match(r"line \d+, (ans|moves), octet", line)]
         suite.check(f"{name}, line {number}, {new or 'nothing'} for {old}", wrong)
 
 

@@ -20,10 +20,10 @@ from programs import ROOT, Suite, built, output, second
 
 BAD = b"ev=bad ans=3"
 # every call is taken and meets each of its refusals, credits come to the whole grant, profiles have both lengths, each
-# loopback opens beside one with another grant, and read meets reserved bits at 1 and drops. Close and reset responses discard
-# messages in hand.
+# loopback opens beside one with another grant, read meets reserved bits at 1 and drops, and presses of run make every move.
+# Close and reset responses discard messages in hand.
 COVERED = re.compile(r"seed=\d+ .* bad=(\d+) .* discards=[1-9].* never=none gaps=none")
-# the calls that bring credits back, each with the one packet that it put up
+# the calls that bring credits back, each with the one packet that it put up; run shows none
 RETURNS = re.compile(rb"^ev=(?:consume|reply|credit) ans=0 drop=[01] rfu=00 pkt=([0-9A-F]+) ", re.M)
 
 

@@ -105,12 +105,13 @@ def model_orders(texts):
         begins = definition(octets, f"{call}Call").split()[0]
         first = (outcome, "entryRules") if begins == "called" else (octets, "roomRules")
         orders[call] = rules_in(definition(*first)) + rules_in(body)
-    packet, look, read = (texts[f"crates/calls/specs/{name}.antt"] for name in ("Packet", "Look", "Read"))
-    begins, rules = definition(look, "stateCall").split()[:2]
-    if begins != "called":
-        raise LookupError(f"state begins with {begins}")
+    packet, look, read, run = (texts[f"crates/calls/specs/{name}.antt"] for name in ("Packet", "Look", "Read", "Run"))
     orders["packet"] = rules_in(definition(outcome, "entryRules")) + rules_in(definition(packet, "packetRules"))
-    orders["state"] = rules_in(definition(outcome, "entryRules")) + rules_in(rules)
+    for call, text in (("state", look), ("run", run)):
+        begins, rules = definition(text, f"{call}Call").split()[:2]
+        if begins != "called":
+            raise LookupError(f"{call} begins with {begins}")
+        orders[call] = rules_in(definition(outcome, "entryRules")) + rules_in(rules)
     orders["read"] = [Refusal(int(n)) for n in re.findall(r"refused (\d+)", definition(read, "foundOf"))]
     return {call: [once(numbers) for numbers in by_kind(refusals)] for call, refusals in orders.items()}
 
@@ -175,7 +176,7 @@ def second_orders(texts):
 
 MODEL_FILES = [
     "crates/model/specs/Bench.antt",
-    *(f"crates/calls/specs/{name}.antt" for name in ("Outcome", "Packet", "Look", "Read")),
+    *(f"crates/calls/specs/{name}.antt" for name in ("Outcome", "Packet", "Look", "Read", "Run")),
     *(str(path.relative_to(ROOT)) for folder in (MODEL_CALLS, OCTET_CALLS) for path in sorted((ROOT / folder).glob("*.antt"))),
 ]
 SECOND_FILES = ["second/src/call.rs", "second/src/trial.rs"]

@@ -1,6 +1,6 @@
 #!/usr/bin/env bash
-# The second implementation: its own tests, and a million random calls with demand 3's observer looking on. The last line
-# is 'second: N passed, M failed'; any failure makes the exit status non-zero.
+# The second implementation: its own tests, and a million random calls with demand 3's observer looking on, presses of run
+# among them. The last line is 'second: N passed, M failed'; any failure makes the exit status non-zero.
 set -u
 cd "$(dirname "$0")/../second" || exit 1
 export CARGO_NET_OFFLINE=true
@@ -35,8 +35,8 @@ if [ "$status" -ne 0 ] && [ "$failed" -eq "$before" ]; then
 fi
 
 # every call and every refusal is met, credits come to the whole grant and never past it, profiles have both lengths, each
-# loopback opens beside one with another grant, read meets reserved bits at 1 and drops, and messages in hand are discarded.
-# Everything is built in one profile, so once.
+# loopback opens beside one with another grant, read meets reserved bits at 1 and drops, presses make every move, and messages
+# in hand are discarded. Everything is built in one profile, so once.
 cargo run --release --locked --quiet --bin demand3 -- "$calls" | tee "$log"
 [ "${PIPESTATUS[0]}" -eq 0 ] && grep -q "^mismatch=none .* discards=[1-9].* never=none gaps=none$" "$log"
 result demand3 $?
@@ -47,8 +47,12 @@ field() {
 }
 
 # most credits come back inside data packets; notices are rare, and there are some all the same
-[ "$(field carried)" -gt "$(field noticed)" ] && [ "$(field credit)" -ge "$notices" ]
+[ "$(field carried)" -gt "$(field noticed)" ] && [ "$(($(field credit) + $(field move-credit)))" -ge "$notices" ]
 result "credits inside data packets" $?
+
+# every list came to rest, within the bound and with no message in hand
+[ "$(field lists)" -gt 0 ] && [ "$(field rests)" -eq "$(field lists)" ]
+result "all lists at rest" $?
 
 echo "second: $passed passed, $failed failed"
 [ "$failed" -eq 0 ]

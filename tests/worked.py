@@ -16,8 +16,9 @@ SEED = 13
 NOTE = "keys: note: lines end in CRLF, or begin with a BOM; README.md says how to convert\n"
 
 HEX = "(?:[0-9A-F]{2})*"
+# a line's fields in their order; the number of moves is None but in a line of run
 FIELDS = re.compile(
-    f"ev=([a-z]+) ans=([0-9]+) drop=([01]) rfu=([0-9A-F]{{2}}) pkt=({HEX}) msg=(-|{HEX}) says=\"(.*)\""
+    f"ev=([a-z]+) ans=([0-9]+) drop=([01]) rfu=([0-9A-F]{{2}}) pkt=({HEX}) msg=(-|{HEX})(?: moves=([0-9]+))? says=\"(.*)\""
 )
 
 

@@ -2,7 +2,7 @@
 //! message, report and number of the record must be the same.
 
 use exam_bench::bench::Bench;
-use exam_bench::call::{Call, Outcome};
+use exam_bench::call::{Call, Event, Outcome};
 use exam_bench::connection::CONN_IDS;
 use exam_bench::packet::Way;
 use exam_bench::player::Random;
@@ -34,6 +34,8 @@ pub struct Both {
     pub tally: Tally,
     /// What the last call came to, where the record was not damaged.
     pub outcome: Option<Outcome>,
+    /// The moves that it made, if it was run.
+    pub moves: Vec<Event>,
     /// Calls refused for 1 and 2, and calls that only look.
     pub damaged: u64,
     pub short: u64,
@@ -56,6 +58,8 @@ pub struct PastGrant {
     pub wrapped: [u64; Source::NAMES.len()],
     /// Those of them that left credits past a grant: the record is damaged then.
     pub left: u64,
+    /// Those of these that were the last moves of presses.
+    pub ended: u64,
 }
 
 impl PastGrant {
@@ -72,7 +76,8 @@ impl PastGrant {
             let sources = Source::NAMES.iter().zip(calls);
             sources.map(|(source, calls)| format!("{name}-{source}={calls} ")).collect::<String>()
         };
-        of("past", &self.calls) + &of("wrapped", &self.wrapped) + &format!("leftpast={}", self.left)
+        let left = format!("leftpast={} endpast={}", self.left, self.ended);
+        of("past", &self.calls) + &of("wrapped", &self.wrapped) + &left
     }
 }
 
@@ -109,6 +114,37 @@ impl Reserved {
     }
 }
 
+/// What a call is about to meet on a bench.
+struct About {
+    /// The credits that it adds.
+    sums: Vec<Sum>,
+    /// The stored packet that consume takes.
+    stored: Option<Vec<u8>>,
+    /// The packet that down or up takes off its wire.
+    first: Option<(Way, Vec<u8>)>,
+}
+
+impl About {
+    fn new(bench: &Bench, call: &Call) -> About {
+        let (mut stored, mut first) = (None, None);
+        match call {
+            Call::Consume(conn) => {
+                stored = bench.controller.connection(*conn).and_then(|open| open.store.front().cloned());
+            }
+            Call::Down => first = bench.down_wire.front().map(|packet| (Way::Down, packet.clone())),
+            Call::Up => first = bench.up_wire.front().map(|packet| (Way::Up, packet.clone())),
+            _ => {}
+        }
+        About { sums: grants::sums(bench, call), stored, first }
+    }
+
+    /// Whether the packet that a loopback returned has other credits than stood in it.
+    fn replaces(&self, outcome: &Outcome) -> bool {
+        let replaced = |stored: &Vec<u8>, put: &Vec<u8>| stored[1] % 4 != 0 && stored[1] % 4 != put[1] % 4;
+        matches!((&self.stored, outcome.up.first()), (Some(stored), Some(put)) if replaced(stored, put))
+    }
+}
+
 impl Default for Both {
     fn default() -> Both {
         Both {
@@ -116,6 +152,7 @@ impl Default for Both {
             second: None,
             tally: Tally::default(),
             outcome: None,
+            moves: Vec::new(),
             damaged: 0,
             short: 0,
             looks: 0,
@@ -173,13 +210,17 @@ impl Both {
     /// Makes a call on both.
     pub fn step(&mut self, call: &Call) -> Result<(), String> {
         self.outcome = None;
+        self.moves.clear();
         if let Call::Read(octets) = call {
             return self.read(call, octets);
         }
-        let seen = self.lent.call(call, self.room).map_err(|fault| format!("{}: {fault}", call.name()))?;
-        let stored = self.stored_packet(call);
-        let first = self.first_packet(call);
-        let sums = self.second.as_ref().map_or(Vec::new(), |bench| grants::sums(bench, call));
+        let seen = match call {
+            Call::Run => self.lent.press(self.room),
+            _ => self.lent.call(call, self.room),
+        };
+        let seen = seen.map_err(|fault| format!("{}: {fault}", call.name()))?;
+        let about = self.second.as_ref().map(|bench| About::new(bench, call));
+        let before = if *call == Call::Run { self.second.clone() } else { None };
         let Some(outcome) = self.expected(call) else {
             self.damaged += 1;
             return check(seen.word == RECORD_DAMAGED, || {
@@ -187,16 +228,12 @@ impl Both {
             });
         };
         self.tally.count(call, &outcome);
-        if outcome.taken() {
-            self.tally.count_sums(&sums);
-            self.past_grant.count(&sums);
-        }
-        if let Some(bench) = &self.second {
+        if let (Some(about), Some(bench)) = (about, &self.second) {
             self.tally.count_command(call, &outcome, bench);
+            self.count(about, &outcome);
         }
-        self.count_replaced(stored, &outcome);
-        if let (Some((way, packet)), true) = (first, outcome.taken()) {
-            self.reserved.count(way, &packet, &outcome);
+        if let Some(bench) = before {
+            self.make_moves(bench, outcome.moves)?;
         }
         let due = word::of(&outcome);
         check(seen.word == due, || format!("{}: word {:#x} for {due:#x}", call.name(), seen.word))?;
@@ -206,6 +243,34 @@ impl Both {
         self.look(&outcome)?;
         self.outcome = Some(outcome);
         Ok(())
+    }
+
+    /// The moves of a press that the second implementation made, one by one from the bench
+    /// before it: what each of them met.
+    fn make_moves(&mut self, mut bench: Bench, moves: usize) -> Result<(), String> {
+        for _ in 0..moves {
+            let before = bench.clone();
+            let made = bench.make_move().ok_or("run told more moves than there are")?;
+            self.tally.count_move(&made);
+            self.tally.count_command(&made.call, &made.outcome, &bench);
+            self.count(About::new(&before, &made.call), &made.outcome);
+            self.moves.push(made);
+        }
+        self.past_grant.ended += u64::from(bench.is_past_grant());
+        check(self.second.as_ref() == Some(&bench), || "run left another bench than its moves".to_string())
+    }
+
+    /// What a call met, if it was taken.
+    fn count(&mut self, about: About, outcome: &Outcome) {
+        if !outcome.taken() {
+            return;
+        }
+        self.tally.count_sums(&about.sums);
+        self.past_grant.count(&about.sums);
+        self.replaced += u64::from(about.replaces(outcome));
+        if let Some((way, packet)) = about.first {
+            self.reserved.count(way, &packet, outcome);
+        }
     }
 
     /// Reading alone: whatever the record is, and the area stays.
@@ -230,32 +295,6 @@ impl Both {
             });
         }
         self.second.as_mut().map(|bench| bench.play(call))
-    }
-
-    /// The stored packet that consume is about to take.
-    fn stored_packet(&self, call: &Call) -> Option<Vec<u8>> {
-        let Call::Consume(conn) = call else {
-            return None;
-        };
-        self.second.as_ref()?.controller.connection(*conn)?.store.front().cloned()
-    }
-
-    /// The packet that down or up is about to take off its wire.
-    fn first_packet(&self, call: &Call) -> Option<(Way, Vec<u8>)> {
-        let bench = self.second.as_ref()?;
-        let (way, wire) = match call {
-            Call::Down => (Way::Down, &bench.down_wire),
-            Call::Up => (Way::Up, &bench.up_wire),
-            _ => return None,
-        };
-        Some((way, wire.front()?.clone()))
-    }
-
-    fn count_replaced(&mut self, stored: Option<Vec<u8>>, outcome: &Outcome) {
-        let replaced = |stored: &Vec<u8>, put: &Vec<u8>| stored[1] % 4 != 0 && stored[1] % 4 != put[1] % 4;
-        if let (Some(stored), Some(put)) = (stored, outcome.up.first()) {
-            self.replaced += u64::from(replaced(&stored, put));
-        }
     }
 
     /// The bench that the call left, the packets that it put, the five numbers of each
@@ -366,7 +405,7 @@ impl Both {
         if let Some(part) = record::difference(&said.bench, second) {
             return Err(format!("{part}: {:02X?} for {second:02X?}", said.bench));
         }
-        let past_grant = record::past_grant(second);
+        let past_grant = second.is_past_grant();
         check(said.past_grant == past_grant, || "the call left credits past a grant".to_string())?;
         if past_grant {
             self.second = None;

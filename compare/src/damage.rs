@@ -384,8 +384,8 @@ fn calls(random: &mut Random, each_conn: bool) -> Vec<Call> {
     let any = random.octet();
     let conns: Vec<u8> =
         if each_conn { CONN_IDS.into_iter().chain([any]).collect() } else { vec![random.pick(&CONN_IDS)] };
-    let mut calls =
-        vec![Call::Fresh(profile(random)), Call::Power, Call::Down, Call::Up, Call::Credit, Call::Reply];
+    let mut calls = vec![Call::Fresh(profile(random)), Call::Power, Call::Down, Call::Up, Call::Credit];
+    calls.extend([Call::Reply, Call::Run]);
     calls.extend([command(random), Call::Air(event(random)), Call::Air(event(random))]);
     calls.push(Call::Read(octets_to_read(random)));
     for conn in conns {

@@ -31,6 +31,7 @@ extern "C" {
     fn nci_air(area: *mut u8, n: usize, out: *mut u8, m: usize, event: *const u8, k: usize) -> u64;
     fn nci_reply(area: *mut u8, n: usize, out: *mut u8, m: usize) -> u64;
     fn nci_up(area: *mut u8, n: usize, out: *mut u8, m: usize) -> u64;
+    fn nci_run(area: *mut u8, n: usize, out: *mut u8, m: usize) -> u64;
     fn nci_report(area: *mut u8, n: usize, out: *mut u8, m: usize, conn: u8) -> u64;
     fn nci_packet(area: *const u8, n: usize, out: *mut u8, m: usize, wire: u8, back: u8) -> u64;
     fn nci_state(area: *const u8, n: usize, out: *mut u8, m: usize) -> u64;
@@ -71,6 +72,7 @@ pub fn play(area: &mut [u8], out: &mut [u8], call: &Call, argument: &[u8]) -> u6
             Call::Up => nci_up(area, n, out, m),
             Call::Report(conn) => nci_report(area, n, out, m, *conn),
             Call::Read(_) => nci_read(octets, k),
+            Call::Run => nci_run(area, n, out, m),
         }
     }
 }

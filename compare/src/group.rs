@@ -7,7 +7,7 @@ use exam_bench::call::{Call, Outcome};
 
 use crate::both::Both;
 use crate::made::{self, Made, ASKED, ENDPOINT, INFO_LENGTH, PAIRS, RF};
-use crate::record::INFO_ROOM;
+use crate::record::{AREA, INFO_ROOM, RECORD_AT, SAID};
 
 pub struct Group {
     name: &'static str,
@@ -25,19 +25,45 @@ impl Group {
     /// One case: the call on this bench, on both. None is a damaged record.
     pub fn case(&mut self, bench: &Made, call: &Call) -> Option<Outcome> {
         self.both.put(bench.octets());
+        self.cases += 1;
+        self.make(call)
+    }
+
+    /// One case: presses of run on this bench until one makes no move, or has left a damaged
+    /// record; how many moves there were.
+    pub fn rest(&mut self, bench: &Made) -> usize {
+        self.both.put(bench.octets());
+        self.cases += 1;
+        let mut moves = 0;
+        while let Some(press) = self.make(&Call::Run) {
+            if press.moves == 0 {
+                break;
+            }
+            moves += press.moves;
+        }
+        moves
+    }
+
+    fn make(&mut self, call: &Call) -> Option<Outcome> {
+        let before = self.both.lent.octets()[RECORD_AT..AREA].to_vec();
+        let (record, left_over) = before.split_at(SAID);
         if let Err(fault) = self.both.step(call) {
-            panic!("{}, case {}: {fault}\n{call:02X?} on {:02X?}", self.name, self.cases, bench.record());
+            panic!("{}, case {}: {fault}\n{call:02X?} on {record:02X?}", self.name, self.cases);
         }
         let outcome = self.both.outcome.clone();
-        let writes = !matches!(call, Call::Report(_) | Call::Read(_));
-        if writes && outcome.as_ref().is_some_and(Outcome::taken) {
+        // what writes no record, run at rest too, leaves octets that are not used
+        let writes = |outcome: &Outcome| match call {
+            Call::Report(_) | Call::Read(_) => false,
+            Call::Run => outcome.moves > 0,
+            _ => outcome.taken(),
+        };
+        if outcome.as_ref().is_some_and(writes) {
             let after = self.both.lent.octets();
-            check_unused(bench.record(), made::record(after));
+            check_unused(record, made::record(after));
             let zeroed =
                 matches!(call, Call::Fresh(_)) && made::left_over(after).iter().all(|octet| *octet == 0);
-            assert!(zeroed || made::left_over(after) == made::left_over(bench.octets()));
+            assert!(zeroed || made::left_over(after) == left_over);
         }
-        self.cases += 1;
         *self.met.entry(came_to(call, outcome.as_ref())).or_default() += 1;
         outcome
     }
@@ -79,7 +105,8 @@ impl Group {
     }
 }
 
-/// The status of a response, the drop flag of a packet that was taken or read, or the answer.
+/// The status of a response, the drop flag of a packet that was taken or read, how a press
+/// ended, or the answer.
 fn came_to(call: &Call, outcome: Option<&Outcome>) -> String {
     match (call, outcome) {
         (_, None) => "answer 1".to_string(),
@@ -87,6 +114,14 @@ fn came_to(call: &Call, outcome: Option<&Outcome>) -> String {
         (Call::Up | Call::Read(_), Some(outcome)) if outcome.taken() => {
             if outcome.drop { "dropped" } else { "taken" }.to_string()
         }
+        (Call::Run, Some(press)) if press.taken() => if press.message.is_some() {
+            "message"
+        } else if press.moves > 0 {
+            "moves"
+        } else {
+            "none"
+        }
+        .to_string(),
         (_, Some(outcome)) => format!("answer {}", outcome.answer),
     }
 }

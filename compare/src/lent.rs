@@ -6,6 +6,7 @@ use exam_bench::call::Call;
 
 use crate::exports;
 use crate::fence::Fenced;
+use crate::press;
 use crate::record::AREA;
 use crate::word;
 
@@ -78,6 +79,25 @@ impl Lent {
     pub fn call(&mut self, call: &Call, room: Room) -> Result<Seen, String> {
         let seen = self.ask(call, room)?;
         self.settle(seen.word)?;
+        Ok(seen)
+    }
+
+    /// Presses run. Its moves, made one by one on the octets that it was lent, come to the same
+    /// word, area and buffer.
+    pub fn press(&mut self, room: Room) -> Result<Seen, String> {
+        let mut area = self.octets[..room.area].to_vec();
+        let seen = self.call(&Call::Run, room)?;
+        if word::answer(seen.word) != 0 {
+            return Ok(seen);
+        }
+        let mut buffer = vec![self.mark; room.buffer];
+        let word = press::one_by_one(&mut area, &mut buffer);
+        if seen.word != word {
+            return Err(format!("word {:#x}, by its moves {word:#x}", seen.word));
+        }
+        if area != self.area.last(room.area) || buffer != self.buffer.last(room.buffer) {
+            return Err("area or buffer are not what its moves leave".to_string());
+        }
         Ok(seen)
     }
 

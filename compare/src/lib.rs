@@ -2,12 +2,13 @@
 //! front end in C uses.
 //!
 //! `exports` declares the calls and makes them; `fence` and `lent` lend them octets
-//! and check what they may change; `word` is what they return. `record` reads a bench
-//! in octets as one of the second implementation. `both` makes each call on both and
-//! compares; `lists` plays the second implementation's random lists, `damage` changes
-//! octets of benches and makes all calls on them. `reports` changes payloads on the wires
-//! and asks report on both, also of wires with the packets of `forged`. `made` makes benches
-//! by hand, and `group` makes a call on each of many. `speed` times both.
+//! and check what they may change; `word` is what they return; `press` makes the moves of
+//! run one by one. `record` reads a bench in octets as one of the second implementation.
+//! `both` makes each call on both and compares; `lists` plays the second implementation's
+//! random lists and brings them to rest, `damage` changes octets of benches and makes all
+//! calls on them. `reports` changes payloads on the wires and asks report on both, also of
+//! wires with the packets of `forged`. `made` makes benches by hand, and `group` makes a call
+//! on each of many. `speed` times both.
 
 pub mod both;
 pub mod damage;
@@ -18,6 +19,7 @@ pub mod group;
 pub mod lent;
 pub mod lists;
 pub mod made;
+pub mod press;
 pub mod record;
 pub mod reports;
 pub mod speed;

@@ -1,10 +1,14 @@
-//! The second implementation's random lists of calls, played on both benches.
+//! The second implementation's random lists of calls, played on both benches. Demand 3's observer
+//! sees what came of them.
 
-use exam_bench::call::Call;
+use exam_bench::call::{Call, Event, Outcome};
+use exam_bench::observer::Observer;
 use exam_bench::player::{Goal, Lengths, Player, Random};
 use exam_bench::sheet;
+use exam_bench::trial::presses;
 
 use crate::both::Both;
+use crate::press;
 
 /// Most calls of a list.
 const LIST_CALLS: usize = 400;
@@ -19,6 +23,8 @@ pub struct Lists {
     pub both: Both,
     player: Player,
     random: Random,
+    /// None where the bench is not one of a list from fresh.
+    observer: Option<Observer>,
     /// The calls of this list so far, as lines of a sheet.
     pub lines: Vec<String>,
 }
@@ -29,6 +35,7 @@ impl Lists {
             both: Both::default(),
             player: Player::new(seed, Lengths::Any),
             random: Random::new(seed ^ 0xC0FF_EE00),
+            observer: None,
             lines: Vec::new(),
         }
     }
@@ -43,8 +50,7 @@ impl Lists {
         } else {
             (self.player.list_length(most), self.player.begin())
         };
-        self.lines.clear();
-        self.both.begin(&profile)?;
+        self.begin(&profile)?;
         for _ in 1..length {
             self.next_call()?;
         }
@@ -55,6 +61,36 @@ impl Lists {
             return Err("a list from fresh had reserved bits at 1".to_string());
         }
         Ok(())
+    }
+
+    fn begin(&mut self, profile: &[u8]) -> Result<(), String> {
+        let fresh = Call::Fresh(profile.to_vec());
+        self.lines = vec![sheet::write_call(&fresh)];
+        self.both.begin(profile)?;
+        self.observer = Some(Observer::new());
+        self.watch(&fresh)
+    }
+
+    /// Brings the list that was played to rest: presses until one makes no move, with no more moves
+    /// in all than the bench before them allows. Then no message is in hand anywhere, and every
+    /// message that was taken has been handed out.
+    pub fn rest(&mut self) -> Result<(), String> {
+        let bound = presses::bound(self.both.second.as_ref().ok_or("a damaged record")?);
+        let (mut moves, mut made) = (0, 1);
+        while made > 0 {
+            self.step(&Call::Run)?;
+            made = self.both.outcome.as_ref().map_or(0, |press| press.moves);
+            moves += made;
+            if moves > bound {
+                return Err(format!("{moves} moves of all presses, where {bound} are the most"));
+            }
+        }
+        press::check_silence(self.both.lent.octets())?;
+        self.both.tally.rests += 1;
+        match self.observer.as_ref().map_or(0, Observer::messages_outstanding) {
+            0 => Ok(()),
+            outstanding => Err(format!("at rest with {outstanding} messages not handed out")),
+        }
     }
 
     /// The next call of the list. A bench that is damaged has none.
@@ -75,6 +111,19 @@ impl Lists {
         if self.random.below(WIRES) == 0 {
             self.both.wires()?;
         }
-        Ok(())
+        self.watch(call)
+    }
+
+    /// The observer sees the call that was made, or the moves that it stands for; read it does not
+    /// see.
+    fn watch(&mut self, call: &Call) -> Result<(), String> {
+        let (Some(observer), false) = (&mut self.observer, call.is_read()) else {
+            return Ok(());
+        };
+        if *call == Call::Run {
+            return self.both.moves.iter().try_for_each(|made| observer.see(made));
+        }
+        let outcome: Outcome = self.both.outcome.clone().ok_or("a damaged record")?;
+        observer.see(&Event { call: call.clone(), outcome })
     }
 }

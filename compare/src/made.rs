@@ -4,8 +4,8 @@
 use exam_bench::profile::LONG_PROFILE;
 
 use crate::record::{
-    AREA, ASKING_AT, DOWN_AT, DOWN_RING, HEARING_AT, RECORD, RECORD_AT, RECORD_ROOM, SAID, SLOT, UP_AT,
-    UP_RING, VALUES,
+    AREA, ASKING_AT, DOWN_AT, DOWN_RING, HEARING_AT, RECORD, RECORD_AT, RECORD_ROOM, SAID, SLOT, STORES_AT,
+    STORE_SLOTS, UP_AT, UP_RING, VALUES,
 };
 
 // Where the parts of the record begin.
@@ -33,6 +33,11 @@ pub const fn host_side(place: usize) -> usize {
 
 pub const fn controller_side(place: usize) -> usize {
     host_side(place) + 12
+}
+
+/// Where the side at the controller has the ring of its store.
+pub const fn store(place: usize) -> usize {
+    controller_side(place) + 3
 }
 
 /// A connection open at the host: payload 1, 8 of 8 credits held, 300 of 600 octets in hand
@@ -115,6 +120,11 @@ impl Made {
         self.first(UP_AT, UP_RING, packet)
     }
 
+    /// The oldest packet in the store of the connection at a place, which is not empty.
+    pub fn stored_first(self, place: usize, packet: &[u8]) -> Made {
+        self.first(STORES_AT + place * STORE_SLOTS * SLOT, RECORD_AT + store(place), packet)
+    }
+
     /// The controller has these octets of a command in reassembly.
     pub fn asking(mut self, gid: u8, oid: u8, octets: &[u8]) -> Made {
         self.octets[ASKING_AT..][..octets.len()].copy_from_slice(octets);
@@ -128,7 +138,7 @@ impl Made {
     }
 
     fn first(mut self, slots: usize, ring: usize, packet: &[u8]) -> Made {
-        assert_ne!(self.octets[ring + 1], 0, "a wire with a packet");
+        assert_ne!(self.octets[ring + 1], 0, "a ring with a packet");
         let slot = slots + usize::from(self.octets[ring]) * SLOT;
         self.octets[slot..][..packet.len()].copy_from_slice(packet);
         self

@@ -86,12 +86,6 @@ pub fn read(area: &[u8]) -> Option<Said> {
     Some(Said { bench, past_grant: reader.past_grant })
 }
 
-/// Whether an open connection of this bench has more credits held or owed than granted.
-pub fn past_grant(bench: &Bench) -> bool {
-    let held = bench.host.connections.iter().flatten().any(|open| open.held > open.terms.credits);
-    held || bench.controller.connections.iter().flatten().any(|open| open.owed > open.terms.credits)
-}
-
 /// Reads the record from its first octet to its last, and goes to the parts of the
 /// area that it names. None is an octet, or a part, that cannot be.
 struct Reader<'a> {

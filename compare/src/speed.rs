@@ -1,4 +1,5 @@
-//! How fast: each call and a mixed paper on both benches, in one run.
+//! How fast: each call and a mixed paper on both benches, in one run; and presses of run beside
+//! their moves, made one by one through the same interface.
 //!
 //! A call is timed on several benches that all stand where it is taken; they are set
 //! up again outside the time. Where calls do not lead, to wires full of long packets,
@@ -121,7 +122,7 @@ pub fn cases() -> Vec<Case> {
     let consumed = [stored.clone(), vec![Call::Consume(2)]].concat();
     // on a loopback every credit comes back inside a packet: a notice is of connection 0
     let owed = vec![Call::Send { conn: 0, message: vec![7; 9] }, Call::Push(0), Call::Down, Call::Consume(0)];
-    let endpoint = Call::Air([vec![8], vec![7; 1024]].concat());
+    let endpoint = spoken();
     let case = |name, before, call| Case { name, before, filled: None, call };
     let from = |name, calls: Vec<Call>, call| case(name, [opening(), calls].concat(), call);
     let mut cases = vec![
@@ -148,6 +149,7 @@ pub fn cases() -> Vec<Case> {
     cases.push(from("read, 3 octets", vec![], Call::Read(vec![0x02, 0xFF, 0])));
     cases.push(from("read, 258 octets", vec![], Call::Read(full_data(1))));
     cases.push(from("a refusal", vec![], Call::Push(2)));
+    cases.push(from("run, at rest", vec![], Call::Run));
     cases
 }
 
@@ -217,6 +219,73 @@ impl Case {
     }
 }
 
+/// The endpoint's longest message.
+fn spoken() -> Call {
+    Call::Air([vec![8], vec![7; 1024]].concat())
+}
+
+/// A press of run to be timed, beside its moves.
+pub struct Press {
+    pub name: &'static str,
+    /// The calls that lead to where it is made.
+    before: Vec<Call>,
+}
+
+/// Presses of many moves, each of which ends with the message that it hands out, and one of few.
+pub fn presses() -> Vec<Press> {
+    let opened = |profile: [u8; 5]| [vec![Call::Fresh(profile.to_vec())], opening()[1..].to_vec()].concat();
+    let long = |conn| Call::Send { conn, message: vec![7; 1024] };
+    let press = |name, profile, calls: Vec<Call>| Press { name, before: [opened(profile), calls].concat() };
+    vec![
+        press("a loopback, 32 segments", PROFILE, vec![long(2)]),
+        press("a loopback, 1024 segments", [32, 1, 1, 32, 8], vec![long(2)]),
+        press("connection 0, 32 segments", PROFILE, vec![long(0)]),
+        press("connection 0, 1024 segments, no flow control", [32, 32, 8, 1, 255], vec![long(0)]),
+        press("the endpoint, 5 segments", PROFILE, vec![spoken()]),
+        press("a RESET", PROFILE, vec![command(0, 0, &[1])]),
+    ]
+}
+
+impl Press {
+    /// The proved bench where the press is made, and its moves.
+    fn moves(&self) -> (Octets, Vec<Call>) {
+        let mut octets = Octets::new();
+        for call in &self.before {
+            octets.play(call);
+        }
+        let mut bench = record::load(&octets.area).expect("the record is sound");
+        let moves = bench.clone().run().moves;
+        (octets, (0..moves).filter_map(|_| bench.make_move()).map(|made| made.call).collect())
+    }
+
+    /// A line of fields: how many moves, nanoseconds a move in the press and by the calls of their
+    /// names, and how many times as long the press takes. One and the other are done in turn, and the
+    /// best of each counts.
+    pub fn time(&self, moves_made: usize) -> String {
+        let (start, moves) = self.moves();
+        let (mut pressed, mut called) = (Octets::new(), Octets::new());
+        let (mut press, mut calls) = (Duration::MAX, Duration::MAX);
+        for _ in 0..moves_made.div_ceil(moves.len()) {
+            pressed.area.copy_from_slice(&start.area);
+            press = press.min(time(std::slice::from_mut(&mut pressed), |octets| octets.play(&Call::Run)));
+            called.area.copy_from_slice(&start.area);
+            calls = calls.min(time(std::slice::from_mut(&mut called), |octets| {
+                for call in &moves {
+                    black_box(octets.play(call));
+                }
+            }));
+        }
+        assert!(pressed.area == called.area && pressed.buffer == called.buffer, "{}", self.name);
+        let each = |all: Duration| all.as_nanos() as f64 / moves.len() as f64;
+        let (made, by_calls, ratio) = (each(press), each(calls), press.as_secs_f64() / calls.as_secs_f64());
+        format!(
+            "press={} moves={} ns={made:.0} ns-by-calls={by_calls:.0} ratio={ratio:.2}",
+            self.name,
+            moves.len()
+        )
+    }
+}
+
 /// How long it takes to do this with each of them.
 fn time<T, A>(all: &mut [T], mut act: impl FnMut(&mut T) -> A) -> Duration {
     let start = Instant::now();
@@ -227,10 +296,11 @@ fn time<T, A>(all: &mut [T], mut act: impl FnMut(&mut T) -> A) -> Duration {
 }
 
 /// A paper of random lists, as the second implementation's player deals them. Profiles
-/// have five octets, nothing is read alone and nothing is configured, so that times compare
-/// with those of papers that knew none of it.
+/// have five octets, nothing is read alone, nothing is configured and run is not pressed, so
+/// that times compare with those of papers that knew none of it.
 pub fn mixed_paper(calls: usize, seed: u64, lengths: Lengths) -> Vec<Call> {
-    let mut player = Player::new(seed, lengths).with_short_profiles().without_reads().without_configs();
+    let player = Player::new(seed, lengths).with_short_profiles();
+    let mut player = player.without_reads().without_configs().without_runs();
     let mut bench = Bench::new(&PROFILE).expect("the profile is inside its limits");
     let mut paper = Vec::new();
     while paper.len() < calls {

@@ -90,7 +90,8 @@ fn sound(random: &mut Random) -> Made {
 }
 
 fn calls() -> Vec<Call> {
-    let mut calls = vec![Call::Power, Call::Down, Call::Up, Call::Credit, Call::Reply, Call::Air(vec![6])];
+    let mut calls = vec![Call::Power, Call::Down, Call::Up, Call::Credit, Call::Reply, Call::Run];
+    calls.push(Call::Air(vec![6]));
     calls.push(Call::Command { gid: 0, oid: 5, payload: vec![3] });
     for conn in [0, 2, 3, 4, 5] {
         calls.push(Call::Send { conn, message: vec![7; 9] });

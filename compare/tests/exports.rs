@@ -77,6 +77,10 @@ fn each_export_once() {
     assert_eq!(packet(&mut lent, UP, 0), [0, 0, 1, 9]);
     let handed: Vec<_> = (0..4).map(|_| taken(&mut lent, Call::Up).message).collect();
     assert_eq!(handed, [None, Some(vec![1, 2, 3, 4, 5]), None, Some(vec![9])]);
+    taken(&mut lent, Call::Send { conn: 2, message: vec![1, 2, 3, 4, 5] });
+    for word in [1 << 9 | 5 << 16 | 7 << 32, 1 << 9 | 5 << 16 | 1 << 32, 0] {
+        assert_eq!(taken(&mut lent, Call::Run).word, word);
+    }
     assert_eq!(taken(&mut lent, Call::Read(vec![0x60, 0xC6, 0])).word, 0xC0 << 48);
 }
 
@@ -93,7 +97,7 @@ fn octets_of_every_length_for_a_profile() {
 #[test]
 fn a_short_area_comes_first_then_the_record_then_the_buffer() {
     let mut lent = opened();
-    let calls = [Call::Power, Call::Down, Call::Report(9), Call::Push(1)];
+    let calls = [Call::Power, Call::Down, Call::Report(9), Call::Push(1), Call::Run];
     for damaged in [false, true] {
         if damaged {
             lent.damage(|octets| octets[AREA - 512] = 0);

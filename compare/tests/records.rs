@@ -127,11 +127,11 @@ fn check_sum(both: &mut Both, at: usize, grant: u8, sum: u8) {
     let (send, air) = (Call::Send { conn: 0, message: vec![] }, Call::Air(vec![4]));
     let command = Call::Command { gid: 0, oid: 0, payload: vec![0] };
     let host = [Call::Power, command, send, Call::Push(0), Call::Up, Call::Report(0)];
-    let controller = [Call::Down, Call::Consume(0), Call::Credit, air, Call::Reply];
+    let controller = [Call::Down, Call::Consume(0), Call::Credit, air, Call::Reply, Call::Run];
     if damaged {
         let left = both.lent.octets().to_vec();
         host.iter().chain(&controller).for_each(|call| both.step(call).unwrap());
-        assert_eq!(both.damaged, 11, "each is refused with 1");
+        assert_eq!(both.damaged, 12, "each is refused with 1");
         assert_eq!(both.lent.octets(), left);
         step(both, Call::Fresh(PROFILE.to_vec()));
     } else {

@@ -35,9 +35,8 @@ const OTHER_VALUES: u64 = 7 * 256 + 4 * 2 + 2 + 4 + 135;
 fn calls() -> Vec<Call> {
     let command = Call::Command { gid: 0, oid: 0, payload: vec![1] };
     let send = Call::Send { conn: 2, message: vec![7] };
-    let (air, reply) = (Call::Air(vec![4]), Call::Reply);
-    let mut calls =
-        vec![Call::Power, command, send, Call::Push(2), Call::Down, Call::Up, Call::Credit, air, reply];
+    let mut calls = vec![Call::Power, command, send, Call::Push(2), Call::Down, Call::Up, Call::Credit];
+    calls.extend([Call::Air(vec![4]), Call::Reply, Call::Run]);
     calls.extend([0, 2, 3, 4, 5].map(Call::Consume));
     calls.extend([0, 2, 3, 4, 5].map(Call::Report));
     calls

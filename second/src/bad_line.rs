@@ -41,7 +41,7 @@ pub enum Fault {
 
 /// All of them. Those of octets missing or to spare stand for each call that has a
 /// number of octets of its own, `air` by its kinds.
-pub const FAULTS: [Fault; 42] = [
+pub const FAULTS: [Fault; 43] = [
     Fault::Empty,
     Fault::CarriageReturn,
     Fault::Nul,
@@ -84,6 +84,7 @@ pub const FAULTS: [Fault; 42] = [
     Fault::Spare("reply", &[]),
     Fault::Spare("up", &[]),
     Fault::Spare("report", &[2]),
+    Fault::Spare("run", &[]),
 ];
 
 /// A bad line. Where the fault allows it, it is the line of this call but for the
@@ -238,7 +239,7 @@ fn unknown_name(random: &mut Random, call: &Call) -> Vec<u8> {
     let (line, name) = (write_call(call), call.name());
     let (_, digits) = parts(line.as_bytes());
     let capital = name[..1].to_uppercase() + &name[1..];
-    let other = [&capital, &name.to_uppercase(), &name[1..], &name[..name.len() - 1], "", "bad", "run"];
+    let other = [&capital, &name.to_uppercase(), &name[1..], &name[..name.len() - 1], "", "bad", "rest"];
     let longer = [format!("{name}s"), format!("nci_{name}"), format!("{name}{name}"), format!("{name}=")];
     let any =
         if random.chance(60) { random.pick(&other).to_string() } else { longer[random.below(4)].clone() };

@@ -1,10 +1,11 @@
 //! The bench: both ends, the two wires and the twelve calls, each with its
-//! refusals in the order that the decision on refusals lists them; and read.
+//! refusals in the order that the decision on refusals lists them; run, which makes
+//! some of these calls; and read.
 
 use std::collections::VecDeque;
 
 use crate::air::AirEvent;
-use crate::call::{Call, Outcome, Refusal};
+use crate::call::{Call, Event, Outcome, Refusal};
 use crate::connection::{is_dynamic, place_of};
 use crate::controller::Controller;
 use crate::counts;
@@ -16,6 +17,25 @@ use crate::profile::{Profile, Terms, NO_FLOW_CONTROL};
 pub const WIRE_SLOTS: usize = 16;
 /// Slots that the answer to a command may need: a response and a notification.
 const ANSWER_SLOTS: usize = 2;
+
+/// The moves of run, in the order in which they are tried: up; down; consume, lowest
+/// connection first; credit; push, lowest first; reply.
+pub const MOVES: [Call; 14] = [
+    Call::Up,
+    Call::Down,
+    Call::Consume(0),
+    Call::Consume(2),
+    Call::Consume(3),
+    Call::Consume(4),
+    Call::Consume(5),
+    Call::Credit,
+    Call::Push(0),
+    Call::Push(2),
+    Call::Push(3),
+    Call::Push(4),
+    Call::Push(5),
+    Call::Reply,
+];
 
 #[derive(Clone, Debug, PartialEq, Eq)]
 pub struct Bench {
@@ -106,6 +126,7 @@ impl Bench {
             Call::Up => self.up(),
             Call::Report(conn) => self.report(*conn),
             Call::Read(octets) => Bench::read(octets),
+            Call::Run => self.run(),
         }
     }
 
@@ -326,6 +347,42 @@ impl Bench {
         }
         let drop = packet::read(octets) == Reading::Drop;
         Outcome { drop, rfu: packet::reserved_at_1(octets, Way::Up), ..Outcome::default() }
+    }
+
+    // run
+
+    /// Moves until none is left, or until one hands a message out, which is then the press's
+    /// own. It tells how many there were, and nothing of the packets that they put.
+    pub fn run(&mut self) -> Outcome {
+        let mut press = Outcome::default();
+        while press.message.is_none() {
+            let Some(Event { outcome, .. }) = self.make_move() else {
+                break;
+            };
+            press.moves += 1;
+            press.drop |= outcome.drop;
+            press.message = outcome.message;
+        }
+        press
+    }
+
+    /// Makes the first of the moves that is taken; none where all are refused. Those before
+    /// it changed nothing. Past a grant refusal 1 is what each of them would give.
+    pub fn make_move(&mut self) -> Option<Event> {
+        if self.is_past_grant() {
+            return None;
+        }
+        MOVES.into_iter().find_map(|call| {
+            let outcome = self.play(&call);
+            outcome.taken().then_some(Event { call, outcome })
+        })
+    }
+
+    /// Whether a connection has more credits held or owed than granted. No list of calls from
+    /// fresh comes to that; in a bench that a test loads, a move may.
+    pub fn is_past_grant(&self) -> bool {
+        let held = self.host.connections.iter().flatten().any(|open| open.held > open.terms.credits);
+        held || self.controller.connections.iter().flatten().any(|open| open.owed > open.terms.credits)
     }
 
     // For tests: what no list of calls puts there.

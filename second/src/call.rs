@@ -1,5 +1,5 @@
-//! The twelve calls of the bench and read, which needs no bench, their outcomes and the
-//! numbers for a call not taken.
+//! The twelve calls of the bench, run, which plays some of them, and read, which needs no
+//! bench; their outcomes and the numbers for a call not taken.
 
 /// A call with its arguments, as the sheet writes them. `fresh` has the octets of a
 /// profile, five or eleven, and refuses another number; `air` has its kind first
@@ -8,8 +8,15 @@
 pub enum Call {
     Fresh(Vec<u8>),
     Power,
-    Command { gid: u8, oid: u8, payload: Vec<u8> },
-    Send { conn: u8, message: Vec<u8> },
+    Command {
+        gid: u8,
+        oid: u8,
+        payload: Vec<u8>,
+    },
+    Send {
+        conn: u8,
+        message: Vec<u8>,
+    },
     Push(u8),
     Down,
     Consume(u8),
@@ -19,13 +26,15 @@ pub enum Call {
     Up,
     Report(u8),
     Read(Vec<u8>),
+    /// Run to rest.
+    Run,
 }
 
 impl Call {
-    /// The names of all calls, in document 01's order; read, of document 02, is the last.
-    pub const NAMES: [&'static str; 13] = [
+    /// The names of all calls, in document 01's order; read and run, of document 02, are the last.
+    pub const NAMES: [&'static str; 14] = [
         "fresh", "power", "command", "send", "push", "down", "consume", "credit", "air", "reply", "up",
-        "report", "read",
+        "report", "read", "run",
     ];
 
     pub fn name(&self) -> &'static str {
@@ -48,6 +57,7 @@ impl Call {
             Call::Up => 10,
             Call::Report(_) => 11,
             Call::Read(_) => 12,
+            Call::Run => 13,
         }
     }
 
@@ -95,6 +105,8 @@ pub struct Outcome {
     pub up: Vec<Vec<u8>>,
     /// The message handed out; for report its five octets.
     pub message: Option<Vec<u8>>,
+    /// How many moves run made; 0 of every other call.
+    pub moves: usize,
 }
 
 impl Outcome {
@@ -105,4 +117,11 @@ impl Outcome {
     pub fn taken(&self) -> bool {
         self.answer == 0
     }
+}
+
+/// A call and what came of it.
+#[derive(Clone, Debug, PartialEq, Eq)]
+pub struct Event {
+    pub call: Call,
+    pub outcome: Outcome,
 }

@@ -10,13 +10,13 @@
 //! messages) know octets; `profile` and `connection` have the terms and IDs of connections,
 //! `config` the parameters and their values, `air` the argument of the call air; `controller`
 //! and `host` are the two ends; `counts` has what report counts on the wires; `call` and
-//! `bench` join the ends by the twelve calls, and have read, which needs neither; `state`
-//! says what is going on in octets, `sheet` is the text front end. `observer` holds demand
-//! 3's account, that of messages in hand and that of values set, which see the twelve calls
-//! and their outcomes alone, `player` deals random lists of calls, `trial` plays them, checks
-//! each call and counts what was met, with `trial::grants` for credits past a grant and
-//! `trial::configs` for sets and gets, and `bad_line` makes the lines of a sheet that are no
-//! calls.
+//! `bench` join the ends by the twelve calls, and have run, which makes some of them, and
+//! read, which needs neither end; `state` says what is going on in octets, `sheet` is the text
+//! front end. `observer` holds demand 3's account, that of messages in hand and that of values
+//! set, which see the twelve calls and their outcomes alone, `player` deals random lists of
+//! calls, `trial` plays them, checks each call and counts what was met, with `trial::grants`
+//! for credits past a grant, `trial::configs` for sets and gets and `trial::presses` for run,
+//! and `bad_line` makes the lines of a sheet that are no calls.
 //!
 //! What a bench holds is public, so that a test can load one in any state.
 

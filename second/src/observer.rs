@@ -14,23 +14,18 @@
 //! No call that moves a packet of a set or a get changes one of the numbers of a report.
 //!
 //! Every packet that it sees put has reserved bits 0, so no call shows one at 1. Read is
-//! none of its calls: it is not to see one.
+//! none of its calls: it is not to see one. Neither is run: a press stands for the moves that
+//! it made, and each of them is seen as the call that it is.
 
 mod diary;
 mod hand;
 
 use std::collections::VecDeque;
 
+pub use crate::call::Event;
 use crate::call::{Call, Outcome, REFUSALS};
 use diary::Diary;
 use hand::Hand;
-
-/// A call and what came of it.
-#[derive(Clone, Debug)]
-pub struct Event {
-    pub call: Call,
-    pub outcome: Outcome,
-}
 
 /// Conn IDs that report takes.
 const KNOWN: [u8; 5] = [0, 2, 3, 4, 5];
@@ -253,6 +248,7 @@ impl Observer {
             Call::Up => return self.take_up(),
             Call::Credit | Call::Reply | Call::Report(_) => {}
             Call::Read(_) => return Err("read is none of the calls of demand 3".to_string()),
+            Call::Run => return Err("a press is seen by its moves".to_string()),
         }
         Ok(Expected::default())
     }
@@ -514,6 +510,10 @@ impl Observer {
             _ => 0,
         };
         self.up_wire.iter().map(carried).sum()
+    }
+
+    pub fn is_open_at_host(&self, conn: u8) -> bool {
+        self.account_of(conn).is_some_and(|account| account.host.open)
     }
 
     /// Messages taken on connections now open at both ends and not handed out:

@@ -204,6 +204,11 @@ impl InHand {
         self.gone = end;
         segment
     }
+
+    /// How many segments are still to go.
+    pub fn segments_left(&self, size: usize) -> usize {
+        segment_count(self.octets.len() - self.gone, size)
+    }
 }
 
 /// How many segments a message makes; an empty one is one bare header.

@@ -15,6 +15,8 @@ pub use reads::octets_to_read;
 
 /// Of a hundred calls, how many are read.
 const READS: usize = 3;
+/// Of a thousand calls, how many are run. More would leave most benches at rest.
+const RUNS: usize = 6;
 
 /// A small deterministic generator (splitmix64).
 #[derive(Clone, Debug)]
@@ -72,6 +74,8 @@ enum Step {
     Settle,
     /// Plays moves until none is left.
     Rest,
+    /// Presses run until no move is left.
+    Press,
 }
 
 /// Something rare that a list can be led to.
@@ -90,6 +94,8 @@ pub struct Player {
     long_profiles: bool,
     /// Whether read is dealt beside the twelve calls.
     reads: bool,
+    /// Whether run is.
+    runs: bool,
     /// Whether sets and gets are dealt beside the other commands.
     configs: bool,
     goal: Option<Goal>,
@@ -102,8 +108,8 @@ impl Player {
     pub fn new(seed: u64, lengths: Lengths) -> Player {
         let random = Random::new(seed);
         let plan = VecDeque::new();
-        let (long_profiles, reads, configs) = (true, true, true);
-        Player { random, lengths, long_profiles, reads, configs, goal: None, plan, follow: 90 }
+        let (long_profiles, reads, runs, configs) = (true, true, true, true);
+        Player { random, lengths, long_profiles, reads, runs, configs, goal: None, plan, follow: 90 }
     }
 
     /// Deals profiles of five octets alone, as the first papers had.
@@ -111,9 +117,14 @@ impl Player {
         Player { long_profiles: false, ..self }
     }
 
-    /// Deals the twelve calls alone.
+    /// Deals no read.
     pub fn without_reads(self) -> Player {
         Player { reads: false, ..self }
+    }
+
+    /// Deals no run.
+    pub fn without_runs(self) -> Player {
+        Player { runs: false, ..self }
     }
 
     /// Deals no sets and gets, but for those that any GID and OID may come to.
@@ -148,6 +159,9 @@ impl Player {
         if self.reads && self.random.chance(READS) {
             return Call::Read(octets_to_read(&mut self.random));
         }
+        if self.runs && self.random.below(1000) < RUNS {
+            return Call::Run;
+        }
         if !self.random.chance(self.follow) {
             return self.random_call(bench);
         }
@@ -173,6 +187,7 @@ impl Player {
                 Step::Call(call) => return Some(call.clone()),
                 Step::Settle => settling_call(bench),
                 Step::Rest => resting_call(bench),
+                Step::Press => resting_call(bench).map(|_| Call::Run),
             };
             if call.is_some() {
                 self.plan.push_front(step);
@@ -196,11 +211,7 @@ fn settling_call(bench: &Bench) -> Option<Call> {
     first_taken(bench, [Call::Up, Call::Down].into_iter().chain(CONN_IDS.map(Call::Consume)))
 }
 
-/// The first possible of: up; down; consume, lowest connection first; credit;
-/// push, lowest first; reply.
-pub fn resting_call(bench: &Bench) -> Option<Call> {
-    let moves = [Call::Up, Call::Down].into_iter();
-    let consumes = CONN_IDS.map(Call::Consume).into_iter();
-    let pushes = CONN_IDS.map(Call::Push).into_iter();
-    first_taken(bench, moves.chain(consumes).chain([Call::Credit]).chain(pushes).chain([Call::Reply]))
+/// The next move of run.
+fn resting_call(bench: &Bench) -> Option<Call> {
+    bench.clone().make_move().map(|made| made.call)
 }

@@ -112,6 +112,7 @@ fn read_call(name: &str, octets: &[u8]) -> Option<Call> {
         ("up", []) => Call::Up,
         ("report", [conn]) => Call::Report(*conn),
         ("read", octets) => Call::Read(octets.to_vec()),
+        ("run", []) => Call::Run,
         _ => return None,
     };
     Some(call)
@@ -140,17 +141,21 @@ pub fn write_call(call: &Call) -> String {
         Call::Send { conn, message } => [&[*conn][..], message].concat(),
         Call::Push(conn) | Call::Consume(conn) | Call::Report(conn) => vec![*conn],
         Call::Air(octets) | Call::Read(octets) => octets.clone(),
-        Call::Power | Call::Down | Call::Credit | Call::Reply | Call::Up => Vec::new(),
+        Call::Power | Call::Down | Call::Credit | Call::Reply | Call::Up | Call::Run => Vec::new(),
     };
     format!("ev={} arg={}", call.name(), hex(&octets))
 }
 
 /// The line that answers a call. A refused call has nothing to show but its
-/// number.
+/// number. The lines of run, and no others, end with its moves.
 pub fn write_outcome(call: &Call, outcome: &Outcome) -> String {
     let packets = [outcome.down.concat(), outcome.up.concat()].concat();
+    let moves = match call {
+        Call::Run => format!(" moves={}", outcome.moves),
+        _ => String::new(),
+    };
     format!(
-        "ev={} ans={} drop={} rfu={:02X} pkt={} msg={}",
+        "ev={} ans={} drop={} rfu={:02X} pkt={} msg={}{moves}",
         call.name(),
         outcome.answer,
         u8::from(outcome.drop),

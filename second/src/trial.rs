@@ -1,9 +1,11 @@
 //! A trial: a list of calls played on a bench with the observer watching, and the
 //! tally of what has been met. `grants` asks what no call asks: whether credits stay
-//! within the grant. `configs` counts what sets and gets came to.
+//! within the grant. `configs` counts what sets and gets came to, `presses` what
+//! presses of run did.
 
 pub mod configs;
 pub mod grants;
+pub mod presses;
 
 use crate::bench::Bench;
 use crate::call::{Call, Outcome, ANSWERS, REFUSALS};
@@ -15,6 +17,7 @@ use crate::profile::{LONG_PROFILE, SHORT_PROFILE};
 use crate::sheet;
 use configs::Configs;
 use grants::{Source, Sum};
+use presses::Presses;
 
 const CALLS: usize = Call::NAMES.len();
 
@@ -35,6 +38,7 @@ pub const REFUSALS_OF: [&[u8]; CALLS] = [
     &[8],
     &[3, 6],
     &[3],
+    &[],
 ];
 
 /// Octets of a profile.
@@ -61,6 +65,8 @@ pub struct Tally {
     pub unlike: [u64; LOOPBACKS],
     /// What sets and gets came to.
     pub configs: Configs,
+    /// What presses of run met. Their moves are among no other calls here.
+    pub presses: Presses,
     pub messages: u64,
     pub drops: u64,
     /// Data packets put up, by the credits that each carries.
@@ -84,16 +90,27 @@ impl Tally {
         } else {
             self.refused[call.index()][usize::from(outcome.answer)] += 1;
         }
-        if let Call::Read(octets) = call {
-            return self.count_read(octets, outcome);
+        match call {
+            Call::Read(octets) => return self.count_read(octets, outcome),
+            Call::Run => return self.presses.count(outcome),
+            Call::Fresh(profile) if outcome.taken() => self.count_profile(profile.len()),
+            _ => {}
         }
+        self.count_effects(call, outcome);
+    }
+
+    /// A move that a press of run made, on the bench after it.
+    pub fn count_move(&mut self, made: &Event) {
+        self.presses.count_move(made);
+        self.count_effects(&made.call, &made.outcome);
+    }
+
+    /// What was handed out, dropped and put up.
+    fn count_effects(&mut self, call: &Call, outcome: &Outcome) {
         let handed_out = outcome.message.is_some() && !matches!(call, Call::Report(_));
         self.messages += u64::from(handed_out);
         self.drops += u64::from(outcome.drop);
         outcome.up.iter().for_each(|octets| self.count_credits(octets));
-        if let (Call::Fresh(profile), true) = (call, outcome.taken()) {
-            self.count_profile(profile.len());
-        }
     }
 
     fn count_read(&mut self, octets: &[u8], outcome: &Outcome) {
@@ -170,7 +187,7 @@ impl Tally {
     /// `carried:number`, what never added up to a whole grant, as `whole:source`, numbers
     /// of octets that no profile had, as `profile:number`, loopbacks that never opened
     /// beside one with another grant, as `unlike:conn`, what read never met, as
-    /// `reads:name`, and what sets and gets never came to.
+    /// `reads:name`, and what sets, gets and presses never came to.
     pub fn gaps(&self) -> Vec<String> {
         let mut gaps = Vec::new();
         for (index, name) in Call::NAMES.iter().enumerate() {
@@ -194,6 +211,7 @@ impl Tally {
         let unmet = READS.iter().zip(self.reads).filter(|(_, reads)| *reads == 0);
         gaps.extend(unmet.map(|(name, _)| format!("reads:{name}")));
         gaps.extend(self.configs.gaps());
+        gaps.extend(self.presses.gaps());
         gaps
     }
 
@@ -222,6 +240,7 @@ impl Tally {
             fields += &format!(" reads-{name}={reads}");
         }
         fields += &self.configs.fields();
+        fields += &self.presses.fields();
         fields += &format!(" discards={} rests={}", self.discards, self.rests);
         fields + &format!(" never={} gaps={}", list_or_none(&never), list_or_none(&self.gaps()))
     }
@@ -264,28 +283,78 @@ impl Trial {
     }
 
     /// Makes a call and checks all that demand 3 says of it, and that credits stay within
-    /// the grant. Of read, which the observer does not see, it checks that nothing happens.
+    /// the grant. Of read, which the observer does not see, it checks that nothing happens;
+    /// run is seen by its moves.
     pub fn step(&mut self, call: Call, tally: &mut Tally) -> Result<&Event, String> {
         let before = self.bench.clone();
         let outcome = self.bench.play(&call);
-        let sums = if outcome.taken() { grants::sums(&before, &call) } else { Vec::new() };
         tally.count(&call, &outcome);
-        tally.count_sums(&sums);
-        tally.count_command(&call, &outcome, &self.bench);
-        self.events.push(Event { call, outcome });
-        let event = &self.events[self.events.len() - 1];
-        check_refusal(event, &before, &self.bench)?;
-        if event.call.is_read() {
-            check_read(event, &before, &self.bench)?;
-            return Ok(event);
+        let event = Event { call, outcome };
+        self.events.push(event.clone());
+        check_refusal(&event, &before, &self.bench)?;
+        match event.call {
+            Call::Read(_) => check_read(&event, &before, &self.bench)?,
+            Call::Run => self.press(before, &event.outcome, tally)?,
+            _ => self.account(&before, &event, tally)?,
         }
+        Ok(&self.events[self.events.len() - 1])
+    }
+
+    /// What the observer says of an event, which led from one bench to the next.
+    fn account(&mut self, before: &Bench, event: &Event, tally: &mut Tally) -> Result<(), String> {
+        let sums = if event.outcome.taken() { grants::sums(before, &event.call) } else { Vec::new() };
+        tally.count_sums(&sums);
+        tally.count_command(&event.call, &event.outcome, &self.bench);
         grants::check_grants(&sums)?;
         let discards = self.observer.discards();
         self.observer.see(event)?;
         tally.discards += self.observer.discards() - discards;
         self.observer.sum_to_grant()?;
-        check_reports(&self.observer, &self.bench)?;
-        Ok(event)
+        check_reports(&self.observer, &self.bench)
+    }
+
+    /// A press that was made: its moves are made again, one by one, and come to what it told and
+    /// to the bench that it left. Where there are none, no message is in hand.
+    fn press(&mut self, before: Bench, press: &Outcome, tally: &mut Tally) -> Result<(), String> {
+        let bound = presses::bound(&before);
+        let after = std::mem::replace(&mut self.bench, before);
+        let mut moves = Vec::new();
+        for _ in 0..press.moves {
+            let before = self.bench.clone();
+            let made = self.bench.make_move().ok_or("run told more moves than there are")?;
+            tally.count_move(&made);
+            self.account(&before, &made, tally)?;
+            moves.push(made);
+        }
+        presses::check_told(press, &moves, &self.bench)?;
+        if self.bench != after {
+            return Err("run left another bench than its moves".to_string());
+        }
+        if press.moves > bound {
+            return Err(format!("{} moves, where {bound} are the most", press.moves));
+        }
+        if press.moves == 0 {
+            presses::check_silence(&self.observer, &self.bench)?;
+        }
+        Ok(())
+    }
+
+    /// Presses run until it makes no move. All presses together make no more moves than the
+    /// bench before them allows.
+    pub fn come_to_rest(&mut self, tally: &mut Tally) -> Result<(), String> {
+        let bound = presses::bound(&self.bench);
+        let mut moves = 0;
+        loop {
+            let made = self.step(Call::Run, tally)?.outcome.moves;
+            moves += made;
+            if moves > bound {
+                return Err(format!("{moves} moves of all presses, where {bound} are the most"));
+            }
+            if made == 0 {
+                tally.rests += 1;
+                return Ok(());
+            }
+        }
     }
 
     /// The list so far as sheet lines, each with its answer.

@@ -3,7 +3,7 @@
 mod common;
 use common::{PROFILE, UNLIKE};
 use exam_bench::bench::Bench;
-use exam_bench::call::Call;
+use exam_bench::call::{Call, Outcome};
 use exam_bench::sheet;
 use std::io::{BufReader, Read, Write};
 
@@ -86,7 +86,10 @@ fn lines_of_another_form() {
         "ev=push arg=é",
         "ev=bad arg=",
         "ev=down\targ=",
-        "ev=run arg=",
+        "ev=rest arg=",
+        "ev=run",
+        "ev=Run arg=",
+        "ev=run moves=",
         "ev=read",
         "ev=Read arg=20C000",
         "ev=read arg=20C00",
@@ -129,6 +132,8 @@ fn octets_missing_or_to_spare_in_fixed_fields() {
         "ev=up arg=00",
         "ev=report arg=",
         "ev=report arg=0200",
+        "ev=run arg=00",
+        "ev=run arg=02",
     ] {
         assert!(is_bad(line), "{line:?}");
     }
@@ -157,6 +162,7 @@ fn octets_missing_or_to_spare_in_fixed_fields() {
         "ev=read arg=20",
         "ev=read arg=20C000",
         "ev=read arg=20C000FF",
+        "ev=run arg=",
     ] {
         assert!(!is_bad(line), "{line:?}");
     }
@@ -198,6 +204,39 @@ fn read_shows_the_drop_flag_and_the_reserved_bits_alone() {
     assert!(is_bad(&line(1045)));
     assert_eq!(answer("ev=read arg="), "ev=read ans=0 drop=1 rfu=00 pkt= msg=");
     assert_eq!(answer("ev=read arg=00AB00"), "ev=read ans=0 drop=0 rfu=A8 pkt= msg=");
+}
+
+/// The lines of run alone have moves, at rest too, and no packets.
+#[test]
+fn run_shows_how_many_moves_it_made() {
+    let lines = [
+        ("ev=run arg=", "ev=run ans=0 drop=0 rfu=00 pkt= msg= moves=0"),
+        ("ev=command arg=000001", "ev=command ans=0 drop=0 rfu=00 pkt=20000101 msg="),
+        ("ev=run arg=", "ev=run ans=0 drop=0 rfu=00 pkt= msg= moves=3"),
+        ("ev=command arg=00010000", "ev=command ans=0 drop=0 rfu=00 pkt=2001020000 msg="),
+        ("ev=run arg=", "ev=run ans=0 drop=0 rfu=00 pkt= msg= moves=2"),
+        ("ev=command arg=00040100", "ev=command ans=0 drop=0 rfu=00 pkt=2004020100 msg="),
+        ("ev=run arg=", "ev=run ans=0 drop=0 rfu=00 pkt= msg= moves=2"),
+        ("ev=send arg=020102030405", "ev=send ans=0 drop=0 rfu=00 pkt= msg="),
+        ("ev=run arg=", "ev=run ans=0 drop=0 rfu=00 pkt= msg=0102030405 moves=7"),
+        ("ev=run arg=", "ev=run ans=0 drop=0 rfu=00 pkt= msg=0102030405 moves=1"),
+        ("ev=send arg=02", "ev=send ans=0 drop=0 rfu=00 pkt= msg="),
+        ("ev=run arg=", "ev=run ans=0 drop=0 rfu=00 pkt= msg=- moves=3"),
+        ("ev=run arg=", "ev=run ans=0 drop=0 rfu=00 pkt= msg=- moves=1"),
+        ("ev=run arg=", "ev=run ans=0 drop=0 rfu=00 pkt= msg= moves=0"),
+        ("ev=up arg=", "ev=up ans=8 drop=0 rfu=00 pkt= msg="),
+        ("ev=run arg=00", "ev=bad ans=3"),
+    ];
+    let input: String = lines.iter().map(|line| format!("{}\n", line.0)).collect();
+    let expected: String = lines.iter().map(|line| format!("{}\n", line.1)).collect();
+    assert_eq!(printed(input.as_bytes()), expected);
+    // a refusal, which concerns octets, and a drop
+    let refused = Outcome { answer: 2, ..Outcome::default() };
+    let shown = sheet::write_outcome(&Call::Run, &refused);
+    assert_eq!(shown, "ev=run ans=2 drop=0 rfu=00 pkt= msg= moves=0");
+    let dropping = Outcome { drop: true, moves: 27_877, ..Outcome::default() };
+    let shown = sheet::write_outcome(&Call::Run, &dropping);
+    assert_eq!(shown, "ev=run ans=0 drop=1 rfu=00 pkt= msg= moves=27877");
 }
 
 #[test]
@@ -257,6 +296,7 @@ fn every_call_reads_back_from_its_line() {
         Call::Report(255),
         Call::Read(vec![]),
         Call::Read(vec![0xAB; 1044]),
+        Call::Run,
     ];
     for call in calls {
         assert_eq!(sheet::read_line(sheet::write_call(&call).as_bytes()), Some(call));

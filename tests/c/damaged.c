@@ -1,9 +1,10 @@
 /* Damaged benches from C, for the sanitizers and for valgrind: octets of a bench are changed
  * at random and every export is called on it, with slices of their own in the heap.
  * `damaged [CALLS] [SEED]`. A refusal changes no octet, a taken call none of the buffer past
- * its message, nci_read and nci_state none of the area; reserved bits are shown only where nothing was dropped.
- * Prints the calls made, those taken and those that showed such bits; returns 1 if something
- * does not hold. */
+ * its message, nci_read and nci_state none of the area, nor a press of run that makes no move; reserved
+ * bits are shown only where nothing was dropped, and not by a press. A press ends, with no more moves
+ * than any record has. Prints the calls made, those taken, those that showed such bits and the moves of
+ * presses; returns 1 if something does not hold. */
 #include "nci_bench.h"
 
 #include <stdio.h>
@@ -12,12 +13,13 @@
 
 #define PAST 16u /* octets of the area past its end */
 #define MARK 0xC3
+#define MOVES 27877u /* no record has more */
 
 static uint64_t state;
 static uint8_t *area, *before, *warm, *out;
-static unsigned long calls, taken, reserved;
+static unsigned long calls, taken, reserved, moves;
 
-enum { STATE = 12, READ = 13, FRESH = 14 }; /* of the exports by number */
+enum { RUN = 12, STATE = 13, READ = 14, FRESH = 15 }; /* of the exports by number */
 
 static uint64_t number(void) { /* splitmix64 */
     uint64_t mixed = state += 0x9E3779B97F4A7C15u;
@@ -74,7 +76,7 @@ static void make_list(uint8_t *list, size_t len, int is_set) {
     }
 }
 
-/* One of the fifteen exports. */
+/* One of the sixteen exports. */
 static uint64_t play(unsigned which) {
     static const uint8_t known[][2] = {{0, 0}, {0, 1}, {0, 2}, {0, 3}, {0, 4}, {0, 5}, {1, 3}, {1, 4}, {1, 6}};
     const uint8_t *command = known[below(sizeof known / sizeof *known)];
@@ -97,12 +99,20 @@ static uint64_t play(unsigned which) {
     case 9: word = nci_up(area, n, out, m); break;
     case 10: word = nci_report(area, n, out, m, conn); break;
     case 11: word = nci_packet(area, n, out, m, wire, back); break;
+    case RUN: word = nci_run(area, n, out, m); break;
     case STATE: word = nci_state(area, n, out, m); break;
     case READ: word = play_read(); break;
     default: word = play_fresh(); break;
     }
     free(argument);
     return word;
+}
+
+/* Whether a press says what it may, where the area is the one after it. */
+static int pressed(uint64_t word) {
+    unsigned made = nci_word_moves(word);
+    moves += made;
+    return made <= MOVES && nci_word_rfu(word) == 0 && (made > 0 || memcmp(before, area, NCI_AREA_SIZE) == 0);
 }
 
 /* A call and what it may change. */
@@ -115,6 +125,7 @@ static int step(unsigned which) {
     calls++;
     reserved += nci_word_rfu(word) != 0;
     if (nci_word_rfu(word) != 0 && nci_word_dropped(word)) return 1;
+    if (which == RUN && !pressed(word)) return 1;
     if ((which == READ || which == STATE) && memcmp(before, area, NCI_AREA_SIZE + PAST) != 0) return 1;
     if (nci_word_answer(word) == NCI_TAKEN) {
         taken++;
@@ -178,10 +189,10 @@ int main(int argc, char **argv) {
         for (unsigned i = 0; i < 60 && !fault; i++) fault = step((unsigned)below(FRESH));
         fault = fault || step(FRESH);
     }
-    printf("calls=%lu taken=%lu reserved=%lu fault=%d\n", calls, taken, reserved, fault);
+    printf("calls=%lu taken=%lu reserved=%lu moves=%lu fault=%d\n", calls, taken, reserved, moves, fault);
     free(area);
     free(before);
     free(warm);
     free(out);
-    return fault || taken == 0 || reserved == 0;
+    return fault || taken == 0 || reserved == 0 || moves == 0;
 }

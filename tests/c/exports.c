@@ -1,6 +1,6 @@
 /* Each export once, as a front end in C makes it: a first paper with a loopback, an
- * activation and an endpoint's message, its packets and messages to the octet; and octets
- * that are read alone. Prints nothing and returns 0, or prints the line that does not hold
+ * activation and an endpoint's message, its packets and messages to the octet; presses of
+ * run; and octets that are read alone. Prints nothing and returns 0, or prints the line that does not hold
  * and returns 1. */
 #include "nci_bench.h"
 
@@ -164,6 +164,47 @@ static int speak(void) {
     return 0;
 }
 
+/* A press that made so many moves and handed out this message, and one that handed out none. */
+static int ran(uint64_t word, unsigned moves, const uint8_t *octets, size_t len) {
+    return handed(word, octets, len) && nci_word_moves(word) == moves && !nci_word_dropped(word) && nci_word_rfu(word) == 0;
+}
+static int moved(uint64_t word, unsigned moves) { return nci_word_moves(word) == moves && word == (uint64_t)moves << 32; }
+
+/* A message of two segments on a loopback is handed out at the controller, then at the host; one
+ * to the endpoint, whose credit the next press brings back; the endpoint's own; a command. At rest
+ * nothing happens, and the buffer past a message keeps its octets. */
+static int run_to_rest(void) {
+    static const uint8_t message[] = {1, 2, 3, 4, 5}, says[] = {NCI_AIR_MESSAGE, 9}, none[] = {0};
+    static uint8_t left[NCI_AREA_SIZE];
+    memcpy(left, area, sizeof left);
+    memset(out, 0xC3, sizeof out);
+    HOLDS(nci_run(BENCH) == NCI_TAKEN && memcmp(left, area, sizeof left) == 0 && out[0] == 0xC3);
+    HOLDS(put(nci_send(BENCH, 2, message, sizeof message), 0, 0));
+    HOLDS(ran(nci_run(BENCH), 7, message, sizeof message) && out[sizeof message] == 0xC3);
+    HOLDS(ran(nci_run(BENCH), 1, message, sizeof message) && nci_run(BENCH) == NCI_TAKEN);
+    HOLDS(put(nci_send(BENCH, 0, message, 1), 0, 0) && put(nci_air(BENCH, says, sizeof says), 0, 0));
+    HOLDS(ran(nci_run(BENCH), 3, message, 1) && ran(nci_run(BENCH), 4, says + 1, 1) && nci_run(BENCH) == NCI_TAKEN);
+    HOLDS(put(nci_command(BENCH, NCI_GID_CORE, NCI_OID_GET_CONFIG, none, sizeof none), 1, 0) && moved(nci_run(BENCH), 2));
+    HOLDS(nci_run(BENCH) == NCI_TAKEN && nci_packet(BENCH, NCI_WIRE_UP, 0) == NCI_NOTHING_TO_MOVE);
+    return 0;
+}
+
+/* A packet that the controller drops, since the endpoint was released before it came, sets the flag
+ * of the press that moves it. */
+static int run_drops(void) {
+    static const uint8_t modes[] = {1, 0, 1}, poll[] = {NCI_AIR_POLL, 1, 4, 0}, idle[] = {0}, late[] = {7};
+    uint64_t word;
+    HOLDS(bring_up(five, sizeof five) == 0);
+    HOLDS(put(nci_command(BENCH, NCI_GID_RF, NCI_OID_DISCOVER, modes, sizeof modes), 1, 0) && moved(nci_run(BENCH), 2));
+    HOLDS(put(nci_air(BENCH, poll, sizeof poll), 0, 1) && moved(nci_run(BENCH), 1));
+    HOLDS(put(nci_command(BENCH, NCI_GID_RF, NCI_OID_DEACTIVATE, idle, sizeof idle), 1, 0));
+    HOLDS(put(nci_send(BENCH, 0, late, sizeof late), 0, 0) && put(nci_push(BENCH, 0), 1, 0));
+    word = nci_run(BENCH);
+    HOLDS(nci_word_moves(word) == 4 && word == ((uint64_t)4 << 32 | 1u << 8) && nci_word_dropped(word));
+    HOLDS(nci_run(BENCH) == NCI_TAKEN && nci_push(BENCH, 0) == NCI_NOT_OPEN);
+    return 0;
+}
+
 /* A read that dropped the octets, and one that did not, with these reserved bits at 1. */
 static int dropped(uint64_t word) { return nci_word_dropped(word) && word == (uint64_t)1 << 8; }
 static int shows(uint64_t word, unsigned rfu) { return nci_word_rfu(word) == rfu && word == (uint64_t)rfu << 48; }
@@ -208,6 +249,7 @@ static int refuse(void) {
     HOLDS(nci_power(area, NCI_AREA_SIZE - 1, out, sizeof out) == NCI_TOO_SHORT);
     HOLDS(nci_power(area, NCI_AREA_SIZE, NULL, 0) == NCI_TOO_SHORT);
     HOLDS(nci_state(NULL, 0, out, sizeof out) == NCI_TOO_SHORT && nci_state(area, NCI_AREA_SIZE, NULL, 0) == NCI_TOO_SHORT);
+    HOLDS(nci_run(NULL, 0, out, sizeof out) == NCI_TOO_SHORT && nci_run(area, NCI_AREA_SIZE, NULL, 0) == NCI_TOO_SHORT);
     HOLDS(nci_packet(BENCH, 2, 0) == NCI_OUTSIDE_LIMIT && nci_packet(BENCH, 0, 0) == NCI_NOTHING_TO_MOVE);
     HOLDS(nci_send(BENCH, 3, NULL, 0) == NCI_NOT_OPEN && nci_send(BENCH, 1, NULL, 0) == NCI_OUTSIDE_LIMIT);
     HOLDS(put(nci_send(BENCH, 2, NULL, 0), 0, 0) && nci_send(BENCH, 2, NULL, 0) == NCI_IN_HAND);
@@ -218,7 +260,9 @@ static int refuse(void) {
     HOLDS(nci_fresh(BENCH, NULL, 0) == NCI_OUTSIDE_LIMIT && nci_air(BENCH, NULL, 0) == NCI_OUTSIDE_LIMIT);
     area[NCI_AREA_SIZE - 512] = 0;
     HOLDS(nci_down(BENCH) == NCI_RECORD_DAMAGED && nci_packet(BENCH, 0, 0) == NCI_RECORD_DAMAGED);
-    HOLDS(nci_state(BENCH) == NCI_RECORD_DAMAGED);
+    HOLDS(nci_state(BENCH) == NCI_RECORD_DAMAGED && nci_run(BENCH) == NCI_RECORD_DAMAGED);
+    HOLDS(nci_run(area, NCI_AREA_SIZE - 1, out, sizeof out) == NCI_TOO_SHORT);
+    HOLDS(nci_run(area, NCI_AREA_SIZE, NULL, 0) == NCI_RECORD_DAMAGED);
     HOLDS(strcmp(nci_card(NCI_NOTHING_TO_MOVE), "there is nothing to move") == 0);
     HOLDS(strcmp(nci_card(13), "no answer of the bench") == 0 && strcmp(nci_card(16), nci_card(13)) == 0);
     HOLDS(area[NCI_AREA_SIZE] == 0x5A);
@@ -227,6 +271,6 @@ static int refuse(void) {
 
 int main(void) {
     memset(area, 0x5A, sizeof area);
-    return profiles() || side_by_side() || bring_up(five, sizeof five) || configure() || loop_back() || speak() || refuse() ||
-           read_alone();
+    return profiles() || side_by_side() || bring_up(five, sizeof five) || configure() || loop_back() || speak() ||
+           run_to_rest() || refuse() || run_drops() || read_alone();
 }

@@ -54,6 +54,15 @@ static void move(void) {
     while (nci_word_answer(nci_reply(BENCH)) == NCI_TAKEN) count(nci_up(BENCH));
 }
 
+/* The same by presses. */
+static void run(void) {
+    count(nci_send(BENCH, 2, octets, NCI_MESSAGE_MAX));
+    count(nci_send(BENCH, 0, octets, NCI_MESSAGE_MAX));
+    octets[0] = NCI_AIR_MESSAGE;
+    count(nci_air(BENCH, octets, 1025));
+    while (nci_word_moves(nci_run(BENCH)) > 0) taken++;
+}
+
 /* The longest list of a set, one that sets all that a value has room for, and the longest response to
  * a get. */
 static void configure(void) {
@@ -87,9 +96,13 @@ static void play(void) {
     count(nci_air(BENCH, poll, sizeof poll));
     while (nci_up(BENCH) == NCI_TAKEN) continue;
     move();
+    run();
     ask(0, 5, 1, 2);
     ask(1, 6, 1, 0);
     ask(15, 63, 255, 0);
+    octets[0] = 1;
+    count(nci_command(BENCH, 0, 0, octets, 1));
+    count(nci_run(BENCH));
     octets[2] = 255;
     count(nci_read(octets, NCI_PACKET_MAX));
     memcpy(before, area, sizeof area);

@@ -1,6 +1,6 @@
-//! Plays the second implementation's random lists on both benches: `lists [calls]
-//! [seed]`. Prints one line of fields; on a difference prints the list that shows it
-//! and fails.
+//! Plays the second implementation's random lists on both benches and brings each to rest:
+//! `lists [calls] [seed]`. Prints one line of fields; on a difference prints the list that
+//! shows it and fails.
 
 use std::process::ExitCode;
 
@@ -14,7 +14,7 @@ fn main() -> ExitCode {
     let mut lists = Lists::new(seed);
     while lists.both.tally.calls < calls {
         let most = (calls - lists.both.tally.calls) as usize;
-        if let Err(fault) = lists.play(most) {
+        if let Err(fault) = lists.play(most).and_then(|()| lists.rest()) {
             println!("difference={fault:?} seed={seed}");
             lists.lines.iter().for_each(|line| println!("{line}"));
             return ExitCode::FAILURE;

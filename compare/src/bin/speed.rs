@@ -1,4 +1,5 @@
-//! Times both benches: `speed` prints a line for each call and one for a mixed paper;
+//! Times both benches: `speed` prints a line for each call, one for a mixed paper, and one for
+//! each of some presses of run beside their moves, made one by one;
 //! `speed paper [calls]` prints such a paper as lines of a sheet, for timing the
 //! sheets; `speed proved [calls]` plays it many times on the proved bench alone, for a
 //! profiler.
@@ -9,6 +10,8 @@ use exam_bench::sheet;
 
 const ROUNDS: usize = 10_000;
 const PAPER_CALLS: u64 = 100_000;
+/// Moves that presses of one kind make in all.
+const MOVES: usize = 5_000_000;
 const SEED: u64 = 1;
 /// How often the paper is played for a profiler.
 const REPEATED: usize = 40;
@@ -34,6 +37,7 @@ fn main() {
                 println!("{}", case.time(ROUNDS).fields(case.name));
             }
             println!("{}", speed::time_paper(&paper(Lengths::Any)).fields("a mixed paper"));
+            speed::presses().iter().for_each(|press| println!("{}", press.time(MOVES)));
         }
     }
 }

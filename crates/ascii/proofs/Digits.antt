@@ -1,18 +1,19 @@
 -- The laws of `specs/Digits.antt`, in the order of its definitions: a law for each case, and that what was written is read again.
 -- Assumes nothing.
 use Prim.Native.Nat.{ℕ, zero, suc, _+_, _-_, _*_, _/_, _%_, _≤_, _<_}
-use mathlib.Core.Path.{_≡_, refl, ap, _∙_}
+use mathlib.Core.Path.{_≡_, refl, sym, ap, _∙_}
 use mathlib.Core.Bool.{true, _&&_}
 use mathlib.Core.List.{[], _∷_, _++_}
+use native.Mathlib.Nat.{div-div-eq-div-mul}
 use native.Mathlib.Omega.{arith}
 use native.Mathlib.Decide.{decLt}
 use borrow.Author.Tests.{lt-ltb, le-ltb, ltb-true}
-use lib.ListN.{length, drop, getD}
+use lib.ListN.{length, take, drop, getD}
 use lib.Seq.{drop-cons}
 use lib.Dec.{ltb, eqb}
 use Rattle.octets.specs.Octets.{Octets}
 use Rattle.octets.specs.Octal.{Octal, octal-nil, octal-cons}
-use Rattle.ascii.specs.Digits.{digitOf, valueOf, hexOf, allDigits, isHex, octetsIn, decimalOf, numberFrom}
+use Rattle.ascii.specs.Digits.{digitOf, valueOf, hexOf, allDigits, isHex, octetsIn, figureOf, figuresOf, leadingIn, decimalOf, numberFrom}
 use Rattle.ascii.proofs.Words.{Solid, solid-nil, solid-cons, both}
 
 -- ---- digitOf
@@ -159,45 +160,105 @@ octets-hex (octal-cons {x = x} {l = l} h t) =
     let e : valueOf (digitOf (x / 16)) * 16 + valueOf (digitOf x) ≡ x = omega (arith, value-digit (x / 16), value-digit x) in
     λ i. e i ∷ octets-hex t i
 
--- ---- decimalOf, numberFrom
+-- ---- leadingIn, decimalOf, numberFrom
+
+-- the last digit of a number, read after those before it
+figure-read : (n tens : ℕ) (l : Octets) → tens ≡ n / 10 → numberFrom tens (figureOf n ∷ l) ≡ numberFrom n l
+unfolding numberFrom
+figure-read n tens l e =
+    let value : figureOf n - 48 ≡ n % 10 = omega arith in
+    let whole : tens * 10 + (figureOf n - 48) ≡ n = omega (arith, value) in
+    ap (λ (k : ℕ). numberFrom k l) whole
+
+number-none : (n : ℕ) → numberFrom n [] ≡ n
+unfolding numberFrom
+number-none n = refl
+
+figure-first : (n : ℕ) → n < 10 → 0 ≡ n / 10
+figure-first n h = omega arith
 
 module _ (n : ℕ) where
-  pub decimal-one : n < 10 → decimalOf n ≡ (48 + n) ∷ []
+  pub leading-four : n < 10 → leadingIn n ≡ 4
+  unfolding leadingIn
+  leading-four h = simp (lt-ltb _ _ h)
+
+  pub leading-three : 10 ≤ n → n < 100 → leadingIn n ≡ 3
+  unfolding leadingIn
+  leading-three h k = simp (le-ltb _ _ h, lt-ltb _ _ k)
+
+  pub leading-two : 100 ≤ n → n < 1000 → leadingIn n ≡ 2
+  unfolding leadingIn
+  leading-two h k = let i : 10 ≤ n = omega arith in simp (le-ltb _ _ i, le-ltb _ _ h, lt-ltb _ _ k)
+
+  pub leading-one : 1000 ≤ n → n < 10000 → leadingIn n ≡ 1
+  unfolding leadingIn
+  leading-one h k =
+      let i : 10 ≤ n = omega arith in
+      let j : 100 ≤ n = omega arith in
+      simp (le-ltb _ _ i, le-ltb _ _ j, le-ltb _ _ h, lt-ltb _ _ k)
+
+  pub leading-none : 10000 ≤ n → leadingIn n ≡ 0
+  unfolding leadingIn
+  leading-none h =
+      let i : 10 ≤ n = omega arith in
+      let j : 100 ≤ n = omega arith in
+      let k : 1000 ≤ n = omega arith in
+      simp (le-ltb _ _ i, le-ltb _ _ j, le-ltb _ _ k, le-ltb _ _ h)
+
+  -- a fact of how many there are, from the five cases
+  leading-by : (P : ℕ → Type 0) → (n < 10 → P 4) → (n < 100 → P 3) → (n < 1000 → P 2) → (n < 10000 → P 1) → P 0 → P (leadingIn n)
+  leading-by P four three two one none = go (decLt n 10) (decLt n 100) (decLt n 1000) (decLt n 10000)
+    where
+      go : Dec (n < 10) → Dec (n < 100) → Dec (n < 1000) → Dec (n < 10000) → P (leadingIn n)
+      go (yes h) i j k = rw (leading-four h) (four h)
+      go (no h) (yes i) j k = rw (leading-three (omega arith) i) (three i)
+      go (no h) (no i) (yes j) k = rw (leading-two (omega arith) j) (two j)
+      go (no h) (no i) (no j) (yes k) = rw (leading-one (omega arith) k) (one k)
+      go (no h) (no i) (no j) (no k) = rw (leading-none (omega arith)) none
+
+  pub leading-few : leadingIn n ≤ 4
+  leading-few = leading-by (λ (k : ℕ). k ≤ 4) (λ _. omega arith) (λ _. omega arith) (λ _. omega arith) (λ _. omega arith) (omega arith)
+
+  -- a fact of the number's text, from the five cases
+  decimal-by : (P : Octets → Type 0)
+      → (n < 10 → P (figureOf n ∷ []))
+      → (n < 100 → P (figureOf (n / 10) ∷ figureOf n ∷ []))
+      → (n < 1000 → P (figureOf (n / 100) ∷ figureOf (n / 10) ∷ figureOf n ∷ []))
+      → (n < 10000 → P (figureOf (n / 1000) ∷ figureOf (n / 100) ∷ figureOf (n / 10) ∷ figureOf n ∷ []))
+      → P (figuresOf n)
+      → P (decimalOf n)
   unfolding decimalOf
-  decimal-one h = simp (lt-ltb _ _ h)
+  decimal-by P = leading-by (λ (k : ℕ). P (drop k (figuresOf n)))
 
-  pub decimal-two : 10 ≤ n → n < 100 → decimalOf n ≡ (48 + n / 10) ∷ (48 + n % 10) ∷ []
+  -- the end of the five digits
+  pub decimal-end : take (5 - leadingIn n) (drop (leadingIn n) (figuresOf n)) ≡ decimalOf n
   unfolding decimalOf
-  decimal-two h k = simp (le-ltb _ _ h, lt-ltb _ _ k)
+  decimal-end = leading-by (λ (k : ℕ). take (5 - k) (drop k (figuresOf n)) ≡ drop k (figuresOf n)) (λ _. refl) (λ _. refl) (λ _. refl) (λ _. refl) refl
 
-  pub decimal-three : 100 ≤ n → decimalOf n ≡ (48 + n / 100) ∷ (48 + n / 10 % 10) ∷ (48 + n % 10) ∷ []
-  unfolding decimalOf
-  decimal-three h = let k : 10 ≤ n = omega arith in simp (le-ltb _ _ k, le-ltb _ _ h)
+  figure-solid : (d : ℕ) → 32 < figureOf d
+  figure-solid d = omega arith
 
--- a fact of every number's text, from its three cases
-decimal-by : (P : Octets → Type 0) (n : ℕ)
-    → (n < 10 → P ((48 + n) ∷ []))
-    → (10 ≤ n → n < 100 → P ((48 + n / 10) ∷ (48 + n % 10) ∷ []))
-    → (100 ≤ n → P ((48 + n / 100) ∷ (48 + n / 10 % 10) ∷ (48 + n % 10) ∷ []))
-    → P (decimalOf n)
-decimal-by P n one two three = go (decLt n 10) (decLt n 100)
-  where
-    go : Dec (n < 10) → Dec (n < 100) → P (decimalOf n)
-    go (yes h) d = rw (decimal-one n h) (one h)
-    go (no h) (yes k) = let j : 10 ≤ n = omega arith in rw (decimal-two n j k) (two j k)
-    go (no h) (no k) = let j : 100 ≤ n = omega arith in rw (decimal-three n j) (three j)
+  pub decimal-solid : Solid (decimalOf n)
+  decimal-solid =
+      let one = solid-cons (figure-solid n) solid-nil in
+      let two = solid-cons (figure-solid (n / 10)) one in
+      let three = solid-cons (figure-solid (n / 100)) two in
+      let four = solid-cons (figure-solid (n / 1000)) three in
+      decimal-by Solid (λ _. one) (λ _. two) (λ _. three) (λ _. four) (solid-cons (figure-solid (n / 10000)) four)
 
-pub decimal-solid : (n : ℕ) → Solid (decimalOf n)
-decimal-solid n =
-    decimal-by Solid n
-    (λ h. solid-cons (omega arith) solid-nil)
-    (λ h k. solid-cons (omega arith) (solid-cons (omega arith) solid-nil))
-    (λ h. solid-cons (omega arith) (solid-cons (omega arith) (solid-cons (omega arith) solid-nil)))
+  pub length-decimal : length (decimalOf n) ≤ 5
+  length-decimal = decimal-by (λ (l : Octets). length l ≤ 5) (λ _. omega arith) (λ _. omega arith) (λ _. omega arith) (λ _. omega arith) (omega arith)
 
-pub length-decimal : (n : ℕ) → length (decimalOf n) ≤ 3
-length-decimal n = decimal-by (λ l. length l ≤ 3) n (λ h. omega arith) (λ h k. omega arith) (λ h. omega arith)
-
--- a number that was written is read again
-pub number-decimal : (n : ℕ) → n < 1000 → numberFrom 0 (decimalOf n) ≡ n
-unfolding numberFrom
-number-decimal n s = decimal-by (λ l. numberFrom 0 l ≡ n) n (λ h. omega arith) (λ h k. omega arith) (λ h. omega arith)
+  -- a number that was written is read again
+  pub number-decimal : n < 100000 → numberFrom 0 (decimalOf n) ≡ n
+  number-decimal s =
+      let ones = figure-read n (n / 10) [] refl ∙ number-none n in
+      let tens = figure-read (n / 10) (n / 100) (figureOf n ∷ []) (sym (div-div-eq-div-mul n 10 10)) ∙ ones in
+      let hundreds = figure-read (n / 100) (n / 1000) (figureOf (n / 10) ∷ figureOf n ∷ []) (sym (div-div-eq-div-mul n 100 10)) ∙ tens in
+      let thousands = figure-read (n / 1000) (n / 10000) (figureOf (n / 100) ∷ figureOf (n / 10) ∷ figureOf n ∷ []) (sym (div-div-eq-div-mul n 1000 10)) ∙ hundreds in
+      decimal-by (λ (l : Octets). numberFrom 0 l ≡ n)
+      (λ h. figure-read n 0 _ (figure-first n h) ∙ number-none n)
+      (λ h. figure-read (n / 10) 0 _ (figure-first (n / 10) (omega arith)) ∙ ones)
+      (λ h. figure-read (n / 100) 0 _ (figure-first (n / 100) (omega arith)) ∙ tens)
+      (λ h. figure-read (n / 1000) 0 _ (figure-first (n / 1000) (omega arith)) ∙ hundreds)
+      (figure-read (n / 10000) 0 _ (figure-first (n / 10000) (omega arith)) ∙ thousands)

@@ -1,9 +1,9 @@
--- Octets and small numbers as text, and the text read again.
+-- Octets and numbers as text, and the text read again.
 -- Assumes nothing.
 use Prim.Native.Nat.{ℕ, _+_, _-_, _*_, _/_, _%_}
 use mathlib.Core.Bool.{Bool, true, _&&_}
 use mathlib.Core.List.{[], _∷_}
-use lib.ListN.{length}
+use lib.ListN.{length, drop}
 use lib.Dec.{ltb, eqb}
 use Rattle.octets.specs.Octets.{Octets, pick}
 
@@ -37,12 +37,21 @@ octetsIn [] = []
 octetsIn (h ∷ []) = []
 octetsIn (h ∷ (l ∷ rest)) = (valueOf h * 16 + valueOf l) ∷ octetsIn rest
 
--- ---- decimal numbers, below 1,000
+-- ---- decimal numbers, below 100,000
+
+-- the digit of a number's ones
+abbrev pub figureOf : ℕ → ℕ
+figureOf n = 48 + n % 10
+
+abbrev pub figuresOf : ℕ → Octets
+figuresOf n = figureOf (n / 10000) ∷ figureOf (n / 1000) ∷ figureOf (n / 100) ∷ figureOf (n / 10) ∷ figureOf n ∷ []
+
+-- how many of them are zeros in front, which are not written
+unfoldable pub leadingIn : ℕ → ℕ
+leadingIn n = pick (ltb n 10) 4 (pick (ltb n 100) 3 (pick (ltb n 1000) 2 (pick (ltb n 10000) 1 0)))
 
 unfoldable pub decimalOf : ℕ → Octets
-decimalOf n =
-    pick (ltb n 10) ((48 + n) ∷ [])
-    (pick (ltb n 100) ((48 + n / 10) ∷ (48 + n % 10) ∷ []) ((48 + n / 100) ∷ (48 + n / 10 % 10) ∷ (48 + n % 10) ∷ []))
+decimalOf n = drop (leadingIn n) (figuresOf n)
 
 -- the number that decimal digits are, after those of n
 unfoldable pub numberFrom : ℕ → Octets → ℕ

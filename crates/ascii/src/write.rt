@@ -1,10 +1,11 @@
 // Text written into the caller's buffer. Each function writes from an index on and answers the index after it; what would stand
 // past the buffer's end is left out.
 use crate::hex::digit;
+ghost use mathlib.Core.Path.{_≡_};
 ghost use Prim.Native.Nat.{_≤_};
 ghost use mathlib.Core.List.{[], _∷_};
 ghost use lib.ListN.{length};
-ghost use Rattle.ascii.specs.Digits.{hexOf, decimalOf};
+ghost use Rattle.ascii.specs.Digits.{hexOf, figureOf, leadingIn, decimalOf};
 ghost use Rattle.ascii.specs.Writing.{Wrote};
 
 // A text as it is.
@@ -43,16 +44,42 @@ pub fn put_octets(out: &mut [u8], at: usize, octets: &[u8]) -> usize
     n
 }
 
-// A number of one octet in decimal.
-pub fn put_decimal(out: &mut [u8], at: usize, n: u8) -> usize
+// The digit of a number's ones.
+fn figure(n: u16) -> u8
+    ensures { λ r. ⌜ r ≡ figureOf n ⌝ }
+{
+    48 + (n % 10) as u8
+}
+
+// How many of a number's five digits are zeros in front.
+fn leading(n: u16) -> usize
+    ensures { λ r. ⌜ r ≡ leadingIn n ⌝ }
+{
+    if n < 10 {
+        4
+    } else if n < 100 {
+        3
+    } else if n < 1000 {
+        2
+    } else if n < 10000 {
+        1
+    } else {
+        0
+    }
+}
+
+// A number in decimal.
+pub fn put_decimal(out: &mut [u8], at: usize, n: u16) -> usize
     requires { ⌜ at ≤ length (now out) ⌝ }
     ensures { λ r. ⌜ Wrote (now (out .entry)) at (decimalOf n) r (now (out .exit)) ⌝ }
 {
-    if n < 10 {
-        return put(out, at, &[48 + n]);
-    }
-    if n < 100 {
-        return put(out, at, &[48 + n / 10, 48 + n % 10]);
-    }
-    put(out, at, &[48 + n / 100, 48 + n / 10 % 10, 48 + n % 10])
+    let from = leading(n);
+    let figures = [
+        figure(n / 10000),
+        figure(n / 1000),
+        figure(n / 100),
+        figure(n / 10),
+        figure(n),
+    ];
+    put(out, at, &figures[from..])
 }

@@ -1,5 +1,4 @@
 // The calls as C makes them. Each takes any area, any buffer and any arguments, and answers its effect or one number.
-use crate::entry::enter;
 use call_bench::fresh;
 use call_bench::look;
 use call_bench::packet;
@@ -11,9 +10,11 @@ use call_controller::airing;
 use call_controller::credit;
 use call_controller::reply;
 use call_down::down;
+use call_entry::enter;
 use call_host::command;
 use call_host::push;
 use call_host::send;
+use call_run::run;
 use call_up::up;
 ghost use mathlib.Core.Path.{_≡_};
 ghost use Rattle.calls.specs.Outcome.{outcome};
@@ -29,6 +30,7 @@ ghost use Rattle.calls.specs.calls.Reply.{replyCall};
 ghost use Rattle.calls.specs.calls.Up.{upCall};
 ghost use Rattle.calls.specs.calls.Air.{airCall};
 ghost use Rattle.calls.specs.calls.Report.{reportCall};
+ghost use Rattle.calls.specs.Run.{runCall};
 ghost use Rattle.calls.specs.Packet.{packetCall};
 ghost use Rattle.calls.specs.Look.{stateCall};
 ghost use Rattle.calls.specs.Read.{readCall};
@@ -243,6 +245,19 @@ pub extern "C" fn nci_report(area: &mut [u8], out: &mut [u8], conn: u8) -> u64
         return n as u64;
     }
     report::act(area, out, r, conn)
+}
+
+// Run to rest: moves until none is left, or one has handed a message out. It is none of the twelve calls, but a list of them.
+#[no_mangle]
+pub extern "C" fn nci_run(area: &mut [u8], out: &mut [u8]) -> u64
+    ensures { λ w. ⌜ outcome w (now (area .exit)) (now (out .exit)) ≡ runCall (now (area .entry)) (now (out .entry)) ⌝ }
+{
+    let l = enter(area, out.len());
+    let entry = l.answer;
+    if entry != 0 {
+        return entry as u64;
+    }
+    run::act(area, out)
 }
 
 // The packet of a wire (0 the down wire, 1 the up wire) after which so many others were put, for front ends that show packets. It

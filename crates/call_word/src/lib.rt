@@ -21,16 +21,25 @@ pub const UP_UNIT: u64 = 1099511627776;
 
 pub const RFU_UNIT: u64 = 281474976710656;
 
+// All of them. What is counted in the place of packets put down may reach into that of packets put up.
+fn whole(dropped: bool, handed: bool, len: usize, down: usize, up: usize) -> u64
+    requires { ⌜ (len < 65536) × (down < 65536) × (up < 256) ⌝ }
+    ensures { λ w. ⌜ w ≡ wordOf dropped handed len down up ⌝ }
+{
+    dropped as u64 * DROP_BIT
+        + handed as u64 * HANDED_BIT
+        + len as u64 * LENGTH_UNIT
+        + down as u64 * DOWN_UNIT
+        + up as u64 * UP_UNIT
+}
+
 // Of a call that puts packets on the up wire alone: the drop flag, whether a message was handed out, its length, and how
 // many packets.
 pub fn answer(dropped: bool, handed: bool, len: usize, up: usize) -> u64
     requires { ⌜ (len < 65536) × (up < 256) ⌝ }
     ensures { λ w. ⌜ w ≡ wordOf dropped handed len 0 up ⌝ }
 {
-    dropped as u64 * DROP_BIT
-        + handed as u64 * HANDED_BIT
-        + len as u64 * LENGTH_UNIT
-        + up as u64 * UP_UNIT
+    whole(dropped, handed, len, 0, up)
 }
 
 // Of a call that puts none.
@@ -78,4 +87,12 @@ pub fn telling(rfu: u8, w: u64) -> u64
 {
     let told = choose(w / DROP_BIT % 2 == 1, 0, rfu);
     w % RFU_UNIT + told as u64 * RFU_UNIT
+}
+
+// Of Run to rest: the drop flag of any move, the message of the last, and how many moves there were.
+pub fn ran(dropped: bool, handed: bool, len: usize, moves: usize) -> u64
+    requires { ⌜ (len < 65536) × (moves < 65536) ⌝ }
+    ensures { λ w. ⌜ w ≡ wordOf dropped handed len moves 0 ⌝ }
+{
+    whole(dropped, handed, len, moves, 0)
 }

@@ -7,7 +7,7 @@ use crate::RFU_UNIT;
 use crate::UP_UNIT;
 ghost use mathlib.Core.Path.{_≡_};
 ghost use Rattle.record.specs.Layout.{bit};
-ghost use Rattle.calls.specs.Word.{numberOf, answerIn, droppedIn, handedIn, lengthIn, downIn, upIn, rfuIn};
+ghost use Rattle.calls.specs.Word.{numberOf, answerIn, droppedIn, handedIn, lengthIn, downIn, upIn, rfuIn, movesIn};
 
 // The number of a refusal, 0 for a call that is taken.
 pub fn answer(w: u64) -> u8
@@ -56,4 +56,11 @@ pub fn rfu(w: u64) -> u8
     ensures { λ r. ⌜ r ≡ rfuIn w ⌝ }
 {
     (w / RFU_UNIT % 256) as u8
+}
+
+// How many moves Run to rest made.
+pub fn moves(w: u64) -> u64
+    ensures { λ r. ⌜ r ≡ movesIn w ⌝ }
+{
+    w / DOWN_UNIT % 65536
 }

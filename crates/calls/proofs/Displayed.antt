@@ -15,13 +15,13 @@ use Rattle.area.specs.Ring.{tab, packetsFrom}
 use Rattle.area.proofs.Rings.{length-tab}
 use Rattle.views.specs.View.{viewOf}
 use Rattle.model.specs.State.{State}
-use Rattle.model.specs.Effects.{Call, Result, Effect, fresh, power, command, send, push, down, consume, credit, air, reply, up, report, taken, refused}
+use Rattle.model.specs.Effects.{Call, Result, Effect, fresh, power, command, send, push, down, consume, credit, air, reply, up, report, taken, refused, isTaken}
 use Rattle.model.specs.Refusals.{first}
 use Rattle.model.specs.Bench.{rules, judged, step}
 use Rattle.model.specs.Observer.{Event, Account}
 use Rattle.calls.specs.Word.{answerIn, downIn, upIn}
 use Rattle.calls.specs.Outcome.{Outcome, outcome}
-use Rattle.calls.specs.Seen.{Puts, noPuts, starts, isTaken, restarts, seenBy}
+use Rattle.calls.specs.Seen.{Puts, noPuts, starts, restarts, seenBy}
 use Rattle.calls.specs.Refines.{Good, Along, Refines}
 use Rattle.calls.specs.Packet.{lastPackets}
 use Rattle.calls.specs.Demand.{Key, pressed, slice}

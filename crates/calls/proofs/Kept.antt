@@ -200,7 +200,7 @@ telling {a} {out} n {o} l =
 
 -- ---- by call
 
-down-leaves : (t : Record) (slot : ℕ) (x : Reading) (a out : Octets) → Leaves a out (arrived t slot x a out)
+pub down-leaves : (t : Record) (slot : ℕ) (x : Reading) (a out : Octets) → Leaves a out (arrived t slot x a out)
 unfolding arrived dataDown commandDown
 down-leaves t slot (Packet h n) a out =
     on (Leaves a out) (eqb (h .mt) 0)
@@ -233,7 +233,7 @@ down-leaves t slot (Packet h n) a out =
         configAt (configBy (configOctets x) m v) (omega (arith, config-few (configOctets x) m v (config-short x)))
 down-leaves t slot Drop a out = quiet out _ _ _ _ (reach-none a)
 
-consume-leaves : (r : Record) (c : ℕ) (x : Reading) (a out : Octets) → Leaves a out (consumedBy r c x a out)
+pub consume-leaves : (r : Record) (c : ℕ) (x : Reading) (a out : Octets) → Leaves a out (consumedBy r c x a out)
 consume-leaves r c x a out = go x
   where
     echo : {b : Octets} → Reaches a b → Reaches a (echoedSlot r c b)
@@ -249,7 +249,7 @@ consume-leaves r c x a out = go x
         (echo (reach-run (reach-none a) messageSize _ _ _ (omega (arith, place-few c))))
     go Drop = quiet out _ _ _ _ (echo (reach-none a))
 
-up-leaves : (r : Record) (x : Reading) (a out : Octets) → Leaves a out (readUp r x a out)
+pub up-leaves : (r : Record) (x : Reading) (a out : Octets) → Leaves a out (readUp r x a out)
 unfolding comingUp receivedUp
 up-leaves r (Packet h n) a out =
     on (Leaves a out) (eqb (h .mt) 0)
@@ -343,9 +343,9 @@ own-taken es rs t = go (first es) (sym (first-append es rs) ∙ t)
     go taken e = e
     go (refused n) e = absurd (taken-refused (sym e))
 
-record Keeps (a out : Octets) (o : Outcome) : Type 0 where
-  inside : Within a out o
-  refusal : (n : ℕ) → answerIn (o .word) ≡ refused n → o ≡ outcome n a out
+pub record Keeps (a out : Octets) (o : Outcome) : Type 0 where
+  pub inside : Within a out o
+  pub refusal : (n : ℕ) → answerIn (o .word) ≡ refused n → o ≡ outcome n a out
 
 abbrev pub isFresh : Call → Bool
 isFresh (fresh m) = true
@@ -374,7 +374,7 @@ taken-keeps a out o l =
     record { inside = l .inside; refusal = λ n e. absurd (taken-refused (sym (l .answers) ∙ e)) }
 
 module _ (rs : List Rule) (o : Outcome) (a out : Octets) where
-  called-keeps : numbered rs ≡ true → (first (entryRules a (length out) ++ rs) ≡ taken → Leaves a out o) → Keeps a out (called rs o a out)
+  pub called-keeps : numbered rs ≡ true → (first (entryRules a (length out) ++ rs) ≡ taken → Leaves a out o) → Keeps a out (called rs o a out)
   called-keeps w l = called-by (Keeps a out) rs o a out w (λ t. taken-keeps a out o (l t)) (refused-keeps a out)
 
 perform-keeps : (c : Call) (a out : Octets) → Keeps a out (perform c a out)

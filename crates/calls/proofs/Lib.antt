@@ -47,3 +47,10 @@ pub mod Config
 pub mod ConfigCredits
 pub mod Profiles
 pub mod Headers
+pub mod Few
+pub mod Moves
+pub mod Run
+pub mod Strokes
+pub mod Tells
+pub mod Rest
+pub mod RunKept

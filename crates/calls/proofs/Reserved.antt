@@ -22,7 +22,7 @@ use Rattle.views.specs.View.{viewOf}
 use Rattle.views.specs.Moves.{Sound}
 use Rattle.views.proofs.Whole.{moves}
 use Rattle.model.specs.State.{State}
-use Rattle.model.specs.Effects.{Call, fresh, power, command, send, push, down, consume, credit, air, reply, up, report, Result, taken, refused, firstRfu}
+use Rattle.model.specs.Effects.{Call, fresh, power, command, send, push, down, consume, credit, air, reply, up, report, Result, taken, refused, firstRfu, isTaken}
 use Rattle.model.specs.Refusals.{first}
 use Rattle.model.specs.calls.Push.{pushing}
 use Rattle.model.specs.calls.Consume.{consuming}
@@ -33,7 +33,6 @@ use Rattle.model.specs.Reachable.{Each, Wires}
 use Rattle.model.proofs.WellFormed.{SmallShaped, shaped-stays, shaped-start, wires}
 use Rattle.calls.specs.Word.{numberOf, answerIn, droppedIn, rfuIn}
 use Rattle.calls.specs.Outcome.{Outcome, outcome}
-use Rattle.calls.specs.Seen.{isTaken}
 use Rattle.calls.specs.Refines.{Good}
 use Rattle.calls.specs.calls.Fresh.{quietWord, roomRules, freshed, freshCall}
 use Rattle.calls.specs.Demand.{Key, perform, pressed, slice, areaAfter}

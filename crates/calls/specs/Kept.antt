@@ -11,10 +11,15 @@ use Rattle.model.specs.Effects.{refused}
 use Rattle.calls.specs.Word.{answerIn, handedIn, lengthIn}
 use Rattle.calls.specs.Outcome.{Outcome, outcome}
 use Rattle.calls.specs.Demand.{Key, pressed}
+use Rattle.calls.specs.Run.{runCall}
 
 -- where the word's answer is not 0, the word is that number alone, and area and buffer are those before, to the last octet
 abbrev pub RefusalsKeep : Type 0
 RefusalsKeep = (k : Key) (a : Octets) (n : ℕ) → answerIn (pressed k a .word) ≡ refused n → pressed k a ≡ outcome n a (k .out)
+
+-- so of Run to rest, whatever moves there are
+abbrev pub RunRefusalKeeps : Type 0
+RunRefusalKeeps = (a out : Octets) (n : ℕ) → answerIn (runCall a out .word) ≡ refused n → runCall a out ≡ outcome n a out
 
 -- of a call on the area a with the buffer out that results in o
 pub record Within (a out : Octets) (o : Outcome) : Type 0 where
@@ -30,3 +35,7 @@ pub record Within (a out : Octets) (o : Outcome) : Type 0 where
 
 abbrev pub NothingPast : Type 0
 NothingPast = (k : Key) (a : Octets) → Within a (k .out) (pressed k a)
+
+-- all the moves of a press together touch no more than one call does
+abbrev pub RunNothingPast : Type 0
+RunNothingPast = (a out : Octets) → Within a out (runCall a out)

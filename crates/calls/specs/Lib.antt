@@ -18,3 +18,6 @@ pub mod Profiles
 pub mod Headers
 pub mod Reserved
 pub mod Kept
+pub mod Run
+pub mod Strokes
+pub mod Rest

@@ -8,9 +8,8 @@ use Rattle.octets.specs.Octal.{Octal}
 use Rattle.packets.specs.Reserved.{rfuBy}
 use Rattle.calls.specs.Kinds.way as way
 use Rattle.record.specs.Reading.{decodeOf}
-use Rattle.model.specs.Effects.{Call, fresh, power, command, send, push, down, consume, credit, air, reply, up, report}
+use Rattle.model.specs.Effects.{Call, fresh, power, command, send, push, down, consume, credit, air, reply, up, report, isTaken}
 use Rattle.calls.specs.Word.{answerIn, droppedIn, rfuIn}
-use Rattle.calls.specs.Seen.{isTaken}
 use Rattle.calls.specs.calls.Down.{downRead}
 use Rattle.calls.specs.calls.Up.{upRead}
 use Rattle.calls.specs.Demand.{Key, pressed, slice, EveryRun}

@@ -6,7 +6,7 @@ use mathlib.Core.List.{[], _∷_}
 use Rattle.octets.specs.Octets.{pick, cut}
 use Rattle.area.specs.Map.{downAt, upAt, wireSlots}
 use Rattle.area.specs.Ring.{packetsFrom}
-use Rattle.model.specs.Effects.{Call, fresh, power, command, send, push, down, consume, credit, air, reply, up, report, Result, taken, refused}
+use Rattle.model.specs.Effects.{Call, fresh, power, command, send, push, down, consume, credit, air, reply, up, report, Result, isTaken}
 use Rattle.model.specs.Observer.{Event}
 use Rattle.calls.specs.Word.{answerIn, droppedIn, handedIn, lengthIn, downIn, upIn, rfuIn}
 use Rattle.calls.specs.Outcome.{Outcome}
@@ -33,10 +33,6 @@ starts (air m) = false
 starts reply = false
 starts up = false
 starts (report c) = false
-
-abbrev pub isTaken : Result → Bool
-isTaken taken = true
-isTaken (refused n) = false
 
 abbrev pub restarts : Call → Result → Bool
 restarts c r = isTaken r && starts c

@@ -6,7 +6,7 @@
 --   bits 32-39  packets put on the down wire
 --   bits 40-47  packets put on the up wire
 --   bits 48-55  the reserved bits of octet 1 that the packet taken had at 1
--- A call that plays several moves, and there is none yet, has their number in bits 32-47 (up to 65,535): it puts no packet that is shown, so it counts none.
+-- Run to rest has the number of its moves in bits 32-47: it counts no packets.
 -- Assumes nothing.
 use Prim.Native.Nat.{ℕ, _+_, _*_, _/_, _%_}
 use mathlib.Core.Bool.{Bool}
@@ -65,6 +65,10 @@ upIn w = w / upUnit % 256
 
 unfoldable pub rfuIn : ℕ → ℕ
 rfuIn w = w / rfuUnit % 256
+
+-- of Run to rest: how many moves it made
+unfoldable pub movesIn : ℕ → ℕ
+movesIn w = w / downUnit % 65536
 
 -- ---- the word of a call that takes a packet
 

@@ -9,7 +9,7 @@ use lib.ListN.{length}
 use Rattle.octets.specs.Octets.{Octets, pick}
 use Rattle.ascii.specs.Words.{sameAs}
 use Rattle.forms.specs.Kinds.{Name}
-use Rattle.forms.specs.Kinds.name.{Fresh, Power, Command, Send, Push, Down, Consume, Credit, Air, Reply, Up, Report, Read, Bad}
+use Rattle.forms.specs.Kinds.name.{Fresh, Power, Command, Send, Push, Down, Consume, Credit, Air, Reply, Up, Report, Read, Bad, Run}
 use Rattle.forms.specs.Names.{textOf, among}
 
 module _ (x : Name) (xs : List Name) (l : Octets) where
@@ -42,3 +42,4 @@ name-short Up = omega arith
 name-short Report = omega arith
 name-short Read = omega arith
 name-short Bad = omega arith
+name-short Run = omega arith

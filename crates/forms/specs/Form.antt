@@ -11,7 +11,7 @@ use Rattle.ascii.specs.Letters as letter
 use Rattle.ascii.specs.Fields.{afterField, hasField, onlyField, valueIn}
 use Rattle.ascii.specs.Digits.{isHex, octetsIn}
 use Rattle.forms.specs.Kinds.{Name, Asked}
-use Rattle.forms.specs.Kinds.name.{Fresh, Power, Command, Send, Push, Down, Consume, Credit, Air, Reply, Up, Report, Read, Bad}
+use Rattle.forms.specs.Kinds.name.{Fresh, Power, Command, Send, Push, Down, Consume, Credit, Air, Reply, Up, Report, Read, Bad, Run}
 use Rattle.forms.specs.Names.{nameIn}
 
 -- ---- the form
@@ -62,6 +62,7 @@ fits Up m = eqb (length m) 0
 fits Report m = eqb (length m) 1
 fits Read m = true
 fits Bad m = false
+fits Run m = eqb (length m) 0
 
 -- ---- the name that a line asks for: bad for a line of another form
 

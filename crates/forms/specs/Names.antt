@@ -6,7 +6,7 @@ use Rattle.octets.specs.Octets.{Octets, pick}
 use Rattle.ascii.specs.Letters.{a, b, c, d, e, f, h, i, l, m, n, o, p, r, s, t, u, w, y}
 use Rattle.ascii.specs.Words.{sameAs}
 use Rattle.forms.specs.Kinds.{Name}
-use Rattle.forms.specs.Kinds.name.{Fresh, Power, Command, Send, Push, Down, Consume, Credit, Air, Reply, Up, Report, Read, Bad}
+use Rattle.forms.specs.Kinds.name.{Fresh, Power, Command, Send, Push, Down, Consume, Credit, Air, Reply, Up, Report, Read, Bad, Run}
 
 abbrev pub textOf : Name → Octets
 textOf Fresh = f ∷ r ∷ e ∷ s ∷ h ∷ []
@@ -23,10 +23,11 @@ textOf Up = u ∷ p ∷ []
 textOf Report = r ∷ e ∷ p ∷ o ∷ r ∷ t ∷ []
 textOf Read = r ∷ e ∷ a ∷ d ∷ []
 textOf Bad = b ∷ a ∷ d ∷ []
+textOf Run = r ∷ u ∷ n ∷ []
 
--- those of the twelve calls, and of reading alone
+-- those of the twelve calls, of reading alone, and of Run to rest
 abbrev pub names : List Name
-names = Fresh ∷ Power ∷ Command ∷ Send ∷ Push ∷ Down ∷ Consume ∷ Credit ∷ Air ∷ Reply ∷ Up ∷ Report ∷ Read ∷ []
+names = Fresh ∷ Power ∷ Command ∷ Send ∷ Push ∷ Down ∷ Consume ∷ Credit ∷ Air ∷ Reply ∷ Up ∷ Report ∷ Read ∷ Run ∷ []
 
 -- the name that a word is
 unfoldable pub among : List Name → Octets → Name
@@ -51,3 +52,22 @@ isBad Up = false
 isBad Report = false
 isBad Read = false
 isBad Bad = true
+isBad Run = false
+
+-- a press of Run to rest, whose line tells moves and no packets
+abbrev pub isRun : Name → Bool
+isRun Fresh = false
+isRun Power = false
+isRun Command = false
+isRun Send = false
+isRun Push = false
+isRun Down = false
+isRun Consume = false
+isRun Credit = false
+isRun Air = false
+isRun Reply = false
+isRun Up = false
+isRun Report = false
+isRun Read = false
+isRun Bad = false
+isRun Run = true

@@ -69,6 +69,7 @@ fn fits(name: Name, args: &[u8]) -> bool
         Name::Report => n == 1,
         Name::Read => true,
         Name::Bad => false,
+        Name::Run => n == 0,
     }
 }
 

@@ -5,9 +5,9 @@ ghost use mathlib.Core.Path.{_≡_};
 ghost use Prim.Native.Nat.{_≤_};
 ghost use lib.ListN.{length};
 ghost use Rattle.ascii.specs.Writing.{Wrote};
-ghost use Rattle.forms.specs.Names.{textOf, nameIn, isBad};
+ghost use Rattle.forms.specs.Names.{textOf, nameIn, isBad, isRun};
 
-// What a line asks for: a call, or none that there is.
+// What a line asks for: a call, a press of Run to rest, or nothing that there is.
 pub enum Name {
     Fresh,
     Power,
@@ -23,6 +23,7 @@ pub enum Name {
     Report,
     Read,
     Bad,
+    Run,
 }
 
 pub fn is_bad(name: Name) -> bool
@@ -43,6 +44,30 @@ pub fn is_bad(name: Name) -> bool
         Name::Report => false,
         Name::Read => false,
         Name::Bad => true,
+        Name::Run => false,
+    }
+}
+
+// Whether it is a press of Run to rest, whose line tells moves and no packets.
+pub fn is_run(name: Name) -> bool
+    ensures { λ r. ⌜ r ≡ isRun name ⌝ }
+{
+    match name {
+        Name::Fresh => false,
+        Name::Power => false,
+        Name::Command => false,
+        Name::Send => false,
+        Name::Push => false,
+        Name::Down => false,
+        Name::Consume => false,
+        Name::Credit => false,
+        Name::Air => false,
+        Name::Reply => false,
+        Name::Up => false,
+        Name::Report => false,
+        Name::Read => false,
+        Name::Bad => false,
+        Name::Run => true,
     }
 }
 
@@ -76,6 +101,8 @@ pub fn name_in(word: &[u8]) -> Name
         Name::Report
     } else if same(word, b"read") {
         Name::Read
+    } else if same(word, b"run") {
+        Name::Run
     } else {
         Name::Bad
     }
@@ -101,5 +128,6 @@ pub fn put_name(text: &mut [u8], at: usize, name: Name) -> usize
         Name::Report => put(text, at, b"report"),
         Name::Read => put(text, at, b"read"),
         Name::Bad => put(text, at, b"bad"),
+        Name::Run => put(text, at, b"run"),
     }
 }

@@ -42,3 +42,7 @@ pub mod ConfigPlayed
 pub mod Profiles
 pub mod Wraps
 pub mod ConfigCredits
+pub mod Sums
+pub mod Falling
+pub mod Press
+pub mod Silent

@@ -66,7 +66,7 @@ step-keeps c s o k = go (first (rules c s)) refl
         (subst (Kept (act c s .next)) (sym (seen-tallied s (o .aim) (o .ledger) c)) (call-keeps c s (o .aim) (o .ledger) e (k .fine)))
     go (refused n) e = k
 
-calls-keep : (cs : List Call) (s : State) (o : Account) → Kept s o → Kept (after cs s) (observed (events cs s) o)
+pub calls-keep : (cs : List Call) (s : State) (o : Account) → Kept s o → Kept (after cs s) (observed (events cs s) o)
 unfolding after events observed
 calls-keep [] s o k = k
 calls-keep (c ∷ cs) s o k = calls-keep cs (step c s .effect .next) (observe (eventOf c (step c s)) o) (step-keeps c s o k)

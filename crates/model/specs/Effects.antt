@@ -1,7 +1,7 @@
 -- The twelve calls (document 01, "Calls"), and what comes of one.
 -- Assumes nothing.
 use Prim.Native.Nat.{ℕ}
-use mathlib.Core.Bool.{Bool, false}
+use mathlib.Core.Bool.{Bool, true, false}
 use mathlib.Core.List.{List, [], _∷_, _++_}
 use Rattle.octets.specs.Octets.{Octets, pick}
 use Rattle.packets.specs.Packet.{readOf}
@@ -26,6 +26,10 @@ pub data Call : Type 0 where
 pub data Result : Type 0 where
   taken : Result
   refused : ℕ → Result
+
+abbrev pub isTaken : Result → Bool
+isTaken taken = true
+isTaken (refused n) = false
 
 -- what a call does: the drop flag, the reserved bits that it shows, the packets put on each wire, the message handed out, the state after it
 pub record Effect : Type 0 where

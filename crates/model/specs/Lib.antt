@@ -11,6 +11,8 @@ pub mod Grants
 pub mod Observer
 pub mod Claim
 pub mod Reachable
+pub mod Press
+pub mod Rest
 pub mod Discards
 pub mod Config
 pub mod invariant

@@ -6,7 +6,7 @@ use mathlib.Core.Bool.{true, false}
 use mathlib.Core.List.{[], _∷_}
 use Rattle.octets.specs.Hex.{hex}
 use Rattle.model.specs.Effects.{fresh, power, command, send, push, down, consume, credit, air, reply, up, report}
-use Rattle.opinions.specs.Shown.{line, refusal, done, puts, hands, start, lines}
+use Rattle.opinions.specs.Shown.{line, refusal, done, puts, hands, ran, start, lines, calls, runs, strokeLines}
 
 -- Payload 4 and two credits on connection 0: consume returns no packet there, so that a message of three packets waits
 -- for a notice; before and after it the five numbers of report come to the grant.
@@ -501,3 +501,36 @@ values-kept :
     ∷ puts (hex 5 0x2003020118) ∷ puts (hex 8 0x4003050001180101) ∷ done ∷ []
 unfolding lines
 values-kept = refl
+
+-- Two credits on each connection, and presses of Run to rest: commands to their ends, messages there and back on two
+-- loopbacks and on connection 0, with a notice of credits there, and a reply that waits for what the host sends. A
+-- press ends with a message that is handed out, and some make no move; one drops what was under way when the field went
+-- off.
+run-to-rest :
+    strokeLines
+    (calls (fresh (hex 5 0x2004020402)) ∷ runs ∷ calls (command 0 0 (hex 1 0x01)) ∷ runs
+    ∷ calls (command 0 1 (hex 2 0x0000)) ∷ runs ∷ calls (command 0 4 (hex 2 0x0100)) ∷ runs
+    ∷ calls (send 2 (hex 9 0x010203040506070809)) ∷ runs ∷ calls (report 2) ∷ runs ∷ runs ∷ calls (report 2)
+    ∷ calls (command 0 4 (hex 2 0x0100)) ∷ calls (command 1 3 (hex 5 0x0200018001)) ∷ calls down ∷ runs
+    ∷ calls (command 1 3 (hex 5 0x0200018001)) ∷ runs ∷ calls (air (hex 4 0x03010480)) ∷ runs
+    ∷ calls (send 0 (hex 9 0xA1A2A3A4A5A6A7A8A9)) ∷ runs ∷ calls (report 0) ∷ runs ∷ calls (report 0)
+    ∷ calls (air (hex 6 0x08B1B2B3B4B5)) ∷ calls (send 2 []) ∷ calls (send 3 (hex 5 0xC1C2C3C4C5)) ∷ runs
+    ∷ calls (push 3) ∷ runs ∷ runs ∷ runs ∷ runs ∷ runs ∷ calls (send 0 (hex 6 0xD1D2D3D4D5D6)) ∷ calls (push 0)
+    ∷ calls (air (hex 3 0x08E1E2)) ∷ calls (send 3 (hex 1 0xF1)) ∷ calls (air (hex 1 0x07)) ∷ runs ∷ runs ∷ runs
+    ∷ calls (report 0) ∷ calls (report 3) ∷ calls (send 2 (hex 1 0xAB)) ∷ calls (push 2)
+    ∷ calls (command 0 5 (hex 1 0x02)) ∷ runs ∷ runs ∷ calls power ∷ runs ∷ [])
+    start
+    ≡ done ∷ ran 0 false [] ∷ puts (hex 4 0x20000101) ∷ ran 3 false [] ∷ puts (hex 5 0x2001020000) ∷ ran 2 false []
+    ∷ puts (hex 5 0x2004020100) ∷ ran 2 false [] ∷ done ∷ ran 11 false ((hex 9 0x010203040506070809) ∷ [])
+    ∷ hands (hex 5 0x0100000001) ∷ ran 1 false ((hex 9 0x010203040506070809) ∷ []) ∷ ran 0 false []
+    ∷ hands (hex 5 0x0200000000) ∷ puts (hex 5 0x2004020100) ∷ refusal 5 ∷ puts (hex 7 0x40040400040203)
+    ∷ ran 1 false [] ∷ puts (hex 8 0x2103050200018001) ∷ ran 2 false [] ∷ puts (hex 14 0x61050B0101048004020080000000)
+    ∷ ran 1 false [] ∷ done ∷ ran 13 false ((hex 9 0xA1A2A3A4A5A6A7A8A9) ∷ []) ∷ hands (hex 5 0x0100000100)
+    ∷ ran 2 false [] ∷ hands (hex 5 0x0200000000) ∷ done ∷ done ∷ done ∷ ran 3 false ([] ∷ [])
+    ∷ puts (hex 7 0x130004C1C2C3C4) ∷ ran 1 false ([] ∷ []) ∷ ran 6 false ((hex 5 0xC1C2C3C4C5) ∷ [])
+    ∷ ran 1 false ((hex 5 0xC1C2C3C4C5) ∷ []) ∷ ran 2 false ((hex 5 0xB1B2B3B4B5) ∷ []) ∷ ran 0 false [] ∷ done
+    ∷ puts (hex 7 0x100004D1D2D3D4) ∷ done ∷ done ∷ puts (hex 5 0x6106020301) ∷ ran 5 true ((hex 1 0xF1) ∷ [])
+    ∷ ran 1 false ((hex 1 0xF1) ∷ []) ∷ ran 0 false [] ∷ refusal 6 ∷ hands (hex 5 0x0200000000) ∷ done
+    ∷ puts (hex 4 0x020001AB) ∷ puts (hex 4 0x20050102) ∷ ran 3 false [] ∷ ran 0 false [] ∷ done ∷ ran 0 false [] ∷ []
+unfolding strokeLines
+run-to-rest = refl

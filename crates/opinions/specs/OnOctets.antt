@@ -16,7 +16,7 @@ use Rattle.opinions.specs.FirstPaper.{paper, paperShows}
 
 -- the line of what is seen of a call
 abbrev pub seenLine : Event → Line
-seenLine e = record { answer = numberOf (e .answer); drop = e .dropped; rfu = e .rfu; packets = joined (e .toDown) ++ joined (e .toUp); message = e .message }
+seenLine e = record { answer = numberOf (e .answer); drop = e .dropped; rfu = e .rfu; packets = joined (e .toDown) ++ joined (e .toUp); message = e .message; moves = 0 }
 
 abbrev pub PaperOnOctets : Type 0
 PaperOnOctets =

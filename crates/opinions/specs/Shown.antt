@@ -1,4 +1,5 @@
--- A list of calls as the paper sheet shows it: for each call its answer, the drop flag, the reserved bits, the octets put on wires and the message.
+-- A list of calls as the paper sheet shows it: for each call its answer, the drop flag, the reserved bits, the octets put on wires and the message; and for each press of
+-- Run to rest its moves.
 -- Assumes nothing.
 use Prim.Native.Nat.{ℕ}
 use mathlib.Core.Bool.{Bool, false}
@@ -28,6 +29,9 @@ use Rattle.model.specs.Effects.{Call, Result, taken, refused, Outcome}
 use Rattle.model.specs.Refusals.{first}
 use Rattle.model.specs.calls.Credit.{allZero}
 use Rattle.model.specs.Bench.{step}
+use Rattle.model.specs.Observer as observer
+use Rattle.model.specs.Observer.{events}
+use Rattle.model.specs.Press.{firstOf, pressWithin, press, Pressed, pressed}
 
 -- ---- lines
 
@@ -38,10 +42,12 @@ pub record Line : Type 0 where
   pub packets : Octets
   -- none or one
   pub message : List Octets
+  -- of a press
+  pub moves : ℕ
 
 -- of a list of calls none has a reserved bit to show
 abbrev pub line : ℕ → Bool → Octets → List Octets → Line
-line a d p m = record { answer = a; drop = d; rfu = 0; packets = p; message = m }
+line a d p m = record { answer = a; drop = d; rfu = 0; packets = p; message = m; moves = 0 }
 
 -- the lines that are met most: not taken; taken with nothing to show, with packets put, with a message handed out
 abbrev pub refusal : ℕ → Line
@@ -56,6 +62,10 @@ puts p = line 0 false p []
 abbrev pub hands : Octets → Line
 hands m = line 0 false [] (m ∷ [])
 
+-- a press: how many moves it made, whether one's drop flag was set, and the message of the last
+abbrev pub ran : ℕ → Bool → List Octets → Line
+ran n d m = record { answer = 0; drop = d; rfu = 0; packets = []; message = m; moves = n }
+
 -- ---- what the model shows
 
 abbrev pub numberOf : Result → ℕ
@@ -69,7 +79,10 @@ joined (p ∷ ps) = p ++ joined ps
 abbrev pub lineOf : Outcome → Line
 lineOf o =
     let e = o .effect in
-    record { answer = numberOf (o .answer); drop = e .drop; rfu = e .rfu; packets = joined (e .toDown) ++ joined (e .toUp); message = e .message }
+    record { answer = numberOf (o .answer); drop = e .drop; rfu = e .rfu; packets = joined (e .toDown) ++ joined (e .toUp); message = e .message; moves = 0 }
+
+abbrev pub pressLine : Pressed → Line
+pressLine p = ran (p .moves) (p .dropped) (p .message)
 
 -- the profile and the bench that a sheet starts with
 abbrev pub profile : Octets
@@ -83,3 +96,16 @@ unfoldable pub lines : List Call → State → List Line
 unfolding cut over splice octet0 octet1 packetOf oidOf carriedOf spareOf headerOf readOf carrying segmentsWithin segments placeOf connOf termsOf carriable listedIn addedTo commandOf shortest allowed resetBy after seek nextId createBy closeBy configsOk discoverBy deactivateBy setBy judgeOf controllerAfter configBy entriesFrom entryCount responseOf noticeMessage table findIn rowOf allAllowed acceptable valueIn zeroes withValue paramAt setFirst invalidIn namesKnown shownIn unavailableIn unavailableCount setWritten valuesWritten unavailableWritten getWritten foundIn pollIn listenIn eventOf foundBy pollBy listenBy failedBy airedBy airMessage controllerAired noticeOf zeros initWritten createWritten entriesOk creditsWritten discoverWritten activatedWritten deactivateWritten written answerOf heardWritten hearOf creditsIn namesClosed hostAfter dropHeard meaning dataCount insideOf countedUp first allZero step
 lines [] s = []
 lines (c ∷ cs) s = lineOf (step c s) ∷ lines cs (step c s .effect .next)
+
+-- ---- lists in which Run to rest is pressed too
+
+pub data Stroke : Type 0 where
+  calls : Call → Stroke
+  runs : Stroke
+
+-- each stroke's line. It computes as `lines` does.
+unfoldable pub strokeLines : List Stroke → State → List Line
+unfolding lines events observer.after firstOf pressWithin press
+strokeLines [] s = []
+strokeLines (calls c ∷ xs) s = lineOf (step c s) ∷ strokeLines xs (step c s .effect .next)
+strokeLines (runs ∷ xs) s = pressLine (pressed s) ∷ strokeLines xs (pressed s .next)

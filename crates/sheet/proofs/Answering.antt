@@ -9,7 +9,7 @@ use lib.ListN.{length}
 use Rattle.octets.specs.Octets.{Octets, pick}
 use Rattle.calls.specs.Word.{answerIn}
 use Rattle.calls.specs.Outcome.{Outcome}
-use Rattle.ascii.specs.Digits.{decimalOf}
+use Rattle.ascii.specs.Digits.{leadingIn, decimalOf}
 use Rattle.ascii.specs.Writing.{Wrote}
 use Rattle.ascii.proofs.Writing.{wrote-length}
 use Rattle.sheet.specs.Kinds.{Name}
@@ -21,7 +21,7 @@ use Rattle.sheet.proofs.Fitting.{answer-short}
 
 module _ (l a out : Octets) where
   -- the text has room for every answer, so all of it is written
-  pub answers : (t after : Octets) (n : ℕ) (x : Answer) → answerTo l a out ≡ x → length t ≡ 18608 → Wrote t 0 (x .line) n after
+  pub answers : (t after : Octets) (n : ℕ) (x : Answer) → answerTo l a out ≡ x → length t ≡ 18624 → Wrote t 0 (x .line) n after
       → Answers (answerTo l a out) t n after (x .area) (x .out)
   answers t after n x e long w =
       let short = ap (λ (y : Answer). length (y .line)) e in
@@ -49,5 +49,5 @@ module _ (l a out : Octets) where
       ∙ sym ((λ i. shown x (p i)) ∙ (λ i. shown (e i) (played (e i) (k i) a out)))
 
 pub bad-text : {t after : Octets} {n : ℕ} → Wrote t 0 (101 ∷ 118 ∷ 61 ∷ 98 ∷ 97 ∷ 100 ∷ 32 ∷ 97 ∷ 110 ∷ 115 ∷ 61 ∷ 51 ∷ []) n after → Wrote t 0 badLine n after
-unfolding decimalOf answerIn
+unfolding leadingIn decimalOf answerIn
 bad-text w = w

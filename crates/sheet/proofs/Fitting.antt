@@ -21,7 +21,7 @@ use Rattle.model.specs.Effects.{Call, fresh, power, command, send, push, down, 
 use Rattle.model.proofs.Needs.{need}
 use Rattle.calls.specs.Kinds.{Reading}
 use Rattle.calls.specs.Kinds.reading.{Packet, Drop}
-use Rattle.calls.specs.Word.{handedBit, wordOf, wordTelling, numberOf, answerIn, droppedIn, handedIn, lengthIn, downIn, upIn, rfuIn}
+use Rattle.calls.specs.Word.{handedBit, wordOf, wordTelling, numberOf, answerIn, droppedIn, handedIn, lengthIn, downIn, upIn, rfuIn, movesIn}
 use Rattle.calls.specs.Outcome.{Outcome, outcome, entryRules}
 use Rattle.calls.specs.Packet.{wireRing, packetBack, packetRules, shownPacket, packetCall, handedBy, lastPackets}
 use Rattle.calls.specs.Read.{Found, foundIn, foundOf, foundWord}
@@ -31,14 +31,15 @@ use Rattle.calls.proofs.Words.{word-length, told-length}
 use Rattle.calls.specs.Demand.{perform}
 use Rattle.calls.specs.Kept.{Within}
 use Rattle.calls.proofs.Kept.{below, called-by, nothing-past}
+use Rattle.calls.proofs.RunKept.{run-kept}
 use Rattle.calls.proofs.Packet.{wire-fits, length-slot}
 use Rattle.ascii.proofs.Digits.{length-hex, length-decimal}
 use Rattle.sheet.specs.Kinds.{Name}
-use Rattle.sheet.specs.Kinds.name.{Fresh, Power, Command, Send, Push, Down, Consume, Credit, Air, Reply, Up, Report, Read, Bad}
-use Rattle.forms.specs.Names.{textOf, isBad}
+use Rattle.sheet.specs.Kinds.name.{Fresh, Power, Command, Send, Push, Down, Consume, Credit, Air, Reply, Up, Report, Read, Bad, Run}
+use Rattle.forms.specs.Names.{textOf, isBad, isRun}
 use Rattle.forms.specs.Form.{evLabel, argsOf, asks}
 use Rattle.sheet.specs.Play.{played}
-use Rattle.sheet.specs.Show.{zeroBuffer, joined, wireShown, putOn, messageText, eventField, answerField, dropField, rfuField, packetField, messageField, lineOf}
+use Rattle.sheet.specs.Show.{zeroBuffer, joined, wireShown, putBy, putOn, messageText, eventField, answerField, dropField, rfuField, packetField, messageField, movesField, lineOf}
 use Rattle.sheet.specs.Sheet.{Answer, answerTo}
 use Rattle.forms.proofs.Naming.{name-short}
 use Rattle.sheet.proofs.Showing.{joined-append}
@@ -153,6 +154,7 @@ play-modest Up m a out = kept up a out .most
 play-modest Report m a out = kept (report (getD m 0 0)) a out .most
 play-modest Read m a out = on (λ (f : Found). lengthIn (foundWord f) ≤ messageSize) (ltb slotSize (length m)) (λ _. number-length 3 (omega arith)) (λ _. read-modest (readOf m))
 play-modest Bad m a out = number-length 3 (omega arith)
+play-modest Run m a out = run-kept a out .most
 
 -- ---- the line
 
@@ -167,7 +169,7 @@ text-short o h =
     (λ _. message-short (cut 0 (lengthIn (o .word)) (o .out)) (omega (arith, cut-short (lengthIn (o .word)) (o .out))))
     (λ _. omega arith)
 
-wires-short : (o : Outcome) → length (putOn o) ≤ 2 * (slotSize * wireSlots)
+wires-short : (o : Outcome) → length (putBy o) ≤ 2 * (slotSize * wireSlots)
 wires-short o =
     omega (
       arith,
@@ -176,29 +178,37 @@ wires-short o =
       wire-short (o .area) zeroBuffer 1 (upIn (o .word)),
     )
 
+put-short : (x : Name) (o : Outcome) → length (putOn x o) ≤ 2 * (slotSize * wireSlots)
+put-short x o = on (λ (l : Octets). length l ≤ 2 * (slotSize * wireSlots)) (isRun x) (λ _. omega arith) (λ _. wires-short o)
+
+moves-short : (x : Name) (n : ℕ) → length (movesField x n) ≤ 12
+moves-short x n = on (λ (l : Octets). length l ≤ 12) (isRun x) (λ _. omega (arith, length-decimal n)) (λ _. omega arith)
+
 -- each field, and all of them
-line-short : (x : Name) (o : Outcome) → Modest o → length (lineOf x o) ≤ 18607
+line-short : (x : Name) (o : Outcome) → Modest o → length (lineOf x o) ≤ 18623
 line-short x o h =
     let w = o .word in
     let event : length (eventField x) ≤ 10 = omega (arith, length-append evLabel (textOf x), name-short x) in
-    let answer : length (answerField w) ≤ 8 = omega (arith, length-decimal (numberOf (answerIn w))) in
-    let flag : length (dropField w) ≤ 9 = omega (arith, length-decimal (bit (droppedIn w))) in
+    let answer : length (answerField w) ≤ 10 = omega (arith, length-decimal (numberOf (answerIn w))) in
+    let flag : length (dropField w) ≤ 11 = omega (arith, length-decimal (bit (droppedIn w))) in
     let bits : length (rfuField w) ≤ 7 = omega (arith, length-hex (rfuIn w ∷ [])) in
-    let packets : length (packetField o) ≤ 5 + 4 * (slotSize * wireSlots) = omega (arith, length-hex (putOn o), wires-short o) in
+    let packets : length (packetField x o) ≤ 5 + 4 * (slotSize * wireSlots) = omega (arith, length-hex (putOn x o), put-short x o) in
     let message : length (messageField o) ≤ 5 + 2 * messageSize = omega (arith, text-short o h) in
     omega (
       arith,
       length-append (eventField x) (answerField w),
       length-append (eventField x ++ answerField w) (dropField w),
       length-append (eventField x ++ answerField w ++ dropField w) (rfuField w),
-      length-append (eventField x ++ answerField w ++ dropField w ++ rfuField w) (packetField o),
-      length-append (eventField x ++ answerField w ++ dropField w ++ rfuField w ++ packetField o) (messageField o),
+      length-append (eventField x ++ answerField w ++ dropField w ++ rfuField w) (packetField x o),
+      length-append (eventField x ++ answerField w ++ dropField w ++ rfuField w ++ packetField x o) (messageField o),
+      length-append (eventField x ++ answerField w ++ dropField w ++ rfuField w ++ packetField x o ++ messageField o) (movesField x (movesIn w)),
+      moves-short x (movesIn w),
     )
 
 -- what answers any line
-pub answer-short : (l a out : Octets) → length (answerTo l a out .line) ≤ 18607
+pub answer-short : (l a out : Octets) → length (answerTo l a out .line) ≤ 18623
 unfolding answerTo
 answer-short l a out =
-    on (λ (x : Answer). length (x .line) ≤ 18607) (isBad (asks l))
+    on (λ (x : Answer). length (x .line) ≤ 18623) (isBad (asks l))
     (λ _. omega (arith, length-decimal (numberOf (answerIn 3))))
     (λ _. line-short (asks l) _ (play-modest (asks l) (argsOf l) a out))

@@ -1,18 +1,20 @@
 -- The laws of `specs/Show.antt`.
 -- Assumes nothing.
-use Prim.Native.Nat.{ℕ, suc}
+use Prim.Native.Nat.{ℕ, suc, _<_}
 use mathlib.Core.Path.{_≡_, refl, sym, ap, _∙_}
 use mathlib.Core.Bool.{Bool, true, false}
 use mathlib.Core.List.{List, [], _∷_, _++_, append-assoc, append-nil}
 use native.Mathlib.Omega.{arith}
 use lib.ListN.{length}
 use Rattle.octets.specs.Octets.{Octets, pick, cut}
-use Rattle.calls.specs.Word.{handedIn, lengthIn}
-use Rattle.calls.specs.Outcome.{outcome}
+use Rattle.calls.specs.Word.{handedIn, lengthIn, movesIn}
+use Rattle.calls.specs.Outcome.{Outcome, outcome}
 use Rattle.calls.specs.Packet.{packetCall, handedBy, lastPackets}
-use Rattle.ascii.specs.Digits.{hexOf}
+use Rattle.ascii.specs.Digits.{hexOf, decimalOf}
 use Rattle.ascii.proofs.Digits.{hex-append}
-use Rattle.sheet.specs.Show.{pktLabel, zeroBuffer, joined, wireShown, messageText}
+use Rattle.sheet.specs.Kinds.{Name}
+use Rattle.forms.specs.Names.{isRun}
+use Rattle.sheet.specs.Show.{pktLabel, movesLabel, zeroBuffer, joined, wireShown, putBy, messageText, packetField, movesField}
 
 -- ---- joined
 
@@ -35,9 +37,25 @@ pub wire-none : (wire : ℕ) (a : Octets) → [] ≡ hexOf (wireShown wire 0 a)
 unfolding hexOf joined lastPackets
 wire-none wire a = refl
 
--- both wires
-pub wires-both : (a b : Octets) → pktLabel ++ hexOf a ++ hexOf b ≡ pktLabel ++ hexOf (a ++ b)
-wires-both a b = append-assoc pktLabel (hexOf a) (hexOf b) ∙ ap (λ (l : Octets). pktLabel ++ l) (sym (hex-append a b))
+-- ---- the fields of a press, and of any other event
+
+module _ (x : Name) where
+  pub press-packets : (o : Outcome) → isRun x ≡ true → pktLabel ≡ packetField x o
+  unfolding hexOf
+  press-packets o e = sym (ap (λ (b : Bool). pktLabel ++ hexOf (pick b [] (putBy o))) e)
+
+  pub call-packets : (o : Outcome) → isRun x ≡ false → pktLabel ++ hexOf (putBy o) ≡ packetField x o
+  call-packets o e = sym (ap (λ (b : Bool). pktLabel ++ hexOf (pick b [] (putBy o))) e)
+
+  pub press-moves : (n : ℕ) → isRun x ≡ true → movesLabel ++ decimalOf n ≡ movesField x n
+  press-moves n e = sym (ap (λ (b : Bool). pick b (movesLabel ++ decimalOf n) []) e)
+
+  pub call-moves : (n : ℕ) → isRun x ≡ false → [] ≡ movesField x n
+  call-moves n e = sym (ap (λ (b : Bool). pick b (movesLabel ++ decimalOf n) []) e)
+
+pub moves-fit : (w : ℕ) → movesIn w < 65536
+unfolding movesIn
+moves-fit w = omega arith
 
 -- ---- the message of a word
 

@@ -1,9 +1,9 @@
--- A printed line tells its event, answer, drop flag, reserved bits, packets and message: `Heard` of `specs/Told.antt`.
+-- A printed line tells its event, answer, drop flag, reserved bits, packets, message and moves: `Heard` of `specs/Told.antt`.
 -- Assumes nothing.
 use Prim.Native.Nat.{ℕ, zero, suc, _+_, _/_, _≤_, _<_}
 use mathlib.Core.Path.{_≡_, refl, sym, ap, subst, _∙_}
 use mathlib.Core.Bool.{Bool, true, false, _&&_}
-use mathlib.Core.List.{List, [], _∷_, _++_, append-assoc}
+use mathlib.Core.List.{List, [], _∷_, _++_, append-assoc, append-nil}
 use native.Mathlib.Omega.{arith}
 use borrow.Author.Tests.{ltb-true, ne-eqb}
 use lib.ListN.{drop, getD, replicate}
@@ -16,21 +16,21 @@ use Rattle.area.specs.Map.{slotSize, messageSize}
 use Rattle.area.specs.Ring.{slotAt, slotIn, trim, slotPacket}
 use Rattle.record.specs.Layout.{bit}
 use Rattle.record.specs.Reading.{decodeOf}
-use Rattle.calls.specs.Word.{numberOf, answerIn, droppedIn, handedIn, lengthIn, rfuIn}
+use Rattle.calls.specs.Word.{numberOf, answerIn, droppedIn, handedIn, lengthIn, rfuIn, movesIn}
 use Rattle.calls.specs.Outcome.{Outcome, outcome}
 use Rattle.calls.specs.Packet.{packetBack, packetRules, shownPacket, packetCall, handedBy, lastPackets}
 use Rattle.ascii.specs.Letters as letter
 use Rattle.ascii.specs.Words.{words}
-use Rattle.ascii.specs.Digits.{digitOf, hexOf, octetsIn, numberFrom}
+use Rattle.ascii.specs.Digits.{digitOf, hexOf, octetsIn, decimalOf, numberFrom}
 use Rattle.ascii.proofs.Words.{Solid, solid-nil, solid-cons, solid-append, words-next, words-last, both}
 use Rattle.ascii.proofs.Digits.{digit-least, hex-solid, octets-hex, decimal-solid, number-decimal}
 use Rattle.sheet.specs.Kinds.{Name}
-use Rattle.sheet.specs.Kinds.name.{Fresh, Power, Command, Send, Push, Down, Consume, Credit, Air, Reply, Up, Report, Read, Bad}
-use Rattle.forms.specs.Names.{textOf}
+use Rattle.sheet.specs.Kinds.name.{Fresh, Power, Command, Send, Push, Down, Consume, Credit, Air, Reply, Up, Report, Read, Bad, Run}
+use Rattle.forms.specs.Names.{textOf, isRun}
 use Rattle.forms.specs.Form.{evLabel}
-use Rattle.sheet.specs.Show.{zeroBuffer, joined, wireShown, putOn, messageText, eventField, answerField, dropField, rfuField, packetField, messageField, lineOf}
+use Rattle.sheet.specs.Show.{movesLabel, zeroBuffer, joined, wireShown, putOn, messageText, eventField, answerField, dropField, rfuField, packetField, messageField, movesField, lineOf}
 use Rattle.sheet.specs.Told.{messageIn, toldBy, toTell, Real, Heard}
-use Rattle.sheet.proofs.Showing.{joined-append}
+use Rattle.sheet.proofs.Showing.{joined-append, moves-fit}
 use Rattle.calls.proofs.Words.{number-answer}
 use Rattle.calls.proofs.Kept.{called-by}
 
@@ -62,6 +62,7 @@ name-solid Up = letters-solid (textOf Up) refl
 name-solid Report = letters-solid (textOf Report) refl
 name-solid Read = letters-solid (textOf Read) refl
 name-solid Bad = letters-solid (textOf Bad) refl
+name-solid Run = letters-solid (textOf Run) refl
 
 event-solid : (x : Name) → Solid (eventField x)
 unfolding letters
@@ -73,25 +74,26 @@ message-solid [] = solid-nil
 message-solid ([] ∷ ms) = letters-solid (letter.dash ∷ []) refl
 message-solid ((x ∷ m) ∷ ms) = hex-solid (x ∷ m)
 
--- ---- six words with a blank between each two
+-- ---- six words with a blank between each two, and what follows the sixth
 
-words-six : {a b c d e f : Octets} → Solid a → Solid b → Solid c → Solid d → Solid e → Solid f
-    → words (a ++ (32 ∷ b) ++ (32 ∷ c) ++ (32 ∷ d) ++ (32 ∷ e) ++ (32 ∷ f)) ≡ a ∷ b ∷ c ∷ d ∷ e ∷ f ∷ []
-words-six {a} {b} {c} {d} {e} {f} sa sb sc sd se sf =
+words-line : {a b c d e : Octets} (f t : Octets) {ts : List Octets} → Solid a → Solid b → Solid c → Solid d → Solid e → words (f ++ t) ≡ f ∷ ts
+    → words (a ++ (32 ∷ b) ++ (32 ∷ c) ++ (32 ∷ d) ++ (32 ∷ e) ++ (32 ∷ f) ++ t) ≡ a ∷ b ∷ c ∷ d ∷ e ∷ f ∷ ts
+words-line {a} {b} {c} {d} {e} f t sa sb sc sd se tail =
     ap words
-    (append-assoc (a ++ (32 ∷ b) ++ (32 ∷ c) ++ (32 ∷ d)) (32 ∷ e) (32 ∷ f)
-    ∙ append-assoc (a ++ (32 ∷ b) ++ (32 ∷ c)) (32 ∷ d) ((32 ∷ e) ++ (32 ∷ f))
-    ∙ append-assoc (a ++ (32 ∷ b)) (32 ∷ c) ((32 ∷ d) ++ ((32 ∷ e) ++ (32 ∷ f)))
-    ∙ append-assoc a (32 ∷ b) ((32 ∷ c) ++ ((32 ∷ d) ++ ((32 ∷ e) ++ (32 ∷ f)))))
-    ∙ words-next sa (b ++ ((32 ∷ c) ++ ((32 ∷ d) ++ ((32 ∷ e) ++ (32 ∷ f)))))
+    (append-assoc (a ++ (32 ∷ b) ++ (32 ∷ c) ++ (32 ∷ d) ++ (32 ∷ e)) (32 ∷ f) t
+    ∙ append-assoc (a ++ (32 ∷ b) ++ (32 ∷ c) ++ (32 ∷ d)) (32 ∷ e) ((32 ∷ f) ++ t)
+    ∙ append-assoc (a ++ (32 ∷ b) ++ (32 ∷ c)) (32 ∷ d) ((32 ∷ e) ++ ((32 ∷ f) ++ t))
+    ∙ append-assoc (a ++ (32 ∷ b)) (32 ∷ c) ((32 ∷ d) ++ ((32 ∷ e) ++ ((32 ∷ f) ++ t)))
+    ∙ append-assoc a (32 ∷ b) ((32 ∷ c) ++ ((32 ∷ d) ++ ((32 ∷ e) ++ ((32 ∷ f) ++ t)))))
+    ∙ words-next sa (b ++ ((32 ∷ c) ++ ((32 ∷ d) ++ ((32 ∷ e) ++ ((32 ∷ f) ++ t)))))
     ∙ ap (λ (ws : List Octets). a ∷ ws)
-    (words-next sb (c ++ ((32 ∷ d) ++ ((32 ∷ e) ++ (32 ∷ f))))
+    (words-next sb (c ++ ((32 ∷ d) ++ ((32 ∷ e) ++ ((32 ∷ f) ++ t))))
     ∙ ap (λ (ws : List Octets). b ∷ ws)
-    (words-next sc (d ++ ((32 ∷ e) ++ (32 ∷ f)))
+    (words-next sc (d ++ ((32 ∷ e) ++ ((32 ∷ f) ++ t)))
     ∙ ap (λ (ws : List Octets). c ∷ ws)
-    (words-next sd (e ++ (32 ∷ f))
+    (words-next sd (e ++ ((32 ∷ f) ++ t))
     ∙ ap (λ (ws : List Octets). d ∷ ws)
-    (words-next se f ∙ ap (λ (ws : List Octets). e ∷ ws) (words-last sf)))))
+    (words-next se (f ++ t) ∙ ap (λ (ws : List Octets). e ∷ ws) tail))))
 
 -- a label without its blank
 abbrev after : Octets → Octets
@@ -99,10 +101,10 @@ after = drop 1
 
 -- ---- numbers
 
-answer-small : (w : ℕ) → numberOf (answerIn w) < 1000
+answer-small : (w : ℕ) → numberOf (answerIn w) < 100000
 answer-small w = omega (arith, number-answer w)
 
-bit-small : (b : Bool) → bit b < 1000
+bit-small : (b : Bool) → bit b < 100000
 unfolding bit
 bit-small true = omega arith
 bit-small false = omega arith
@@ -147,8 +149,8 @@ octal-wire a wire (suc n) h =
     subst Octal (sym (joined-append (handedBy (packetCall a (zeroBuffer n) wire n)) (lastPackets a zeroBuffer wire n)))
     (octal-append (octal-one a wire n h) (octal-wire a wire n h))
 
-octal-put : (o : Outcome) → Octal (o .area) → Octal (putOn o)
-octal-put o h = octal-append (octal-wire (o .area) 0 _ h) (octal-wire (o .area) 1 _ h)
+octal-put : (x : Name) (o : Outcome) → Octal (o .area) → Octal (putOn x o)
+octal-put x o h = on Octal (isRun x) (λ _. octal-nil) (λ _. octal-append (octal-wire (o .area) 0 _ h) (octal-wire (o .area) 1 _ h))
 
 -- ---- the message
 
@@ -171,6 +173,30 @@ message-again o h =
     on (λ (ms : List Octets). messageIn (messageText ms) ≡ ms) (handedIn (o .word))
     (λ _. message-one (cut 0 (lengthIn (o .word)) (o .out)) (octal-cut 0 (lengthIn (o .word)) h)) (λ _. refl)
 
+-- ---- the moves of a press
+
+-- the word behind the message, where there is one
+abbrev movesWord : Name → ℕ → List Octets
+movesWord x n = pick (isRun x) (after (movesLabel ++ decimalOf n) ∷ []) []
+
+moves-words : (f : Octets) (x : Name) (n : ℕ) → Solid f → words (f ++ movesField x n) ≡ f ∷ movesWord x n
+unfolding letters
+moves-words f x n s = go (isRun x)
+  where
+    go : (b : Bool) → words (f ++ pick b (movesLabel ++ decimalOf n) []) ≡ f ∷ pick b (after (movesLabel ++ decimalOf n) ∷ []) []
+    go true =
+        words-next s (after (movesLabel ++ decimalOf n))
+        ∙ ap (λ (ws : List Octets). f ∷ ws) (words-last (solid-append (letters-solid (after movesLabel) refl) (decimal-solid n)))
+    go false = ap words (append-nil f) ∙ words-last s
+
+moves-again : (x : Name) (n : ℕ) → n < 100000 → numberFrom 0 (drop 6 (getD (movesWord x n) 0 [])) ≡ pick (isRun x) n 0
+unfolding numberFrom
+moves-again x n s = go (isRun x)
+  where
+    go : (b : Bool) → numberFrom 0 (drop 6 (getD (pick b (after (movesLabel ++ decimalOf n) ∷ []) []) 0 [])) ≡ pick b n 0
+    go true = number-decimal n s
+    go false = refl
+
 -- ---- the line
 
 line-words : (x : Name) (o : Outcome)
@@ -179,18 +205,19 @@ line-words : (x : Name) (o : Outcome)
     ∷ after (answerField (o .word))
     ∷ after (dropField (o .word))
     ∷ after (rfuField (o .word))
-    ∷ after (packetField o)
+    ∷ after (packetField x o)
     ∷ after (messageField o)
-    ∷ []
+    ∷ movesWord x (movesIn (o .word))
 unfolding letters
 line-words x o =
-    words-six
+    words-line (after (messageField o)) (movesField x (movesIn (o .word)))
     (event-solid x)
     (solid-append (letters-solid (letter.a ∷ letter.n ∷ letter.s ∷ letter.equals ∷ []) refl) (decimal-solid (numberOf (answerIn (o .word)))))
     (solid-append (letters-solid (letter.d ∷ letter.r ∷ letter.o ∷ letter.p ∷ letter.equals ∷ []) refl) (decimal-solid (bit (droppedIn (o .word)))))
     (solid-append (letters-solid (letter.r ∷ letter.f ∷ letter.u ∷ letter.equals ∷ []) refl) (hex-solid (rfuIn (o .word) ∷ [])))
-    (solid-append (letters-solid (letter.p ∷ letter.k ∷ letter.t ∷ letter.equals ∷ []) refl) (hex-solid (putOn o)))
-    (solid-append (letters-solid (letter.m ∷ letter.s ∷ letter.g ∷ letter.equals ∷ []) refl) (message-solid (handedBy o)))
+    (solid-append (letters-solid (letter.p ∷ letter.k ∷ letter.t ∷ letter.equals ∷ []) refl) (hex-solid (putOn x o)))
+    (moves-words (after (messageField o)) x (movesIn (o .word))
+    (solid-append (letters-solid (letter.m ∷ letter.s ∷ letter.g ∷ letter.equals ∷ []) refl) (message-solid (handedBy o))))
 
 told-again : (x : Name) (o : Outcome) → Real o → toldBy (lineOf x o) ≡ toTell x o
 told-again x o real =
@@ -206,8 +233,9 @@ told-again x o real =
           ∙ bit-again (droppedIn w)) i;
       rfu =
           (ap (λ (l : List Octets). getD (octetsIn (drop 4 (getD l 3 []))) 0 0) ws ∙ ap (λ (l : Octets). getD l 0 0) (octets-hex (octal-rfu w))) i;
-      packets = (ap (λ (l : List Octets). octetsIn (drop 4 (getD l 4 []))) ws ∙ octets-hex (octal-put o (real .area))) i;
+      packets = (ap (λ (l : List Octets). octetsIn (drop 4 (getD l 4 []))) ws ∙ octets-hex (octal-put x o (real .area))) i;
       message = (ap (λ (l : List Octets). messageIn (drop 4 (getD l 5 []))) ws ∙ message-again o (real .out)) i;
+      moves = (ap (λ (l : List Octets). numberFrom 0 (drop 6 (getD l 6 []))) ws ∙ moves-again x (movesIn w) (omega (arith, moves-fit w))) i;
     }
 
 pub heard : Heard

@@ -1,5 +1,5 @@
--- Document 01's three lines, lines that read packets, and a first paper (examples/first.txt), character by character, and what is printed for them: reset, INIT, a loopback
--- created, nine octets there and back, credits, and report before, between and after. Each line stands as one number, two hexadecimal digits a
+-- Document 01's three lines, lines that read packets, a first paper (examples/first.txt), and one with Run to rest, character by character, and what is printed for them:
+-- reset, INIT, a loopback created, nine octets there and back, credits, and report before, between and after. Each line stands as one number, two hexadecimal digits a
 -- character, with its text beside it.
 -- Assumes nothing.
 use Prim.Native.Nat.{ℕ, zero, suc, _/_, _%_, _≤_}
@@ -149,6 +149,40 @@ firstAnswers =
     ∷ text 49 0x65763D7265706F727420616E733D302064726F703D30207266753D303020706B743D206D73673D30323030303030303030  -- ev=report ans=0 drop=0 rfu=00 pkt= msg=0200000000
     ∷ []
 
+-- ---- a paper with Run to rest: a message of two packets there and back in two presses, and a third that makes no move
+
+unfoldable pub runPaper : List Octets
+runPaper =
+    text 21 0x65763D636F6D6D616E64206172673D303030303031  -- ev=command arg=000001
+    ∷ text 11 0x65763D72756E206172673D  -- ev=run arg=
+    ∷ text 23 0x65763D636F6D6D616E64206172673D3030303130303030  -- ev=command arg=00010000
+    ∷ text 11 0x65763D72756E206172673D  -- ev=run arg=
+    ∷ text 23 0x65763D636F6D6D616E64206172673D3030303430313030  -- ev=command arg=00040100
+    ∷ text 11 0x65763D72756E206172673D  -- ev=run arg=
+    ∷ text 24 0x65763D73656E64206172673D303230313032303330343035  -- ev=send arg=020102030405
+    ∷ text 11 0x65763D72756E206172673D  -- ev=run arg=
+    ∷ text 11 0x65763D72756E206172673D  -- ev=run arg=
+    ∷ text 11 0x65763D72756E206172673D  -- ev=run arg=
+    ∷ text 16 0x65763D7265706F7274206172673D3032  -- ev=report arg=02
+    ∷ text 13 0x65763D72756E206172673D3030  -- ev=run arg=00
+    ∷ []
+
+unfoldable pub runAnswers : List Octets
+runAnswers =
+    text 48 0x65763D636F6D6D616E6420616E733D302064726F703D30207266753D303020706B743D3230303030313031206D73673D  -- ev=command ans=0 drop=0 rfu=00 pkt=20000101 msg=
+    ∷ text 44 0x65763D72756E20616E733D302064726F703D30207266753D303020706B743D206D73673D206D6F7665733D33  -- ev=run ans=0 drop=0 rfu=00 pkt= msg= moves=3
+    ∷ text 50 0x65763D636F6D6D616E6420616E733D302064726F703D30207266753D303020706B743D32303031303230303030206D73673D  -- ev=command ans=0 drop=0 rfu=00 pkt=2001020000 msg=
+    ∷ text 44 0x65763D72756E20616E733D302064726F703D30207266753D303020706B743D206D73673D206D6F7665733D32  -- ev=run ans=0 drop=0 rfu=00 pkt= msg= moves=2
+    ∷ text 50 0x65763D636F6D6D616E6420616E733D302064726F703D30207266753D303020706B743D32303034303230313030206D73673D  -- ev=command ans=0 drop=0 rfu=00 pkt=2004020100 msg=
+    ∷ text 44 0x65763D72756E20616E733D302064726F703D30207266753D303020706B743D206D73673D206D6F7665733D32  -- ev=run ans=0 drop=0 rfu=00 pkt= msg= moves=2
+    ∷ text 37 0x65763D73656E6420616E733D302064726F703D30207266753D303020706B743D206D73673D  -- ev=send ans=0 drop=0 rfu=00 pkt= msg=
+    ∷ text 54 0x65763D72756E20616E733D302064726F703D30207266753D303020706B743D206D73673D30313032303330343035206D6F7665733D37  -- ev=run ans=0 drop=0 rfu=00 pkt= msg=0102030405 moves=7
+    ∷ text 54 0x65763D72756E20616E733D302064726F703D30207266753D303020706B743D206D73673D30313032303330343035206D6F7665733D31  -- ev=run ans=0 drop=0 rfu=00 pkt= msg=0102030405 moves=1
+    ∷ text 44 0x65763D72756E20616E733D302064726F703D30207266753D303020706B743D206D73673D206D6F7665733D30  -- ev=run ans=0 drop=0 rfu=00 pkt= msg= moves=0
+    ∷ text 49 0x65763D7265706F727420616E733D302064726F703D30207266753D303020706B743D206D73673D30323030303030303030  -- ev=report ans=0 drop=0 rfu=00 pkt= msg=0200000000
+    ∷ text 12 0x65763D62616420616E733D33  -- ev=bad ans=3
+    ∷ []
+
 -- ---- what is printed for them, on every area and every buffer that is long enough
 
 pub record FirstPapers : Type 0 where
@@ -158,3 +192,5 @@ pub record FirstPapers : Type 0 where
       → printed readLines (freshCall a out firstProfile .area) out ≡ readAnswers
   pub paper : (a out : Octets) → Octal a → areaSize ≤ length a → messageSize ≤ length out
       → printed firstPaper (freshCall a out firstProfile .area) out ≡ firstAnswers
+  pub runs : (a out : Octets) → Octal a → areaSize ≤ length a → messageSize ≤ length out
+      → printed runPaper (freshCall a out firstProfile .area) out ≡ runAnswers

@@ -1,11 +1,12 @@
--- A call by its name and the octets of its arguments: fixed fields first, an octet each.
+-- A call, or a press of Run to rest, by its name and the octets of its arguments: fixed fields first, an octet each.
 -- Assumes nothing.
 use lib.ListN.{getD, drop}
 use Rattle.octets.specs.Octets.{Octets}
 use Rattle.sheet.specs.Kinds.{Name}
-use Rattle.sheet.specs.Kinds.name.{Fresh, Power, Command, Send, Push, Down, Consume, Credit, Air, Reply, Up, Report, Read, Bad}
+use Rattle.sheet.specs.Kinds.name.{Fresh, Power, Command, Send, Push, Down, Consume, Credit, Air, Reply, Up, Report, Read, Bad, Run}
 use Rattle.calls.specs.Outcome.{Outcome, outcome}
 use Rattle.calls.specs.Read.{readCall}
+use Rattle.calls.specs.Run.{runCall}
 use Rattle.calls.specs.calls.Fresh.{freshCall}
 use Rattle.calls.specs.calls.Power.{powerCall}
 use Rattle.calls.specs.calls.Command.{commandCall}
@@ -34,3 +35,4 @@ played Up m a out = upCall a out
 played Report m a out = reportCall a out (getD m 0 0)
 played Read m a out = outcome (readCall m) a out
 played Bad m a out = outcome 3 a out
+played Run m a out = runCall a out

@@ -8,17 +8,17 @@ use lib.ListN.{drop, getD}
 use lib.Dec.{eqb}
 use Rattle.octets.specs.Octets.{Octets, pick}
 use Rattle.octets.specs.Octal.{Octal}
-use Rattle.calls.specs.Word.{numberOf, answerIn, droppedIn, rfuIn}
+use Rattle.calls.specs.Word.{numberOf, answerIn, droppedIn, rfuIn, movesIn}
 use Rattle.calls.specs.Outcome.{Outcome}
 use Rattle.calls.specs.Packet.{handedBy}
 use Rattle.ascii.specs.Letters as letter
 use Rattle.ascii.specs.Words.{words}
 use Rattle.ascii.specs.Digits.{octetsIn, numberFrom}
 use Rattle.sheet.specs.Kinds.{Name}
-use Rattle.forms.specs.Names.{textOf}
+use Rattle.forms.specs.Names.{textOf, isRun}
 use Rattle.sheet.specs.Show.{putOn, lineOf}
 
--- message: none, or one that may be empty
+-- message: none, or one that may be empty; moves: 0 where none are said
 pub record Told : Type 0 where
   pub event : Octets
   pub answer : ℕ
@@ -26,6 +26,7 @@ pub record Told : Type 0 where
   pub rfu : ℕ
   pub packets : Octets
   pub message : List Octets
+  pub moves : ℕ
 
 abbrev pub wordAt : ℕ → Octets → Octets
 wordAt k l = getD (words l) k []
@@ -34,7 +35,7 @@ abbrev pub messageIn : Octets → List Octets
 messageIn [] = []
 messageIn (c ∷ l) = pick (eqb c letter.dash) ([] ∷ []) (octetsIn (c ∷ l) ∷ [])
 
--- the six words of a line, each without its label
+-- the words of a line, each without its label: six, and a seventh of a press
 abbrev pub toldBy : Octets → Told
 toldBy l =
     record {
@@ -44,6 +45,7 @@ toldBy l =
       rfu = getD (octetsIn (drop 4 (wordAt 3 l))) 0 0;
       packets = octetsIn (drop 4 (wordAt 4 l));
       message = messageIn (drop 4 (wordAt 5 l));
+      moves = numberFrom 0 (drop 6 (wordAt 6 l));
     }
 
 -- what there is to say of an outcome
@@ -54,8 +56,9 @@ toTell x o =
       answer = numberOf (answerIn (o .word));
       dropped = droppedIn (o .word);
       rfu = rfuIn (o .word);
-      packets = putOn o;
+      packets = putOn x o;
       message = handedBy o;
+      moves = pick (isRun x) (movesIn (o .word)) 0;
     }
 
 -- an outcome in octets, which the types of the code say of every one

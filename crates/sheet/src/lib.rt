@@ -12,8 +12,8 @@ use forms::names::is_bad;
 ghost use Rattle.sheet.specs.Sheet.{Answers, answerTo};
 
 // Characters of the longest line that is printed, and a few to spare: two wires of sixteen packets and a message, in digits,
-// and a line feed.
-pub const LINE: usize = 18608;
+// a number of moves and a line feed.
+pub const LINE: usize = 18624;
 
 // Answers a line: writes the answer over the front of text, and says how many characters it has.
 pub fn answer_line(area: &mut [u8], out: &mut [u8], line: &[u8], text: &mut [u8; LINE]) -> usize

@@ -1,4 +1,4 @@
-// A call by its name and the octets of its arguments, made as C makes it.
+// A call, or a press of Run to rest, by its name and the octets of its arguments, made as C makes it.
 use bench::exports::nci_air;
 use bench::exports::nci_command;
 use bench::exports::nci_consume;
@@ -10,6 +10,7 @@ use bench::exports::nci_push;
 use bench::exports::nci_read;
 use bench::exports::nci_reply;
 use bench::exports::nci_report;
+use bench::exports::nci_run;
 use bench::exports::nci_send;
 use bench::exports::nci_up;
 use forms::names::Name;
@@ -45,5 +46,6 @@ pub fn play(area: &mut [u8], out: &mut [u8], name: Name, args: &[u8]) -> u64
         Name::Report => nci_report(area, out, first),
         Name::Read => nci_read(args),
         Name::Bad => 3,
+        Name::Run => nci_run(area, out),
     }
 }

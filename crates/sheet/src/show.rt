@@ -5,6 +5,7 @@ use ascii::write::put_octets;
 use bench::exports::nci_packet;
 use call_word::says;
 use forms::names::Name;
+use forms::names::is_run;
 use forms::names::put_name;
 use octets::window;
 ghost use mathlib.Core.List.{[], _++_};
@@ -14,7 +15,8 @@ ghost use Rattle.ascii.specs.Digits.{hexOf, decimalOf};
 ghost use Rattle.ascii.specs.Writing.{Wrote};
 ghost use Rattle.calls.specs.Outcome.{outcome};
 ghost use Rattle.calls.specs.Packet.{packetCall, handedBy};
-ghost use Rattle.sheet.specs.Show.{zeroBuffer, joined, wireShown, eventField, answerField, dropField, rfuField, packetField, messageField, lineOf};
+ghost use Rattle.calls.specs.Word.{movesIn};
+ghost use Rattle.sheet.specs.Show.{zeroBuffer, joined, wireShown, putBy, eventField, answerField, dropField, rfuField, packetField, messageField, movesField, lineOf};
 
 // The event's name.
 fn put_event(text: &mut [u8], at: usize, name: Name) -> usize
@@ -26,7 +28,7 @@ fn put_event(text: &mut [u8], at: usize, name: Name) -> usize
 }
 
 // A label and a number.
-fn put_number(text: &mut [u8], at: usize, label: &[u8], number: u8) -> usize
+fn put_number(text: &mut [u8], at: usize, label: &[u8], number: u16) -> usize
     requires { ⌜ at ≤ length (now text) ⌝ }
     ensures { λ r. ⌜ Wrote (now (text .entry)) at (now (label .entry) ++ decimalOf number) r (now (text .exit)) ⌝ }
 {
@@ -42,8 +44,8 @@ fn put_front(text: &mut [u8], at: usize, name: Name, w: u64) -> usize
     let answer = says::answer(w);
     let dropped = says::dropped(w);
     let mut n = put_event(text, at, name);
-    n = put_number(text, n, b" ans=", answer);
-    put_number(text, n, b" drop=", dropped)
+    n = put_number(text, n, b" ans=", answer as u16);
+    put_number(text, n, b" drop=", dropped as u16)
 }
 
 // The reserved bits, in two digits.
@@ -84,15 +86,26 @@ fn put_wire(text: &mut [u8], at: usize, area: &[u8], wire: u8, n: u8) -> usize
 }
 
 // The octets put on wires: down, then up.
-fn put_packets(text: &mut [u8], at: usize, w: u64, area: &[u8]) -> usize
+fn put_wires(text: &mut [u8], at: usize, w: u64, area: &[u8]) -> usize
     requires { ⌜ at ≤ length (now text) ⌝ }
-    ensures { λ r. ⌜ Wrote (now (text .entry)) at (packetField (outcome w (now (area .entry)) [])) r (now (text .exit)) ⌝ }
+    ensures { λ r. ⌜ Wrote (now (text .entry)) at (hexOf (putBy (outcome w (now (area .entry)) []))) r (now (text .exit)) ⌝ }
 {
     let down = says::down(w);
     let up = says::up(w);
-    let mut n = put(text, at, b" pkt=");
-    n = put_wire(text, n, area, 0, down);
+    let n = put_wire(text, at, area, 0, down);
     put_wire(text, n, area, 1, up)
+}
+
+// The same as a field, which a press leaves empty.
+fn put_packets(text: &mut [u8], at: usize, name: Name, w: u64, area: &[u8]) -> usize
+    requires { ⌜ at ≤ length (now text) ⌝ }
+    ensures { λ r. ⌜ Wrote (now (text .entry)) at (packetField name (outcome w (now (area .entry)) [])) r (now (text .exit)) ⌝ }
+{
+    let n = put(text, at, b" pkt=");
+    if is_run(name) {
+        return n;
+    }
+    put_wires(text, n, w, area)
 }
 
 // The message handed out: nothing for none, a dash for an empty one.
@@ -111,12 +124,25 @@ fn put_message(text: &mut [u8], at: usize, w: u64, out: &[u8]) -> usize
     put_octets(text, n, message)
 }
 
+// How many moves a press made. No other line has the field.
+fn put_moves(text: &mut [u8], at: usize, name: Name, w: u64) -> usize
+    requires { ⌜ at ≤ length (now text) ⌝ }
+    ensures { λ r. ⌜ Wrote (now (text .entry)) at (movesField name (movesIn w)) r (now (text .exit)) ⌝ }
+{
+    if is_run(name) {
+        let moves = says::moves(w);
+        return put_number(text, at, b" moves=", moves as u16);
+    }
+    at
+}
+
 // The whole line.
 pub fn put_outcome(text: &mut [u8], name: Name, w: u64, area: &[u8], out: &[u8]) -> usize
     ensures { λ r. ⌜ Wrote (now (text .entry)) 0 (lineOf name (outcome w (now (area .entry)) (now (out .entry)))) r (now (text .exit)) ⌝ }
 {
     let mut n = put_front(text, 0, name, w);
     n = put_rfu(text, n, w);
-    n = put_packets(text, n, w, area);
-    put_message(text, n, w, out)
+    n = put_packets(text, n, name, w, area);
+    n = put_message(text, n, w, out);
+    put_moves(text, n, name, w)
 }

@@ -31,7 +31,7 @@ fn put_number(out: &mut [u8], at: usize, label: &[u8], number: u8) -> usize
     ensures { λ r. ⌜ r ≤ length (now (out .exit)) ⌝ }
 {
     let n = put(out, at, label);
-    put_decimal(out, n, number)
+    put_decimal(out, n, number as u16)
 }
 
 // What octet 1 of a packet holds.

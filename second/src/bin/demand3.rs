@@ -1,16 +1,15 @@
-//! Plays random lists of calls with demand 3's observer checking after each call, and
-//! that credits stay within the grant: `demand3 [calls] [seed]`. Prints one line of
-//! fields; on a mismatch prints the list that shows it and fails.
+//! Plays random lists of calls with demand 3's observer checking after each call and each
+//! move of a press, and that credits stay within the grant; then run is pressed until it makes
+//! no move: `demand3 [calls] [seed]`. Prints one line of fields; on a mismatch prints the list
+//! that shows it and fails.
 
 use std::process::ExitCode;
 
-use exam_bench::call::Call;
-use exam_bench::player::{resting_call, Lengths, Player};
+use exam_bench::player::{Lengths, Player};
 use exam_bench::trial::{Tally, Trial};
 
-/// Calls of a list, and how many of them are kept for bringing it to rest.
-const LIST_CALLS: usize = 400;
-const REST_CALLS: usize = 150;
+/// Calls of a list, presses that bring it to rest aside.
+const LIST_CALLS: usize = 250;
 
 fn main() -> ExitCode {
     let mut arguments = std::env::args().skip(1);
@@ -37,40 +36,17 @@ fn number(argument: Option<String>, otherwise: u64) -> u64 {
     }
 }
 
-/// Plays one list of at most so many calls, fresh included. A fault comes with
-/// the list as sheet lines.
+/// Plays one list of at most so many calls, fresh included, and brings it to rest: then every
+/// message taken has been handed out. The account is not only kept, the messages also arrive. A
+/// fault comes with the list as sheet lines.
 fn play_list(player: &mut Player, tally: &mut Tally, most: usize) -> Result<(), (String, String)> {
-    let length = player.list_length(most.saturating_sub(REST_CALLS).max(1));
+    let length = player.list_length(most);
     let profile = player.begin();
     let mut trial = Trial::begin(&profile, tally).map_err(|fault| (fault, String::new()))?;
-    while trial.events.len() < length {
+    let mut played = Ok(());
+    while played.is_ok() && trial.events.len() < length {
         let call = player.next_call(&trial.bench);
-        step(&mut trial, call, tally)?;
+        played = trial.step(call, tally).map(drop);
     }
-    come_to_rest(&mut trial, tally, most - length)
-}
-
-fn step(trial: &mut Trial, call: Call, tally: &mut Tally) -> Result<(), (String, String)> {
-    match trial.step(call, tally) {
-        Ok(_) => Ok(()),
-        Err(fault) => Err((fault, trial.lines())),
-    }
-}
-
-/// If the calls left suffice to bring the bench to rest, every message taken on a
-/// connection open at both ends has been handed out: the account is not only
-/// kept, the messages also arrive.
-fn come_to_rest(trial: &mut Trial, tally: &mut Tally, most: usize) -> Result<(), (String, String)> {
-    for _ in 0..most {
-        let Some(call) = resting_call(&trial.bench) else {
-            let outstanding = trial.observer.messages_outstanding();
-            if outstanding > 0 {
-                return Err((format!("at rest with {outstanding} messages not handed out"), trial.lines()));
-            }
-            tally.rests += 1;
-            return Ok(());
-        };
-        step(trial, call, tally)?;
-    }
-    Ok(())
+    played.and_then(|()| trial.come_to_rest(tally)).map_err(|fault| (fault, trial.lines()))
 }

@@ -9,6 +9,8 @@ use crate::layout::*;
 
 /// Of a hundred plans, how many are sets and gets.
 const CONFIGURING: usize = 26;
+/// And how many of those on open connections are messages that presses move.
+const PRESSING: usize = 4;
 
 impl Player {
     pub(super) fn then(&mut self, call: Call) {
@@ -48,6 +50,9 @@ impl Player {
         if !any_open(bench) && self.random.chance(85) {
             return if self.random.chance(55) { self.plan_create() } else { self.plan_way_to_active(bench) };
         }
+        if self.runs && self.random.chance(PRESSING) {
+            return self.plan_presses(bench);
+        }
         if self.long_profiles && self.random.chance(15) {
             return self.plan_side_by_side(bench);
         }
@@ -67,7 +72,7 @@ impl Player {
                 let conn = self.random.pick(&[0, 2, 1, 6, 15, 255]);
                 self.then(Call::Report(conn));
             }
-            97..=99 => self.plan.push_back(Step::Rest),
+            97..=99 => self.plan_rest(),
             _ => self.plan_send_during_close(bench),
         }
     }
@@ -184,6 +189,11 @@ impl Player {
     fn plan_go_round(&mut self, conn: u8) {
         let close = self.command(CORE, CORE_CONN_CLOSE, &[conn]);
         self.then_command(close);
+        self.plan_more_loopbacks();
+    }
+
+    /// As many as there can be.
+    fn plan_more_loopbacks(&mut self) {
         for _ in FIRST_DYNAMIC..=LAST_DYNAMIC {
             self.plan_create();
         }
@@ -354,6 +364,45 @@ impl Player {
         }
     }
 
+    /// All moves, each a call of its own or by presses; then perhaps a press that makes none.
+    fn plan_rest(&mut self) {
+        if !self.runs || self.random.chance(30) {
+            return self.plan.push_back(Step::Rest);
+        }
+        self.plan.push_back(Step::Press);
+        self.then_perhaps(Call::Run);
+    }
+
+    /// Messages on the connections open at the host, or on all where more are opened first, and
+    /// one of the endpoint perhaps: presses move them all.
+    fn plan_presses(&mut self, bench: &Bench) {
+        let more = self.random.chance(30);
+        if more {
+            self.plan_more_loopbacks();
+        }
+        for conn in CONN_IDS {
+            if more || bench.host().connection(conn).is_some() {
+                let segments = self.random.below(4);
+                let message = self.message_of_segments(bench, conn, segments);
+                self.then_perhaps(Call::Send { conn, message });
+            }
+        }
+        let spoken = self.endpoint_message();
+        self.then_perhaps(spoken);
+        self.plan.push_back(Step::Press);
+        self.then_perhaps(Call::Run);
+    }
+
+    /// The endpoint is released while data is on its way to it: a press drops what is late.
+    fn plan_press_at_release(&mut self, bench: &Bench) {
+        let message = self.message_of_segments(bench, STATIC_RF, 2);
+        let release = self.command(RF, RF_DEACTIVATE, &[0]);
+        self.then(release);
+        self.then(Call::Send { conn: STATIC_RF, message });
+        self.then(Call::Push(STATIC_RF));
+        self.then(Call::Run);
+    }
+
     fn plan_odd_command(&mut self, bench: &Bench) {
         let call = self.any_command(bench);
         self.then_command(call);
@@ -417,6 +466,11 @@ impl Player {
             self.then(Call::Air(octets));
             self.then_perhaps(Call::Up);
         }
+        // a bench is in W4_ALL_DISCOVERIES for a short time, and is to meet sets and gets there
+        if self.configs && self.random.chance(15) {
+            let call = if self.random.chance(50) { self.set_config() } else { self.get_config() };
+            self.then_command(call);
+        }
         if count == 7 && self.random.chance(50) {
             self.then(Call::Air(vec![1, first + count, 4, 0, 2]));
         }
@@ -473,6 +527,9 @@ impl Player {
     }
 
     fn plan_active(&mut self, bench: &Bench, kinds: &[u8]) {
+        if self.runs && self.random.chance(4) {
+            return self.plan_press_at_release(bench);
+        }
         let kind = self.random.pick(kinds);
         if self.random.chance(25) {
             let call = self.deactivate();

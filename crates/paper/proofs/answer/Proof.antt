@@ -13,7 +13,7 @@ answer-line-requires : tie.Need-answer-line-requires
 answer-line-requires c κs = search needs
 
 slice-aggregate-put : tie.Need-slice-aggregate-put
-slice-aggregate-put c = sym (ap length (c .before .before .before .before .before .answer-line .ensures .text) ∙ length-splice _ _ _ ∙ length-replicate {A = ℕ} 18608 0)
+slice-aggregate-put c = sym (ap length (c .before .before .before .before .before .answer-line .ensures .text) ∙ length-splice _ _ _ ∙ length-replicate {A = ℕ} 18624 0)
 
 slice-aggregate-put-2 : tie.Need-slice-aggregate-put-2
 slice-aggregate-put-2 c = search needs

@@ -1,17 +1,42 @@
--- `ascii::write::put_decimal` meets its contract, case by case.
+-- `ascii::write::put_decimal` meets its contract: the end of five digits is written.
 -- Assumes nothing.
-use mathlib.Core.Path.{sym}
-use Rattle.ascii.proofs.Digits.{decimal-one, decimal-two, decimal-three}
+use Prim.Native.Nat.{_-_}
+use mathlib.Core.Path.{_∙_}
+use mathlib.Core.List.{[], _∷_}
+use native.Mathlib.Omega.{arith}
+use lib.ListN.{take, drop}
+use Rattle.ascii.proofs.Digits.{leading-few, decimal-end}
 use Rattle.ascii.proofs.Writing.{wrote-text}
 use borrow.Author.Needs.{needs}
 use Rattle.ascii.proofs.write.put_decimal.Statement.{statement}
 use Rattle.ascii.proofs.write.put_decimal.Tie as tie
 
-add-t8 : tie.Need-add-t8
-add-t8 c = search needs
+leading-requires : tie.Need-leading-requires
+leading-requires c κs = search needs
 
-slice-aggregate-put : tie.Need-slice-aggregate-put
-slice-aggregate-put c = search needs
+figure-requires : tie.Need-figure-requires
+figure-requires c κs = search needs
+
+figure-requires-2 : tie.Need-figure-requires-2
+figure-requires-2 c κs = search needs
+
+figure-requires-3 : tie.Need-figure-requires-3
+figure-requires-3 c κs = search needs
+
+figure-requires-4 : tie.Need-figure-requires-4
+figure-requires-4 c κs = search needs
+
+figure-requires-5 : tie.Need-figure-requires-5
+figure-requires-5 c κs = search needs
+
+sub-put : tie.Need-sub-put
+sub-put c = omega (arith, c .before .before .before .before .before .before .leading .ensures, leading-few (c .before .before .before .before .before .before .before .before .args .n))
+
+part-put-start : tie.Need-part-put-start
+part-put-start c = omega (arith, c .before .before .before .before .before .before .before .leading .ensures, leading-few (c .before .before .before .before .before .before .before .before .before .args .n))
+
+part-put-end : tie.Need-part-put-end
+part-put-end c = search needs
 
 put-requires : tie.Need-put-requires
 put-requires c κs = search needs
@@ -20,66 +45,34 @@ same-length : tie.Need-same-length
 same-length c = search needs
 
 returns : tie.Need-returns
-returns c = wrote-text (sym (decimal-one _ (c .before .before .before .before .before .if1 .taken))) (c .before .before .put .ensures)
-
-add-t15 : tie.Need-add-t15
-add-t15 c = search needs
-
-add-t17 : tie.Need-add-t17
-add-t17 c = search needs
-
-slice-aggregate-put-2 : tie.Need-slice-aggregate-put-2
-slice-aggregate-put-2 c = search needs
-
-put-requires-2 : tie.Need-put-requires-2
-put-requires-2 c κs = search needs
-
-same-length-2 : tie.Need-same-length-2
-same-length-2 c = search needs
-
-returns-2 : tie.Need-returns-2
-returns-2 c = wrote-text (sym (decimal-two _ (c .before .before .before .before .before .before .if1 .left) (c .before .before .before .before .before .if2 .taken))) (c .before .before .put2 .ensures)
-
-add-t24 : tie.Need-add-t24
-add-t24 c = search needs
-
-add-t27 : tie.Need-add-t27
-add-t27 c = search needs
-
-add-t29 : tie.Need-add-t29
-add-t29 c = search needs
-
-slice-aggregate-put-3 : tie.Need-slice-aggregate-put-3
-slice-aggregate-put-3 c = search needs
-
-put-requires-3 : tie.Need-put-requires-3
-put-requires-3 c κs = search needs
-
-same-length-3 : tie.Need-same-length-3
-same-length-3 c = search needs
-
-returns-3 : tie.Need-returns-3
-returns-3 c = wrote-text (sym (decimal-three _ (c .before .before .before .before .before .if2 .left))) (c .before .before .put3 .ensures)
+returns c =
+    let lead = c .before .before .before .before .before .before .before .before .before .before .before .leading .ensures in
+    wrote-text
+    ((λ i.
+    take (5 - lead i)
+    (drop (lead i)
+    (c .before .before .before .before .before .before .before .before .before .before .figure .ensures i
+    ∷ c .before .before .before .before .before .before .before .before .before .figure2 .ensures i
+    ∷ c .before .before .before .before .before .before .before .before .figure3 .ensures i
+    ∷ c .before .before .before .before .before .before .before .figure4 .ensures i
+    ∷ c .before .before .before .before .before .before .figure5 .ensures i
+    ∷ [])))
+    ∙ decimal-end _)
+    (c .before .before .put .ensures)
 
 pub put-decimal-spec : {M : Type 1} → statement M
 put-decimal-spec =
     tie.close
     (tie.spec
-    add-t8
-    slice-aggregate-put
+    leading-requires
+    figure-requires
+    figure-requires-2
+    figure-requires-3
+    figure-requires-4
+    figure-requires-5
+    sub-put
+    part-put-start
+    part-put-end
     put-requires
     same-length
-    returns
-    add-t15
-    add-t17
-    slice-aggregate-put-2
-    put-requires-2
-    same-length-2
-    returns-2
-    add-t24
-    add-t27
-    add-t29
-    slice-aggregate-put-3
-    put-requires-3
-    same-length-3
-    returns-3)
+    returns)

@@ -2,51 +2,54 @@
 -- Assumes nothing.
 use mathlib.Core.Path.{_≡_, sym, _∙_}
 use mathlib.Core.List.{[], _∷_}
-use Rattle.forms.specs.Kinds.name.{Fresh, Power, Command, Send, Push, Down, Consume, Credit, Air, Reply, Up, Report, Read}
+use Rattle.forms.specs.Kinds.name.{Fresh, Power, Command, Send, Push, Down, Consume, Credit, Air, Reply, Up, Report, Read, Run}
 use Rattle.forms.specs.Names.{among, nameIn}
 use Rattle.forms.proofs.Naming.{itself, others, no-name}
 use borrow.Author.Needs.{needs}
 use Rattle.forms.proofs.names.name_in.Statement.{statement}
 use Rattle.forms.proofs.names.name_in.Tie as tie
 
-left-1 : (c : tie.Else1) → nameIn (c .before .before .before .before .args .word .now) ≡ among (Power ∷ Command ∷ Send ∷ Push ∷ Down ∷ Consume ∷ Credit ∷ Air ∷ Reply ∷ Up ∷ Report ∷ Read ∷ []) (c .before .before .before .before .args .word .now)
+left-1 : (c : tie.Else1) → nameIn (c .before .before .before .before .args .word .now) ≡ among (Power ∷ Command ∷ Send ∷ Push ∷ Down ∷ Consume ∷ Credit ∷ Air ∷ Reply ∷ Up ∷ Report ∷ Read ∷ Run ∷ []) (c .before .before .before .before .args .word .now)
 left-1 c = others Fresh _ _ (sym (c .before .same .ensures) ∙ c .if1 .left)
 
-left-2 : (c : tie.Else2) → nameIn (c .before .before .before .before .before .before .before .args .word .now) ≡ among (Command ∷ Send ∷ Push ∷ Down ∷ Consume ∷ Credit ∷ Air ∷ Reply ∷ Up ∷ Report ∷ Read ∷ []) (c .before .before .before .before .before .before .before .args .word .now)
+left-2 : (c : tie.Else2) → nameIn (c .before .before .before .before .before .before .before .args .word .now) ≡ among (Command ∷ Send ∷ Push ∷ Down ∷ Consume ∷ Credit ∷ Air ∷ Reply ∷ Up ∷ Report ∷ Read ∷ Run ∷ []) (c .before .before .before .before .before .before .before .args .word .now)
 left-2 c = left-1 (c .before .before .before) ∙ others Power _ _ (sym (c .before .same2 .ensures) ∙ c .if2 .left)
 
-left-3 : (c : tie.Else3) → nameIn (c .before .before .before .before .before .before .before .before .before .before .args .word .now) ≡ among (Send ∷ Push ∷ Down ∷ Consume ∷ Credit ∷ Air ∷ Reply ∷ Up ∷ Report ∷ Read ∷ []) (c .before .before .before .before .before .before .before .before .before .before .args .word .now)
+left-3 : (c : tie.Else3) → nameIn (c .before .before .before .before .before .before .before .before .before .before .args .word .now) ≡ among (Send ∷ Push ∷ Down ∷ Consume ∷ Credit ∷ Air ∷ Reply ∷ Up ∷ Report ∷ Read ∷ Run ∷ []) (c .before .before .before .before .before .before .before .before .before .before .args .word .now)
 left-3 c = left-2 (c .before .before .before) ∙ others Command _ _ (sym (c .before .same3 .ensures) ∙ c .if3 .left)
 
-left-4 : (c : tie.Else4) → nameIn (c .before .before .before .before .before .before .before .before .before .before .before .before .before .args .word .now) ≡ among (Push ∷ Down ∷ Consume ∷ Credit ∷ Air ∷ Reply ∷ Up ∷ Report ∷ Read ∷ []) (c .before .before .before .before .before .before .before .before .before .before .before .before .before .args .word .now)
+left-4 : (c : tie.Else4) → nameIn (c .before .before .before .before .before .before .before .before .before .before .before .before .before .args .word .now) ≡ among (Push ∷ Down ∷ Consume ∷ Credit ∷ Air ∷ Reply ∷ Up ∷ Report ∷ Read ∷ Run ∷ []) (c .before .before .before .before .before .before .before .before .before .before .before .before .before .args .word .now)
 left-4 c = left-3 (c .before .before .before) ∙ others Send _ _ (sym (c .before .same4 .ensures) ∙ c .if4 .left)
 
-left-5 : (c : tie.Else5) → nameIn (c .before .before .before .before .before .before .before .before .before .before .before .before .before .before .before .before .args .word .now) ≡ among (Down ∷ Consume ∷ Credit ∷ Air ∷ Reply ∷ Up ∷ Report ∷ Read ∷ []) (c .before .before .before .before .before .before .before .before .before .before .before .before .before .before .before .before .args .word .now)
+left-5 : (c : tie.Else5) → nameIn (c .before .before .before .before .before .before .before .before .before .before .before .before .before .before .before .before .args .word .now) ≡ among (Down ∷ Consume ∷ Credit ∷ Air ∷ Reply ∷ Up ∷ Report ∷ Read ∷ Run ∷ []) (c .before .before .before .before .before .before .before .before .before .before .before .before .before .before .before .before .args .word .now)
 left-5 c = left-4 (c .before .before .before) ∙ others Push _ _ (sym (c .before .same5 .ensures) ∙ c .if5 .left)
 
-left-6 : (c : tie.Else6) → nameIn (c .before .before .before .before .before .before .before .before .before .before .before .before .before .before .before .before .before .before .before .args .word .now) ≡ among (Consume ∷ Credit ∷ Air ∷ Reply ∷ Up ∷ Report ∷ Read ∷ []) (c .before .before .before .before .before .before .before .before .before .before .before .before .before .before .before .before .before .before .before .args .word .now)
+left-6 : (c : tie.Else6) → nameIn (c .before .before .before .before .before .before .before .before .before .before .before .before .before .before .before .before .before .before .before .args .word .now) ≡ among (Consume ∷ Credit ∷ Air ∷ Reply ∷ Up ∷ Report ∷ Read ∷ Run ∷ []) (c .before .before .before .before .before .before .before .before .before .before .before .before .before .before .before .before .before .before .before .args .word .now)
 left-6 c = left-5 (c .before .before .before) ∙ others Down _ _ (sym (c .before .same6 .ensures) ∙ c .if6 .left)
 
-left-7 : (c : tie.Else7) → nameIn (c .before .before .before .before .before .before .before .before .before .before .before .before .before .before .before .before .before .before .before .before .before .before .args .word .now) ≡ among (Credit ∷ Air ∷ Reply ∷ Up ∷ Report ∷ Read ∷ []) (c .before .before .before .before .before .before .before .before .before .before .before .before .before .before .before .before .before .before .before .before .before .before .args .word .now)
+left-7 : (c : tie.Else7) → nameIn (c .before .before .before .before .before .before .before .before .before .before .before .before .before .before .before .before .before .before .before .before .before .before .args .word .now) ≡ among (Credit ∷ Air ∷ Reply ∷ Up ∷ Report ∷ Read ∷ Run ∷ []) (c .before .before .before .before .before .before .before .before .before .before .before .before .before .before .before .before .before .before .before .before .before .before .args .word .now)
 left-7 c = left-6 (c .before .before .before) ∙ others Consume _ _ (sym (c .before .same7 .ensures) ∙ c .if7 .left)
 
-left-8 : (c : tie.Else8) → nameIn (c .before .before .before .before .before .before .before .before .before .before .before .before .before .before .before .before .before .before .before .before .before .before .before .before .before .args .word .now) ≡ among (Air ∷ Reply ∷ Up ∷ Report ∷ Read ∷ []) (c .before .before .before .before .before .before .before .before .before .before .before .before .before .before .before .before .before .before .before .before .before .before .before .before .before .args .word .now)
+left-8 : (c : tie.Else8) → nameIn (c .before .before .before .before .before .before .before .before .before .before .before .before .before .before .before .before .before .before .before .before .before .before .before .before .before .args .word .now) ≡ among (Air ∷ Reply ∷ Up ∷ Report ∷ Read ∷ Run ∷ []) (c .before .before .before .before .before .before .before .before .before .before .before .before .before .before .before .before .before .before .before .before .before .before .before .before .before .args .word .now)
 left-8 c = left-7 (c .before .before .before) ∙ others Credit _ _ (sym (c .before .same8 .ensures) ∙ c .if8 .left)
 
-left-9 : (c : tie.Else9) → nameIn (c .before .before .before .before .before .before .before .before .before .before .before .before .before .before .before .before .before .before .before .before .before .before .before .before .before .before .before .before .args .word .now) ≡ among (Reply ∷ Up ∷ Report ∷ Read ∷ []) (c .before .before .before .before .before .before .before .before .before .before .before .before .before .before .before .before .before .before .before .before .before .before .before .before .before .before .before .before .args .word .now)
+left-9 : (c : tie.Else9) → nameIn (c .before .before .before .before .before .before .before .before .before .before .before .before .before .before .before .before .before .before .before .before .before .before .before .before .before .before .before .before .args .word .now) ≡ among (Reply ∷ Up ∷ Report ∷ Read ∷ Run ∷ []) (c .before .before .before .before .before .before .before .before .before .before .before .before .before .before .before .before .before .before .before .before .before .before .before .before .before .before .before .before .args .word .now)
 left-9 c = left-8 (c .before .before .before) ∙ others Air _ _ (sym (c .before .same9 .ensures) ∙ c .if9 .left)
 
-left-10 : (c : tie.Else10) → nameIn (c .before .before .before .before .before .before .before .before .before .before .before .before .before .before .before .before .before .before .before .before .before .before .before .before .before .before .before .before .before .before .before .args .word .now) ≡ among (Up ∷ Report ∷ Read ∷ []) (c .before .before .before .before .before .before .before .before .before .before .before .before .before .before .before .before .before .before .before .before .before .before .before .before .before .before .before .before .before .before .before .args .word .now)
+left-10 : (c : tie.Else10) → nameIn (c .before .before .before .before .before .before .before .before .before .before .before .before .before .before .before .before .before .before .before .before .before .before .before .before .before .before .before .before .before .before .before .args .word .now) ≡ among (Up ∷ Report ∷ Read ∷ Run ∷ []) (c .before .before .before .before .before .before .before .before .before .before .before .before .before .before .before .before .before .before .before .before .before .before .before .before .before .before .before .before .before .before .before .args .word .now)
 left-10 c = left-9 (c .before .before .before) ∙ others Reply _ _ (sym (c .before .same10 .ensures) ∙ c .if10 .left)
 
-left-11 : (c : tie.Else11) → nameIn (c .before .before .before .before .before .before .before .before .before .before .before .before .before .before .before .before .before .before .before .before .before .before .before .before .before .before .before .before .before .before .before .before .before .before .args .word .now) ≡ among (Report ∷ Read ∷ []) (c .before .before .before .before .before .before .before .before .before .before .before .before .before .before .before .before .before .before .before .before .before .before .before .before .before .before .before .before .before .before .before .before .before .before .args .word .now)
+left-11 : (c : tie.Else11) → nameIn (c .before .before .before .before .before .before .before .before .before .before .before .before .before .before .before .before .before .before .before .before .before .before .before .before .before .before .before .before .before .before .before .before .before .before .args .word .now) ≡ among (Report ∷ Read ∷ Run ∷ []) (c .before .before .before .before .before .before .before .before .before .before .before .before .before .before .before .before .before .before .before .before .before .before .before .before .before .before .before .before .before .before .before .before .before .before .args .word .now)
 left-11 c = left-10 (c .before .before .before) ∙ others Up _ _ (sym (c .before .same11 .ensures) ∙ c .if11 .left)
 
-left-12 : (c : tie.Else12) → nameIn (c .before .before .before .before .before .before .before .before .before .before .before .before .before .before .before .before .before .before .before .before .before .before .before .before .before .before .before .before .before .before .before .before .before .before .before .before .before .args .word .now) ≡ among (Read ∷ []) (c .before .before .before .before .before .before .before .before .before .before .before .before .before .before .before .before .before .before .before .before .before .before .before .before .before .before .before .before .before .before .before .before .before .before .before .before .before .args .word .now)
+left-12 : (c : tie.Else12) → nameIn (c .before .before .before .before .before .before .before .before .before .before .before .before .before .before .before .before .before .before .before .before .before .before .before .before .before .before .before .before .before .before .before .before .before .before .before .before .before .args .word .now) ≡ among (Read ∷ Run ∷ []) (c .before .before .before .before .before .before .before .before .before .before .before .before .before .before .before .before .before .before .before .before .before .before .before .before .before .before .before .before .before .before .before .before .before .before .before .before .before .args .word .now)
 left-12 c = left-11 (c .before .before .before) ∙ others Report _ _ (sym (c .before .same12 .ensures) ∙ c .if12 .left)
 
-left-13 : (c : tie.Else13) → nameIn (c .before .before .before .before .before .before .before .before .before .before .before .before .before .before .before .before .before .before .before .before .before .before .before .before .before .before .before .before .before .before .before .before .before .before .before .before .before .before .before .before .args .word .now) ≡ among [] (c .before .before .before .before .before .before .before .before .before .before .before .before .before .before .before .before .before .before .before .before .before .before .before .before .before .before .before .before .before .before .before .before .before .before .before .before .before .before .before .before .args .word .now)
+left-13 : (c : tie.Else13) → nameIn (c .before .before .before .before .before .before .before .before .before .before .before .before .before .before .before .before .before .before .before .before .before .before .before .before .before .before .before .before .before .before .before .before .before .before .before .before .before .before .before .before .args .word .now) ≡ among (Run ∷ []) (c .before .before .before .before .before .before .before .before .before .before .before .before .before .before .before .before .before .before .before .before .before .before .before .before .before .before .before .before .before .before .before .before .before .before .before .before .before .before .before .before .args .word .now)
 left-13 c = left-12 (c .before .before .before) ∙ others Read _ _ (sym (c .before .same13 .ensures) ∙ c .if13 .left)
+
+left-14 : (c : tie.Else14) → nameIn (c .before .before .before .before .before .before .before .before .before .before .before .before .before .before .before .before .before .before .before .before .before .before .before .before .before .before .before .before .before .before .before .before .before .before .before .before .before .before .before .before .before .before .before .args .word .now) ≡ among [] (c .before .before .before .before .before .before .before .before .before .before .before .before .before .before .before .before .before .before .before .before .before .before .before .before .before .before .before .before .before .before .before .before .before .before .before .before .before .before .before .before .before .before .before .args .word .now)
+left-14 c = left-13 (c .before .before .before) ∙ others Run _ _ (sym (c .before .same14 .ensures) ∙ c .if14 .left)
 
 slice-aggregate-same : tie.Need-slice-aggregate-same
 slice-aggregate-same c = search needs
@@ -126,6 +129,12 @@ slice-aggregate-same-13 c = search needs
 same-requires-13 : tie.Need-same-requires-13
 same-requires-13 c κs = search needs
 
+slice-aggregate-same-14 : tie.Need-slice-aggregate-same-14
+slice-aggregate-same-14 c = search needs
+
+same-requires-14 : tie.Need-same-requires-14
+same-requires-14 c κs = search needs
+
 returns : tie.Need-returns
 returns c = sym (itself Fresh _ _ (sym (c .before .same .ensures) ∙ c .if1 .taken))
 
@@ -166,7 +175,10 @@ returns-13 : tie.Need-returns-13
 returns-13 c = sym (left-12 (c .before .before .before) ∙ itself Read _ _ (sym (c .before .same13 .ensures) ∙ c .if13 .taken))
 
 returns-14 : tie.Need-returns-14
-returns-14 c = sym (left-13 c ∙ no-name _)
+returns-14 c = sym (left-13 (c .before .before .before) ∙ itself Run _ _ (sym (c .before .same14 .ensures) ∙ c .if14 .taken))
+
+returns-15 : tie.Need-returns-15
+returns-15 c = sym (left-14 c ∙ no-name _)
 
 pub name-in-spec : {M : Type 1} → statement M
 name-in-spec =
@@ -198,6 +210,8 @@ name-in-spec =
     same-requires-12
     slice-aggregate-same-13
     same-requires-13
+    slice-aggregate-same-14
+    same-requires-14
     returns
     returns-2
     returns-3
@@ -211,4 +225,5 @@ name-in-spec =
     returns-11
     returns-12
     returns-13
-    returns-14)
+    returns-14
+    returns-15)

@@ -133,6 +133,15 @@ slice-aggregate-put-14 c = search needs
 put-requires-14 : tie.Need-put-requires-14
 put-requires-14 c κs = search needs
 
+enum-told-15 : tie.Need-enum-told-15
+enum-told-15 c = search needs
+
+slice-aggregate-put-15 : tie.Need-slice-aggregate-put-15
+slice-aggregate-put-15 c = search needs
+
+put-requires-15 : tie.Need-put-requires-15
+put-requires-15 c κs = search needs
+
 same-length : tie.Need-same-length
 same-length c = search needs
 
@@ -217,6 +226,12 @@ same-length-14 c = search needs
 returns-14 : tie.Need-returns-14
 returns-14 c = wrote-text (ap textOf (sym (c .before .before .before .before .before .enum-told14 .given .1))) (c .before .before .put14 .ensures)
 
+same-length-15 : tie.Need-same-length-15
+same-length-15 c = search needs
+
+returns-15 : tie.Need-returns-15
+returns-15 c = wrote-text (ap textOf (sym (c .before .before .before .before .before .enum-told15 .given .1))) (c .before .before .put15 .ensures)
+
 pub put-name-spec : {M : Type 1} → statement M
 put-name-spec =
     tie.close
@@ -263,6 +278,9 @@ put-name-spec =
     enum-told-14
     slice-aggregate-put-14
     put-requires-14
+    enum-told-15
+    slice-aggregate-put-15
+    put-requires-15
     same-length
     returns
     same-length-2
@@ -290,4 +308,6 @@ put-name-spec =
     same-length-13
     returns-13
     same-length-14
-    returns-14)
+    returns-14
+    same-length-15
+    returns-15)

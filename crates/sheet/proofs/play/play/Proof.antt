@@ -1,4 +1,4 @@
--- `sheet::play::play` meets its contract, call by call.
+-- `sheet::play::play` meets its contract, name by name.
 -- Assumes nothing.
 use mathlib.Core.Path.{sym, ap, _∙_}
 use denote.Ref.{now}
@@ -107,6 +107,12 @@ nci-read-requires c κs = search needs
 
 enum-told-14 : tie.Need-enum-told-14
 enum-told-14 c = search needs
+
+enum-told-15 : tie.Need-enum-told-15
+enum-told-15 c = search needs
+
+nci-run-requires : tie.Need-nci-run-requires
+nci-run-requires c κs = search needs
 
 same-length : tie.Need-same-length
 same-length c = search needs
@@ -296,6 +302,20 @@ returns-14 c =
     let m = now (s .args) in
     ap (λ (x : Name). played x m a out) (sym (c .enum-told14 .given .1))
 
+same-length-25 : tie.Need-same-length-25
+same-length-25 c = search needs
+
+same-length-26 : tie.Need-same-length-26
+same-length-26 c = search needs
+
+returns-15 : tie.Need-returns-15
+returns-15 c =
+    let s = c .before .before .before .before .before .before .before .before .before .before .before .before .before .args in
+    let a = now (s .area) in
+    let out = now (s .out) in
+    let m = now (s .args) in
+    c .before .before .before .before .nci-run .ensures ∙ ap (λ (x : Name). played x m a out) (sym (c .before .before .before .before .before .before .before .enum-told15 .given .1))
+
 pub play-spec : {M : Type 1} → statement M
 play-spec =
     tie.close
@@ -331,6 +351,8 @@ play-spec =
     enum-told-13
     nci-read-requires
     enum-told-14
+    enum-told-15
+    nci-run-requires
     same-length
     same-length-2
     returns
@@ -368,4 +390,7 @@ play-spec =
     same-length-24
     returns-12
     returns-13
-    returns-14)
+    returns-14
+    same-length-25
+    same-length-26
+    returns-15)

@@ -22,11 +22,17 @@ put-event-requires c κs = search needs
 slice-aggregate-put-number : tie.Need-slice-aggregate-put-number
 slice-aggregate-put-number c = search needs
 
+cast-put-number : tie.Need-cast-put-number
+cast-put-number c = search needs
+
 put-number-requires : tie.Need-put-number-requires
 put-number-requires c κs = search needs
 
 slice-aggregate-put-number-2 : tie.Need-slice-aggregate-put-number-2
 slice-aggregate-put-number-2 c = search needs
+
+cast-put-number-2 : tie.Need-cast-put-number-2
+cast-put-number-2 c = search needs
 
 put-number-requires-2 : tie.Need-put-number-requires-2
 put-number-requires-2 c κs = search needs
@@ -48,8 +54,10 @@ put-front-spec =
     dropped-requires
     put-event-requires
     slice-aggregate-put-number
+    cast-put-number
     put-number-requires
     slice-aggregate-put-number-2
+    cast-put-number-2
     put-number-requires-2
     same-length
     returns)

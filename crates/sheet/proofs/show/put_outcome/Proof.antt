@@ -18,6 +18,9 @@ put-packets-requires c κs = search needs
 put-message-requires : tie.Need-put-message-requires
 put-message-requires c κs = search needs
 
+put-moves-requires : tie.Need-put-moves-requires
+put-moves-requires c κs = search needs
+
 same-length : tie.Need-same-length
 same-length c = search needs
 
@@ -26,11 +29,20 @@ unfolding handedBy
 returns c =
     wrote-then _ _
     (wrote-then _ _
-    (wrote-then _ _ (c .before .before .before .before .before .before .before .before .before .before .before .before .before .before .put-front .ensures) (c .before .before .before .before .before .before .before .before .before .before .put-rfu .ensures))
-    (c .before .before .before .before .before .before .put-packets .ensures))
-    (c .before .before .put-message .ensures)
+    (wrote-then _ _
+    (wrote-then _ _ (c .before .before .before .before .before .before .before .before .before .before .before .before .before .before .before .before .before .before .put-front .ensures) (c .before .before .before .before .before .before .before .before .before .before .before .before .before .before .put-rfu .ensures))
+    (c .before .before .before .before .before .before .before .before .before .before .put-packets .ensures))
+    (c .before .before .before .before .before .before .put-message .ensures))
+    (c .before .before .put-moves .ensures)
 
 pub put-outcome-spec : {M : Type 1} → statement M
 put-outcome-spec =
     tie.close
-    (tie.spec put-front-requires put-rfu-requires put-packets-requires put-message-requires same-length returns)
+    (tie.spec
+    put-front-requires
+    put-rfu-requires
+    put-packets-requires
+    put-message-requires
+    put-moves-requires
+    same-length
+    returns)

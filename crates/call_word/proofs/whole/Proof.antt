@@ -1,12 +1,12 @@
--- `call_word::answer` meets its contract: each part has its own bits.
+-- `call_word::whole` meets its contract: each part has its own bits.
 -- Assumes nothing.
 use native.Mathlib.Omega.{arith}
 use Rattle.record.specs.Layout.{bit}
 use Rattle.calls.specs.Word.{wordOf}
 use Rattle.calls.proofs.Words.{bit-least}
 use borrow.Author.Needs.{needs}
-use Rattle.call_word.proofs.answer.Statement.{statement}
-use Rattle.call_word.proofs.answer.Tie as tie
+use Rattle.call_word.proofs.whole.Statement.{statement}
+use Rattle.call_word.proofs.whole.Tie as tie
 
 cast-result : tie.Need-cast-result
 cast-result c = search needs
@@ -40,12 +40,19 @@ add-result-3 : tie.Need-add-result-3
 unfolding bit
 add-result-3 c = omega (arith, bit-least (c .args .dropped), bit-least (c .args .handed), c .pre)
 
+mul-result-5 : tie.Need-mul-result-5
+mul-result-5 c = search needs
+
+add-result-4 : tie.Need-add-result-4
+unfolding bit
+add-result-4 c = omega (arith, bit-least (c .args .dropped), bit-least (c .args .handed), c .pre)
+
 returns : tie.Need-returns
 unfolding wordOf bit
 returns c = omega arith
 
-pub answer-spec : {M : Type 1} → statement M
-answer-spec =
+pub whole-spec : {M : Type 1} → statement M
+whole-spec =
     tie.close
     (tie.spec
     cast-result
@@ -57,4 +64,6 @@ answer-spec =
     add-result-2
     mul-result-4
     add-result-3
+    mul-result-5
+    add-result-4
     returns)

@@ -1,11 +1,11 @@
--- `bench::entry::enter` meets its contract: not loaded, loaded without room for a message, loaded.
+-- `call_entry::enter` meets its contract: not loaded, loaded without room for a message, loaded.
 -- Assumes nothing.
 use native.Mathlib.Omega.{arith}
 use denote.Ref.{now}
 use Rattle.calls.proofs.Enter.{enters-not, enters-short, enters-whole}
 use borrow.Author.Needs.{needs}
-use Rattle.bench.proofs.entry.enter.Statement.{statement}
-use Rattle.bench.proofs.entry.enter.Tie as tie
+use Rattle.call_entry.proofs.enter.Statement.{statement}
+use Rattle.call_entry.proofs.enter.Tie as tie
 
 load-requires : tie.Need-load-requires
 load-requires c κs = search needs
