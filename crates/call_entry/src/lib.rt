@@ -1,5 +1,7 @@
 // What every call but fresh does first: the area's record is loaded and judged, and the message buffer must have room for a
 // message.
+#![tactic(auto)]
+
 ghost use Rattle.calls.specs.Outcome.{Enters};
 
 use area::map;

@@ -1,5 +1,7 @@
 // The word that a call answers: its places, and how a call that is taken makes it. What it says is read in `says`. Its bits are
 // defined in calls/specs.
+#![tactic(auto)]
+
 pub mod says;
 
 ghost use Rattle.std.specs.Prelude.{◌≡◌, true, false, ◌<◌};

@@ -1,4 +1,6 @@
 // The form of a line of the sheet: the names of events, and what each of them asks.
+#![tactic(auto)]
+
 pub mod form;
 pub mod names;
 

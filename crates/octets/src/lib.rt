@@ -1,5 +1,7 @@
 // Parts of octet slices: read as a part, written over, and copied inside an area. Nothing here knows of NCI.
 // These are the only functions of the project that loop over octets to copy them.
+#![tactic(auto)]
+
 ghost use Rattle.std.specs.Prelude.{◌≡◌, ◌+◌, ◌≤◌, length, get_or};
 ghost use Rattle.octets.specs.Octets.{pick, cut, splice};
 

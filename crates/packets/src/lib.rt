@@ -1,5 +1,7 @@
 // The packet layer of NCI 2.0 (003, 3.4): a packet's header is read, its payload is handed out as a part of the packet
 // itself, and a packet is written straight into the slot that the caller passes.
+#![tactic(auto)]
+
 ghost use Rattle.std.specs.Prelude.{◌≡◌, ◌+◌, ◌*◌, ◌/◌, ◌%◌, ◌≤◌, length, ltb};
 ghost use Rattle.packets.specs.Packet.{octet0, octet1, oid_of, carried_of, spare_of, read_of, payload_of, carrying, Written};
 ghost use Rattle.packets.specs.Reserved.{rfu_of};

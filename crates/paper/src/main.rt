@@ -1,6 +1,8 @@
 // The paper sheet as a program: lines of calls on standard input, a line of answer for each on standard output, written as
 // soon as the line feed is read. It starts with a fresh bench. What it cannot read or write it says on standard error, and
 // ends: a program has no exit status, so `play` gives one where anything but the note on lines was said.
+#![tactic(auto)]
+
 ghost use Rattle.std.specs.Prelude.{◌≤◌};
 
 use ascii::input::{Taken, take};

@@ -1,5 +1,7 @@
 // The paper sheet: a line of text in, a line of text out, over the caller's area and message buffer. The bench
 // is called through the functions that C calls.
+#![tactic(auto)]
+
 pub mod play;
 pub mod show;
 

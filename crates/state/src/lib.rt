@@ -1,5 +1,7 @@
 // What the record holds: its types, and what profiles, connections, radio states, runs of packets, the names of commands and verdicts
 // are, with the standard's numbers and the places of fields. Both ends use this crate.
+#![tactic(auto)]
+
 pub mod cold;
 pub mod commands;
 pub mod conn;

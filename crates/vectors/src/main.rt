@@ -1,6 +1,8 @@
 // Packets of the standard through the packet layer. Standard input has a packet a line, as `no=001 pkt=020000`; standard
 // output has for each line what reading the packet finds and what writing it again gives. tests/vectors.py makes the input
 // and, by a reading and a writing of its own, the output.
+#![tactic(auto)]
+
 mod line;
 
 ghost use Rattle.std.specs.Prelude.{◌≤◌};
