@@ -74,7 +74,7 @@ pub flow_all : {limit : ℕ} {q : Run} (ss : List Segment) {t o : List Octets}
     → Flow limit q ss t o → Flow limit (grown_by limit q ss) [] t (o ++ finished_by limit q ss)
 unfolding grown_by finished_by
 flow_all [] {t} {o} f = rw (append-nil o) f
-flow_all {limit} {q} (s ∷ ss) {t} {o} f = rw (← append_assoc o (finished limit q s)) (flow_all ss (flow_read s f))
+flow_all {limit} {q} (s ∷ ss) {t} {o} f = rw (← append_assoc o (finished limit q s)) (flow_all {q = grown limit q s} ss (flow_read s f))
 
 -- ---- what reassembly makes of the segments of a message
 

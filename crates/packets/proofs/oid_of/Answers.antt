@@ -1,0 +1,12 @@
+-- `packets::oid_of` meets its contract: data, or a control packet.
+use borrow.Author.Tests.{eq-eqb, ne_eqb}
+use Rattle.packets.specs.Packet.{oid_of}
+use Rattle.packets.proofs.oid_of.Goals as goal
+
+pub returns-then-mt-eq-DATA : goal.returns-then-mt-eq-DATA
+unfolding oid_of
+returns-then-mt-eq-DATA c = rw (eq-eqb _ 0 c.if-mt-eq-DATA.true)
+
+pub returns-else-mt-eq-DATA : goal.returns-else-mt-eq-DATA
+unfolding oid_of
+returns-else-mt-eq-DATA c = rw (ne_eqb _ 0 c.if-mt-eq-DATA.false)

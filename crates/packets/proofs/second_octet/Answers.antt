@@ -1,0 +1,12 @@
+-- `packets::second_octet` meets its contract: data, or a control packet.
+use borrow.Author.Tests.{eq-eqb, ne_eqb}
+use Rattle.packets.specs.Packet.{octet1}
+use Rattle.packets.proofs.second_octet.Goals as goal
+
+pub returns-then-mt-eq-DATA : goal.returns-then-mt-eq-DATA
+unfolding octet1
+returns-then-mt-eq-DATA c = rw (eq-eqb _ 0 c.if-mt-eq-DATA.true)
+
+pub returns-else-mt-eq-DATA : goal.returns-else-mt-eq-DATA
+unfolding octet1
+returns-else-mt-eq-DATA c = rw (ne_eqb _ 0 c.if-mt-eq-DATA.false)
