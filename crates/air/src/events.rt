@@ -19,7 +19,7 @@ use state::radio::{
 use state::runs::CONTROL_LIMIT;
 
 // An event, by its kind. Bad: octets outside the limits of any. Found carries the notification type.
-#[derive(Drop)]
+#[derive(Clone, Copy)]
 pub enum Event {
     Bad,
     Found(Activation, u8),
@@ -33,7 +33,7 @@ pub enum Event {
 }
 
 // What becomes of the list of pairs.
-#[derive(Drop)]
+#[derive(Clone, Copy)]
 pub enum Listing {
     Keeps,
     Starts(Pair),
@@ -41,7 +41,7 @@ pub enum Listing {
 }
 
 // What an event does. Goes: to a state. Activates: connection 0 opens. Ends: it closes. Speaks: the endpoint has a message.
-#[derive(Drop)]
+#[derive(Clone, Copy)]
 pub enum Aired {
     Refused,
     Goes(Rf, Listing),

@@ -7,7 +7,7 @@ use crate::write::put;
 
 // What a piece gave to a line: the index in the piece after what was taken, the characters that the line has by now, and
 // whether the line is whole.
-#[derive(Drop)]
+#[derive(Clone, Copy)]
 pub struct Taken {
     pub next: usize,
     pub held: usize,

@@ -3,14 +3,14 @@ ghost use Rattle.std.specs.Prelude.{◌≡◌, ◌<◌, length};
 ghost use Rattle.config.specs.Table.{row_count, row_at, row_of, allowed_by, all_allowed, acceptable};
 
 // The octets that a value may have: a range, or the bit rates of Table 132 that are not RFU.
-#[derive(Drop)]
+#[derive(Clone, Copy)]
 pub enum Values {
     Range(u8, u8),
     BitRates,
 }
 
 // A parameter: where its value stands among the octets of all, its least and greatest length, its octet by default.
-#[derive(Drop)]
+#[derive(Clone, Copy)]
 pub struct Row {
     pub id: u8,
     pub at: usize,

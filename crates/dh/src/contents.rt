@@ -10,7 +10,7 @@ use state::profile::{LEAST_SIZE, credits_ok};
 use state::{commands, conn, fields, names, radio};
 
 // The notifications that the bench knows.
-#[derive(Drop)]
+#[derive(Clone, Copy)]
 pub enum Notice {
     Reset,
     Credits,

@@ -12,7 +12,7 @@ use state::profile::LEAST_SIZE;
 use state::{commands, conn, fields, names};
 
 // What the awaited response says.
-#[derive(Drop)]
+#[derive(Clone, Copy)]
 pub enum Answer {
     Done,
     ClosesAll,
@@ -22,7 +22,7 @@ pub enum Answer {
 }
 
 // What the host hears. Nothing: no effect. Dropped: not for this host now.
-#[derive(Drop)]
+#[derive(Clone, Copy)]
 pub enum Heard {
     Nothing,
     Dropped,

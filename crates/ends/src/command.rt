@@ -12,14 +12,14 @@ use state::runs::CONTROL_LIMIT;
 use state::verdict::Verdict;
 
 // The verdict on a command, and both ends' numbers after it.
-#[derive(Drop)]
+#[derive(Clone, Copy)]
 pub struct Decision {
     pub verdict: Verdict,
     pub next: Ends,
 }
 
 // The decision, the response, and the notification after it, where there is one.
-#[derive(Drop)]
+#[derive(Clone, Copy)]
 pub struct Answered {
     pub decision: Decision,
     pub response: Note,

@@ -7,7 +7,7 @@ use air::{effects, events};
 use state::kinds::Ends;
 
 // The event, what the controller makes of it, and both ends' numbers after it.
-#[derive(Drop)]
+#[derive(Clone, Copy)]
 pub struct Met {
     pub event: Event,
     pub aired: Aired,

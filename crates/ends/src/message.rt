@@ -7,7 +7,7 @@ use dh::host::Heard;
 use state::kinds::Ends;
 
 // What was heard, the drop flag, and both ends' numbers after it.
-#[derive(Drop)]
+#[derive(Clone, Copy)]
 pub struct Heeded {
     pub heard: Heard,
     pub dropped: bool,

@@ -70,7 +70,7 @@ fn fits(name: Name, args: &[u8]) -> bool
 }
 
 // What a line asks: the name, and how many octets of arguments it has.
-#[derive(Drop)]
+#[derive(Clone, Copy)]
 pub struct Asked {
     pub name: Name,
     pub count: usize,

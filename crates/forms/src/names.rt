@@ -7,7 +7,7 @@ use ascii::find::same;
 use ascii::write::put;
 
 // What a line asks for: a call, a press of Run to rest, or nothing that there is.
-#[derive(Drop)]
+#[derive(Clone, Copy)]
 pub enum Name {
     Fresh,
     Power,

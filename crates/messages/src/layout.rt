@@ -16,7 +16,7 @@ use state::verdict::Verdict;
 use state::{fields, names};
 
 // A message that was written: its GID and OID, and its length; length 0 is no message.
-#[derive(Drop)]
+#[derive(Clone, Copy)]
 pub struct Note {
     pub gid: u8,
     pub oid: u8,

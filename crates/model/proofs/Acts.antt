@@ -155,4 +155,4 @@ module _ {loop : Bool} {k : Connection} {d : List Segment} {u : List Item} {l : 
 pub reads_good : {loop : Bool} {k : Connection} {d : List Segment} {u : List Item} {l : Ledger} (is : List Item) (ms : List Octets) → Reads k is ms → Good loop k d (is ++ u) l
     → Good loop (reads_k is k) d u (reads_l is ms l)
 reads_good [] ms r g = g
-reads_good (i ∷ is) ms r g = reads_good is ms r.1 (read_good i ms r.0 g)
+reads_good {k = k} (i ∷ is) ms r g = reads_good {k = read_k i k} is ms r.1 (read_good i ms r.0 g)

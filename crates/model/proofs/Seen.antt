@@ -38,8 +38,8 @@ module _ (c : Call) (e : Event) (o : Account) (m : stray_of c o.up e.message ≡
   inner : astray (stray_of c o.up e.message) (acted c e o) ≡ acted c e o
   inner = ap (λ (ms : List Octets). astray ms (acted c e o)) m ∙ none_stray (acted c e o)
 
-  puts_down : e.to_up ≡ [] → seen c e o ≡ puts_down e.to_down (acted c e o)
-  puts_down u = (λ i. puts_up (u i) (puts_down e.to_down (inner i))) ∙ none_up (puts_down e.to_down (acted c e o))
+  puts_down_law : e.to_up ≡ [] → seen c e o ≡ puts_down e.to_down (acted c e o)
+  puts_down_law u = (λ i. puts_up (u i) (puts_down e.to_down (inner i))) ∙ none_up (puts_down e.to_down (acted c e o))
 
   puts_up_law : e.to_down ≡ [] → seen c e o ≡ puts_up e.to_up (acted c e o)
   puts_up_law d = ap (puts_up e.to_up) ((λ i. puts_down (d i) (inner i)) ∙ none_down (acted c e o))
@@ -108,13 +108,13 @@ module _ (s : State) (aim : ℕ) (l : ℕ → Ledger) where
   pub seen_tallied : (c : Call) → seen c (event c) o ≡ tallied c (event c) o
   seen_tallied (fresh m) = refl
   seen_tallied power = refl
-  seen_tallied (command gid oid m) = puts_down (command gid oid m) (event (command gid oid m)) o refl refl
+  seen_tallied (command gid oid m) = puts_down_law (command gid oid m) (event (command gid oid m)) o refl refl
   seen_tallied (send c m) = puts_none (send c m) (event (send c m)) o refl refl refl
   seen_tallied (push c) = go (s.conns c).host.hand
     where
       go : (ss : List Segment) → seen (push c) (doing (push c) (pushing c ss s)) o ≡ tallied (push c) (doing (push c) (pushing c ss s)) o
-      go [] = puts_down (push c) (doing (push c) (pushing c [] s)) o refl refl
-      go (x ∷ ss) = puts_down (push c) (doing (push c) (pushing c (x ∷ ss) s)) o refl refl
+      go [] = puts_down_law (push c) (doing (push c) (pushing c [] s)) o refl refl
+      go (x ∷ ss) = puts_down_law (push c) (doing (push c) (pushing c (x ∷ ss) s)) o refl refl
   seen_tallied down = let r = down_alone s.down s in puts_up_law down (event down) o r.message r.to_down
   seen_tallied (consume c) = go (s.conns c).controller.store
     where

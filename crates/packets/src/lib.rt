@@ -19,7 +19,7 @@ pub const NOTIFICATION: u8 = 3;
 // A packet's header. mt: message type. pbf: packet boundary flag, true where more of the message follows. id: GID, or
 // for data the Conn ID. oid: for control packets, 0 for data. credits: for data the credits that it carries (CR), 0 for
 // control packets. spare: the other bits of octet 1, in their places; a writer leaves them 0.
-#[derive(Drop)]
+#[derive(Clone, Copy)]
 pub struct Header {
     pub mt: u8,
     pub pbf: bool,
@@ -30,14 +30,14 @@ pub struct Header {
 }
 
 // Which way a packet goes: down to the controller, or up to the host.
-#[derive(Drop)]
+#[derive(Clone, Copy)]
 pub enum Way {
     Down,
     Up,
 }
 
 // What reading finds: a packet's header and the length of its payload, or a packet to drop.
-#[derive(Drop)]
+#[derive(Clone, Copy)]
 pub enum Reading {
     Packet(Header, usize),
     Drop,

@@ -16,7 +16,7 @@ const ROOM: usize = 2101;
 
 // held: the characters of a line whose end is not read yet. open: whether there is more to read, and someone to write to.
 // noted: whether the note on lines of another form has been written, which is written once.
-#[derive(Drop)]
+#[derive(Clone, Copy)]
 struct Playing {
     held: usize,
     open: bool,

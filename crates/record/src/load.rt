@@ -9,7 +9,7 @@ use area::map::AREA;
 use state::kinds::Record;
 
 // The number for a call not taken, 0 for none, and the record. A struct, since an enum cannot hold the record's arrays.
-#[derive(Drop)]
+#[derive(Clone, Copy)]
 pub struct Loaded {
     pub answer: u8,
     pub record: Record,

@@ -5,7 +5,7 @@ ghost use Rattle.state.specs.Commands.{command_of};
 use crate::names;
 
 // The commands that the bench knows.
-#[derive(Drop)]
+#[derive(Clone, Copy)]
 pub enum Command {
     Reset,
     Init,

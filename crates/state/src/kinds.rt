@@ -1,14 +1,14 @@
 // The types of the record (document 01, "Profile, record and area").
 
 // What a connection is opened with: the octets for payload and credits of a create response or an activation.
-#[derive(Drop)]
+#[derive(Clone, Copy)]
 pub struct Terms {
     pub payload: u8,
     pub credits: u8,
 }
 
 // The profile: most control payload, the terms of each of the dynamic connections 2, 3, 4 and 5, and those of the static RF connection.
-#[derive(Drop)]
+#[derive(Clone, Copy)]
 pub struct Profile {
     pub control: u8,
     pub two: Terms,
@@ -19,13 +19,13 @@ pub struct Profile {
 }
 
 // An RF discovery ID with its protocol, as found and as selected.
-#[derive(Drop)]
+#[derive(Clone, Copy)]
 pub struct Pair {
     pub id: u8,
     pub protocol: u8,
 }
 
-#[derive(Drop)]
+#[derive(Clone, Copy)]
 pub struct Activation {
     pub id: u8,
     pub protocol: u8,
@@ -33,14 +33,14 @@ pub struct Activation {
 }
 
 // The selection that W4_HOST_SELECT carries.
-#[derive(Drop)]
+#[derive(Clone, Copy)]
 pub enum Selection {
     Nothing,
     Chosen(Pair),
 }
 
 // The RF states (003, 5.2).
-#[derive(Drop)]
+#[derive(Clone, Copy)]
 pub enum Rf {
     Idle,
     Discovery,
@@ -52,21 +52,21 @@ pub enum Rf {
 }
 
 // The pairs found so far, the first count of the list.
-#[derive(Drop)]
+#[derive(Clone, Copy)]
 pub struct Pairs {
     pub list: [Pair; 8],
     pub count: usize,
 }
 
 // How far a message is reassembled: its octets so far, or a run that went past its limit and is lost.
-#[derive(Drop)]
+#[derive(Clone, Copy)]
 pub struct Progress {
     pub len: usize,
     pub lost: bool,
 }
 
 // A run of control packets: which message they belong to, and how far it is.
-#[derive(Drop)]
+#[derive(Clone, Copy)]
 pub struct ControlRun {
     pub mt: u8,
     pub gid: u8,
@@ -75,7 +75,7 @@ pub struct ControlRun {
 }
 
 // The controller before its first RESET, after a RESET, and after INIT.
-#[derive(Drop)]
+#[derive(Clone, Copy)]
 pub enum Phase {
     Cold,
     Reset,
@@ -83,7 +83,7 @@ pub enum Phase {
 }
 
 // The controller's numbers. given: the Conn ID last given, 0 for none.
-#[derive(Drop)]
+#[derive(Clone, Copy)]
 pub struct Controller {
     pub phase: Phase,
     pub given: u8,
@@ -92,7 +92,7 @@ pub struct Controller {
 }
 
 // What the host remembers of a command. aim: the low four bits of its first octet, the connection that CONN_CLOSE names.
-#[derive(Drop)]
+#[derive(Clone, Copy)]
 pub struct Asked {
     pub gid: u8,
     pub oid: u8,
@@ -100,21 +100,21 @@ pub struct Asked {
 }
 
 // The unanswered command.
-#[derive(Drop)]
+#[derive(Clone, Copy)]
 pub enum Pending {
     Nothing,
     Command(Asked),
 }
 
 // The host's numbers. size: the payload at which commands are cut.
-#[derive(Drop)]
+#[derive(Clone, Copy)]
 pub struct Host {
     pub size: u8,
     pub pending: Pending,
 }
 
 // A message in hand, the one that an end is sending: whether there is one, its length, and how much of it has gone.
-#[derive(Drop)]
+#[derive(Clone, Copy)]
 pub struct Hand {
     pub full: bool,
     pub len: usize,
@@ -122,14 +122,14 @@ pub struct Hand {
 }
 
 // Packets in a ring of slots: the first one's slot, and how many there are.
-#[derive(Drop)]
+#[derive(Clone, Copy)]
 pub struct Ring {
     pub head: usize,
     pub count: usize,
 }
 
 // A connection at the host. grant: the credits octet it was opened with; held: credits left, both 255 without flow control.
-#[derive(Drop)]
+#[derive(Clone, Copy)]
 pub struct HostSide {
     pub opened: bool,
     pub payload: u8,
@@ -140,7 +140,7 @@ pub struct HostSide {
 }
 
 // A connection at the controller. owed: credits for packets consumed, not yet put in a notice nor inside a data packet.
-#[derive(Drop)]
+#[derive(Clone, Copy)]
 pub struct ControllerSide {
     pub opened: bool,
     pub grant: u8,
@@ -150,7 +150,7 @@ pub struct ControllerSide {
 }
 
 // The counts of one connection.
-#[derive(Drop)]
+#[derive(Clone, Copy)]
 pub struct Counts {
     pub host: HostSide,
     pub controller: ControllerSide,
@@ -158,7 +158,7 @@ pub struct Counts {
 
 // Both ends: what the record holds besides the wires. hearing: the host's control run. asking: the controller's. endpoint:
 // the message that the endpoint is sending on connection 0. conns: the counts of connections 0, 2, 3, 4, 5, in this order.
-#[derive(Drop)]
+#[derive(Clone, Copy)]
 pub struct Ends {
     pub profile: Profile,
     pub host: Host,
@@ -170,7 +170,7 @@ pub struct Ends {
 }
 
 // The record: both ends, and the rings of the two wires.
-#[derive(Drop)]
+#[derive(Clone, Copy)]
 pub struct Record {
     pub ends: Ends,
     pub down: Ring,

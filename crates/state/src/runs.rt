@@ -11,14 +11,14 @@ pub const DATA_LIMIT: usize = 1024;
 pub const CONTROL_LIMIT: usize = 255;
 
 // The run after a segment. done: the message is whole. dropped: the run is past its limit, the drop flag.
-#[derive(Drop)]
+#[derive(Clone, Copy)]
 pub struct Joined {
     pub next: Progress,
     pub done: bool,
     pub dropped: bool,
 }
 
-#[derive(Drop)]
+#[derive(Clone, Copy)]
 pub struct ControlJoined {
     pub next: ControlRun,
     pub base: usize,

@@ -3,7 +3,7 @@ use crate::kinds::{Pair, Rf, Terms};
 
 // What the controller decides. Refuses: a status other than OK, alone, and nothing changes. SetsConfig, GetsConfig: what is set and what is
 // answered follow from the command's payload and the values (crate config).
-#[derive(Drop)]
+#[derive(Clone, Copy)]
 pub enum Verdict {
     Refuses(u8),
     Resets(u8),

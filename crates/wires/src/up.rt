@@ -15,7 +15,7 @@ use state::names::{GID_CORE, GID_RF, OID_ACTIVATED, OID_CONN_CREATE, OID_CONN_CR
 use state::{conn, fields};
 
 // What has credits inside: a CORE_CONN_CREDITS_NTF, an RF_INTF_ACTIVATED_NTF, the CORE_CONN_CREATE_RSP that opens a connection.
-#[derive(Drop)]
+#[derive(Clone, Copy)]
 pub enum Inside {
     CreditsNtf,
     ActivatedNtf,
