@@ -92,8 +92,8 @@ module _ (a : Octets) (r : Record) where
 
 -- ---- its tests
 
-needs_two : (h : Header) (v : Octets) → needs_two (meant h (segment h.pbf v)) ≡ (eqb h.mt 1 && not h.pbf)
-needs_two h v = go (eqb h.mt 0) refl h.pbf
+needs_two_law : (h : Header) (v : Octets) → needs_two (meant h (segment h.pbf v)) ≡ (eqb h.mt 1 && not h.pbf)
+needs_two_law h v = go (eqb h.mt 0) refl h.pbf
   where
     no : (b : Bool) → false ≡ (b && false)
     no true = refl
@@ -120,7 +120,7 @@ module _ (a : Octets) (r : Record) where
   tight_is (Packet h n) e =
       let room : full 2 (up_of a r) ≡ ltb 14 r.up.count = up_full 2 a r ∙ two_free r.up.count in
       (λ i. needs_two (packet_read a r h n e i) && room i)
-      ∙ (λ i. needs_two h (payload_of (cut (down_slot r) slot_size a) n) i && ltb 14 r.up.count)
+      ∙ (λ i. needs_two_law h (payload_of (cut (down_slot r) slot_size a) n) i && ltb 14 r.up.count)
   tight_is Drop e = λ i. needs_two (packet_dropped a r e i) && full 2 (up_of a r)
 
   full_is : (x : Reading) → down_read r a ≡ x → store_full (view a r) (meaning (packet a r)) ≡ full_by r x

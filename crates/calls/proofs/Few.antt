@@ -46,8 +46,8 @@ module _ (a : Octets) (fit : Fit (decode_of a)) where
   hand_at : (d : ℕ) → place_of d < places → length ((view_of a).conns d).host.hand ≤ 1025
   hand_at d h = hand_few _ _ a (counts_of (decode_of a).ends.conns d).host.hand (counts_fit d h).hand
 
-  store_at : (d : ℕ) → place_of d < places → length ((view_of a).conns d).controller.store ≤ 8
-  store_at d h =
+  store_few : (d : ℕ) → place_of d < places → length ((view_of a).conns d).controller.store ≤ 8
+  store_few d h =
       omega (arith, length_packets (store_at (place_of d)) store_slots a (counts_of (decode_of a).ends.conns d).controller.store, (counts_fit d h).store.count)
 
   fit_few : most (view_of a) ≤ moves_few
@@ -60,11 +60,11 @@ module _ (a : Octets) (fit : Fit (decode_of a)) where
         hand_at 3 (omega arith),
         hand_at 4 (omega arith),
         hand_at 5 (omega arith),
-        store_at 0 (omega arith),
-        store_at 2 (omega arith),
-        store_at 3 (omega arith),
-        store_at 4 (omega arith),
-        store_at 5 (omega arith),
+        store_few 0 (omega arith),
+        store_few 2 (omega arith),
+        store_few 3 (omega arith),
+        store_few 4 (omega arith),
+        store_few 5 (omega arith),
         hand_few endpoint_at payload_size a (decode_of a).ends.endpoint fit.own.endpoint,
         length_packets down_at wire_slots a (decode_of a).down,
         fit.down.count,

@@ -1,0 +1,17 @@
+-- The loop of `config::get::all_shown`.
+use Prim.Native.Nat.{◌+◌, ◌≤◌, ◌-◌}
+use mathlib.Core.Path.{◌≡◌}
+use lib.ListN.{length}
+use Rattle.octets.specs.Octets.{splice}
+use Rattle.config.specs.Commands.{shown_in}
+use Rattle.config.proofs.get.all_shown.Reads as reads
+use Rattle.config.proofs.get.all_shown.Lts as lts
+use Rattle.config.proofs.get.put_shown.Reads as put-shown-reads
+use Rattle.octets.proofs.octet_at.Reads as octet-at-reads
+use Rattle.config.proofs.get.all_shown.Given as goal
+
+abbrev pub invariant-loop-i : goal.invariant-loop-i
+invariant-loop-i l = (l.i ≤ l.n) × (l.out ≡ splice l.initial.out 2 (shown_in l.b l.m l.i)) × (l.to ≡ 2 + length (shown_in l.b l.m l.i))
+
+abbrev pub decreases-loop-i : goal.decreases-loop-i
+decreases-loop-i l = l.n - l.i

@@ -1,0 +1,17 @@
+-- The loop of `config::get::shown_size`.
+use Prim.Native.Nat.{◌*◌, ◌≤◌, ◌-◌}
+use mathlib.Core.Path.{◌≡◌}
+use lib.ListN.{length}
+use Rattle.config.specs.Commands.{shown_in}
+use Rattle.config.proofs.get.shown_size.Reads as reads
+use Rattle.config.proofs.get.shown_size.Lts as lts
+use Rattle.config.proofs.stored.value_in.Reads as value-in-reads
+use Rattle.config.proofs.table.row_of.Reads as row-of-reads
+use Rattle.octets.proofs.octet_at.Reads as octet-at-reads
+use Rattle.config.proofs.get.shown_size.Given as goal
+
+abbrev pub invariant-loop-i : goal.invariant-loop-i
+invariant-loop-i l = (l.i ≤ l.n) × (l.size ≡ length (shown_in l.b l.m l.i)) × (l.size ≤ 32 * l.i)
+
+abbrev pub decreases-loop-i : goal.decreases-loop-i
+decreases-loop-i l = l.n - l.i

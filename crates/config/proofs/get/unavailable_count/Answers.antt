@@ -1,0 +1,38 @@
+-- `config::get::unavailable_count` meets its contract. The loop's invariant: unavailable is how many of the first i are not known.
+use native.Mathlib.Omega.{arith}
+use native.Mathlib.Numerals.{add-one}
+use Prim.Native.Nat.{◌+◌, ◌-◌}
+use mathlib.Core.Path.{◌≡◌, refl, ◌∙◌, ap}
+use Rattle.octets.specs.Octets.{pick}
+use Rattle.config.specs.Table.{row_of, known_row}
+use Rattle.config.specs.Commands.{asked_in, unavailable_count}
+use Rattle.config.proofs.Lists.{at_most_one}
+use Rattle.config.proofs.get.unavailable_count.Reads as reads
+use Rattle.config.proofs.get.unavailable_count.Lts as lts
+use Rattle.config.proofs.table.row_of.Reads as row-of-reads
+use Rattle.octets.proofs.choose.Reads as choose-reads
+use Rattle.octets.proofs.octet_at.Reads as octet-at-reads
+use Rattle.config.proofs.get.unavailable_count.Goals as goal
+
+pub loop-i-init : goal.loop-i-init
+unfolding unavailable_count
+loop-i-init c = (omega arith, refl, omega arith)
+
+pub loop-i-preserved : goal.loop-i-preserved
+unfolding unavailable_count
+loop-i-preserved c =
+    let r = c in
+    let l = r in
+    let m = l.args.m.now in
+    let one : c.choose-one.result ≡ pick (known_row (row_of (asked_in m l.loop-i.i))) 0 1 = c.choose-one.ensures ∙ ap (λ x. pick (known_row x) 0 1) (r.row_of-r.ensures ∙ ap row_of r.octet_at.ensures) in (
+      omega arith,
+      rw (add-one l.loop-i.i) (λ k. l.loop-i.invariant.1 k + one k),
+      omega (arith, at_most_one (known_row (row_of (asked_in m l.loop-i.i)))),
+    )
+
+pub returns : goal.returns
+returns c =
+    let l = c in
+    let a = l.args in
+    let all : l.loop-i.i ≡ a.n = omega arith in
+    (l.loop-i.invariant.1 ∙ ap (unavailable_count a.m.now) all, omega arith)

@@ -1,0 +1,26 @@
+-- `config::set::list_end` meets its contract. The loop's invariant: at is where parameter i stands.
+use native.Mathlib.Omega.{arith}
+use native.Mathlib.Numerals.{add-one}
+use Prim.Native.Nat.{◌-◌}
+use mathlib.Core.Path.{◌≡◌, refl, ◌∙◌, ap}
+use Rattle.config.specs.Commands.{param_at}
+use Rattle.config.proofs.set.list_end.Reads as reads
+use Rattle.config.proofs.set.list_end.Lts as lts
+use Rattle.octets.proofs.octet_at.Reads as octet-at-reads
+use Rattle.config.proofs.set.list_end.Goals as goal
+
+pub loop-i-init : goal.loop-i-init
+unfolding param_at
+loop-i-init c = (omega arith, refl, omega arith)
+
+pub loop-i-preserved : goal.loop-i-preserved
+unfolding param_at
+loop-i-preserved c =
+    let l = c in (omega arith, rw (add-one l.loop-i.i, c.octet_at.ensures, l.loop-i.invariant.1), omega arith)
+
+pub returns : goal.returns
+returns c =
+    let l = c in
+    let a = l.args in
+    let all : l.loop-i.i ≡ a.n = omega arith in
+    l.loop-i.invariant.1 ∙ ap (param_at a.m.now) all

@@ -1,0 +1,34 @@
+-- `config::set::names_known` meets its contract. The loop's invariant: at is where parameter i stands, and found says whether one before it is known.
+use native.Mathlib.Omega.{arith}
+use native.Mathlib.Numerals.{add-one}
+use Prim.Native.Nat.{◌-◌}
+use mathlib.Core.Path.{◌≡◌, refl, ◌∙◌, ap}
+use Rattle.config.specs.Commands.{param_at, names_known}
+use Rattle.config.proofs.set.names_known.Reads as reads
+use Rattle.config.proofs.set.names_known.Lts as lts
+use Rattle.config.proofs.table.row_of.Reads as row-of-reads
+use Rattle.octets.proofs.octet_at.Reads as octet-at-reads
+use Rattle.config.proofs.set.names_known.Goals as goal
+
+pub loop-i-init : goal.loop-i-init
+unfolding param_at names_known
+loop-i-init c = (omega arith, refl, refl, omega arith)
+
+pub loop-i-preserved : goal.loop-i-preserved
+unfolding param_at names_known
+loop-i-preserved c =
+    let r = c in
+    let l = r in
+    let place = l.loop-i.invariant.2 in (
+      omega arith,
+      rw (add-one l.loop-i.i, r.row_of-r.ensures, r.octet_at.ensures, place, l.loop-i.invariant.1),
+      rw (add-one l.loop-i.i, c.octet_at-in-loop-i.ensures, place),
+      omega arith,
+    )
+
+pub returns : goal.returns
+returns c =
+    let l = c in
+    let a = l.args in
+    let all : l.loop-i.i ≡ a.n = omega arith in
+    l.loop-i.invariant.1 ∙ ap (names_known a.m.now) all

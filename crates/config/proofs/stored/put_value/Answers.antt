@@ -1,0 +1,23 @@
+-- `config::stored::put_value` meets its contract.
+use native.Mathlib.Omega.{arith}
+use mathlib.Core.Path.{◌∙◌, ap}
+use Rattle.config.specs.Stored.{form_of, zeroes, with_value}
+use Prim.Native.Nat.{◌+◌}
+use Rattle.config.proofs.Forms.{none_of}
+use Rattle.octets.specs.Octets.{splice}
+use Rattle.config.proofs.stored.put_value.Reads as reads
+use Rattle.config.proofs.stored.put_value.Lts as lts
+use Rattle.config.proofs.stored.lead.Reads as lead-reads
+use Rattle.config.proofs.stored.put_form.Reads as put-form-reads
+use Rattle.octets.proofs.put.Reads as put_reads
+use Rattle.config.proofs.stored.put_value.Goals as goal
+
+pub returns : goal.returns
+unfolding with_value zeroes
+returns c =
+    let form = c in
+    let put = form in
+    let l = put in
+    let start = l in
+    let a = start.args in
+    form.put_form.ensures ∙ ap (λ x. splice x a.r.at (form_of a.r a.v.now)) (put.put.ensures ∙ ap (splice a.b.now a.r.at) (none_of 16 _ _ (omega (arith, l.lead-before.ensures.upper_bound)) (ap (λ n. n + a.r.most) l.lead-before.ensures.value)))

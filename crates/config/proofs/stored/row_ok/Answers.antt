@@ -1,0 +1,30 @@
+-- `config::stored::row_ok` meets its contract.
+use borrow.Author.Tests.{le-leb, lt-leb}
+use Rattle.config.specs.Stored.{row_ok}
+use Rattle.config.proofs.stored.row_ok.Reads as reads
+use Rattle.config.proofs.stored.row_ok.Lts as lts
+use Rattle.config.proofs.stored.lead.Reads as lead-reads
+use Rattle.config.proofs.stored.size_in.Reads as size-in-reads
+use Rattle.config.proofs.stored.value_in.Reads as value-in-reads
+use Rattle.config.proofs.table.all_allowed.Reads as all-allowed-reads
+use Rattle.config.proofs.stored.row_ok.Goals as goal
+
+pub returns-then-n-r : goal.returns-then-n-r
+unfolding row_ok
+returns-then-n-r c =
+    let n = c.size_in-n.ensures in rw (← n, lt-leb _ _ c.if-n-r.true)
+
+pub returns-then-r-n : goal.returns-then-r-n
+unfolding row_ok
+returns-then-r-n c =
+    let n = c.size_in-n.ensures in rw (← n, le-leb _ _ c.if-n-r.false, lt-leb _ _ c.if-r-n.true)
+
+pub returns : goal.returns
+unfolding row_ok
+returns c =
+    let k = c in
+    let v = k in
+    let hi = v in
+    let lo = hi in
+    let n = lo.size_in-n.ensures in
+    rw (c.clear_past.ensures, c.all_allowed.ensures, v.value_in-v.ensures, k.lead.ensures.value, ← n, le-leb _ _ lo.if-n-r.false, le-leb _ _ hi.if-r-n.false)

@@ -1,0 +1,20 @@
+-- `config::stored::value_in` meets its contract.
+use Prim.Native.Nat.{◌+◌}
+use mathlib.Core.Path.{◌∙◌}
+use Rattle.octets.specs.Octets.{cut}
+use Rattle.config.specs.Stored.{value_in}
+use Rattle.config.proofs.stored.value_in.Reads as reads
+use Rattle.config.proofs.stored.value_in.Lts as lts
+use Rattle.config.proofs.stored.lead.Reads as lead-reads
+use Rattle.config.proofs.stored.size_in.Reads as size-in-reads
+use Rattle.octets.proofs.window.Reads as window-reads
+use Rattle.config.proofs.stored.value_in.Goals as goal
+
+pub returns : goal.returns
+unfolding value_in
+returns c =
+    let w = c in
+    let k = w in
+    let n = k.size_in-n.ensures in
+    let a = k.args in
+    c.window-2.ensures ∙ (λ i. cut 0 (n i) ((w.window.ensures ∙ (λ j. cut (a.r.at + k.lead-before.ensures.value j) a.r.most a.b.now)) i))

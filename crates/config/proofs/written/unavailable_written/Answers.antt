@@ -1,0 +1,36 @@
+-- `config::written::unavailable_written` meets its contract. The loop's invariant: ok says whether the first i entries are such.
+use native.Mathlib.Omega.{arith}
+use native.Mathlib.Numerals.{add-one}
+use Prim.Native.Nat.{◌-◌}
+use mathlib.Core.Path.{◌≡◌, refl, ◌∙◌, ap}
+use mathlib.Core.Bool.{◌&&◌, not}
+use lib.Dec.{eqb}
+use Rattle.config.specs.Table.{row_of, known_row}
+use Rattle.config.specs.Written.{unavailable_written}
+use Rattle.config.proofs.written.unavailable_written.Reads as reads
+use Rattle.config.proofs.written.unavailable_written.Lts as lts
+use Rattle.config.proofs.table.row_of.Reads as row-of-reads
+use Rattle.octets.proofs.octet_at.Reads as octet-at-reads
+use Rattle.config.proofs.written.unavailable_written.Goals as goal
+
+pub loop-i-init : goal.loop-i-init
+unfolding unavailable_written
+loop-i-init c = (omega arith, refl)
+
+pub loop-i-preserved : goal.loop-i-preserved
+unfolding unavailable_written
+loop-i-preserved c =
+    let none = c in
+    let r = none in
+    let l = r in
+    let row = r.row_of-r.ensures ∙ ap row_of r.octet_at.ensures in (
+      omega arith,
+      rw (add-one l.loop-i.i) (λ k. l.loop-i.invariant.1 k && (not (known_row (row k)) && eqb (none.octet_at-none.ensures k) 0x00)),
+    )
+
+pub returns : goal.returns
+returns c =
+    let l = c in
+    let a = l.args in
+    let all : l.loop-i.i ≡ a.n = omega arith in
+    l.loop-i.invariant.1 ∙ ap (unavailable_written a.m.now) all
