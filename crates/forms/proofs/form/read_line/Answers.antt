@@ -3,7 +3,6 @@ use mathlib.Core.Path.{◌≡◌, sym, ap, subst, ◌∙◌}
 use Prim.Native.Nat.{◌/◌}
 use mathlib.Core.Bool.{true}
 use native.Mathlib.Omega.{arith}
-use borrow.Author.Tests.{not-true, not-false}
 use lib.ListN.{length}
 use Rattle.octets.specs.Octets.{Octets, splice}
 use Rattle.octets.proofs.Octets.{splice_nil}
@@ -17,7 +16,7 @@ use Rattle.forms.proofs.form.read_line.Goals as goal
 pub returns-then-not-formed : goal.returns-then-not-formed
 returns-then-not-formed c =
     let line = c.args.line.now in
-    let unformed = sym c.formed.ensures ∙ not-true _ c.if-not-formed.true in
+    let unformed = sym c.formed.ensures ∙ c.if-not-formed.true in
     record {
       name = sym (unformed_asks line unformed);
       count = ap length (sym (unformed_args line unformed));
@@ -27,7 +26,7 @@ returns-then-not-formed c =
 pub decode-requires : goal.decode-requires
 decode-requires c =
     let line = c.args.line.now in
-    let good = sym c.formed.ensures ∙ not-false _ c.if-not-formed.false in
+    let good = sym c.formed.ensures ∙ c.if-not-formed.false in
     let digits = c.digits-2.ensures in (
       subst (λ (l : Octets). is_hex l ≡ true) (sym digits) (formed_hex line good),
       omega (arith, ap (λ (l : Octets). length (octets_in l)) digits, args_short line good),
@@ -37,7 +36,7 @@ pub returns-then-fits : goal.returns-then-fits
 returns-then-fits c =
     let a = c.args in
     let line = a.line.now in
-    let good = sym c.formed.ensures ∙ not-false _ c.if-not-formed.false in
+    let good = sym c.formed.ensures ∙ c.if-not-formed.false in
     let count =
     ap (λ (l : Octets). length l / 2) c.digits.ensures
     ∙ sym (length_octets (digits_in line))
@@ -54,7 +53,7 @@ pub returns : goal.returns
 returns c =
     let a = c.args in
     let line = a.line.now in
-    let good = sym c.formed.ensures ∙ not-false _ c.if-not-formed.false in
+    let good = sym c.formed.ensures ∙ c.if-not-formed.false in
     let count =
     ap (λ (l : Octets). length l / 2) c.digits.ensures
     ∙ sym (length_octets (digits_in line))

@@ -11,43 +11,43 @@ left-1 : (c : Else-same) → name_in c.args.word.now ≡ among (Power ∷ Comman
 left-1 c = others Fresh _ _ (sym c.same.ensures ∙ c.if-same.false)
 
 left-2 : (c : Else-same-2) → name_in c.args.word.now ≡ among (Command ∷ Send ∷ Push ∷ Down ∷ Consume ∷ Credit ∷ Air ∷ Reply ∷ Up ∷ Report ∷ Read ∷ Run ∷ []) c.args.word.now
-left-2 c = left-1 c ∙ others Power _ _ (sym c.same-else-same.ensures ∙ c.if-same-2.false)
+left-2 c = left-1 c.before.before.before.before ∙ others Power _ _ (sym c.same-else-same.ensures ∙ c.if-same-2.false)
 
 left-3 : (c : Else-same-3) → name_in c.args.word.now ≡ among (Send ∷ Push ∷ Down ∷ Consume ∷ Credit ∷ Air ∷ Reply ∷ Up ∷ Report ∷ Read ∷ Run ∷ []) c.args.word.now
-left-3 c = left-2 c ∙ others Command _ _ (sym c.same-else-same-2.ensures ∙ c.if-same-3.false)
+left-3 c = left-2 c.before.before.before.before ∙ others Command _ _ (sym c.same-else-same-2.ensures ∙ c.if-same-3.false)
 
 left-4 : (c : Else-same-4) → name_in c.args.word.now ≡ among (Push ∷ Down ∷ Consume ∷ Credit ∷ Air ∷ Reply ∷ Up ∷ Report ∷ Read ∷ Run ∷ []) c.args.word.now
-left-4 c = left-3 c ∙ others Send _ _ (sym c.same-else-same-3.ensures ∙ c.if-same-4.false)
+left-4 c = left-3 c.before.before.before.before ∙ others Send _ _ (sym c.same-else-same-3.ensures ∙ c.if-same-4.false)
 
 left-5 : (c : Else-same-5) → name_in c.args.word.now ≡ among (Down ∷ Consume ∷ Credit ∷ Air ∷ Reply ∷ Up ∷ Report ∷ Read ∷ Run ∷ []) c.args.word.now
-left-5 c = left-4 c ∙ others Push _ _ (sym c.same-else-same-4.ensures ∙ c.if-same-5.false)
+left-5 c = left-4 c.before.before.before.before ∙ others Push _ _ (sym c.same-else-same-4.ensures ∙ c.if-same-5.false)
 
 left-6 : (c : Else-same-6) → name_in c.args.word.now ≡ among (Consume ∷ Credit ∷ Air ∷ Reply ∷ Up ∷ Report ∷ Read ∷ Run ∷ []) c.args.word.now
-left-6 c = left-5 c ∙ others Down _ _ (sym c.same-else-same-5.ensures ∙ c.if-same-6.false)
+left-6 c = left-5 c.before.before.before.before ∙ others Down _ _ (sym c.same-else-same-5.ensures ∙ c.if-same-6.false)
 
 left-7 : (c : Else-same-7) → name_in c.args.word.now ≡ among (Credit ∷ Air ∷ Reply ∷ Up ∷ Report ∷ Read ∷ Run ∷ []) c.args.word.now
-left-7 c = left-6 c ∙ others Consume _ _ (sym c.same-else-same-6.ensures ∙ c.if-same-7.false)
+left-7 c = left-6 c.before.before.before.before ∙ others Consume _ _ (sym c.same-else-same-6.ensures ∙ c.if-same-7.false)
 
 left-8 : (c : Else-same-8) → name_in c.args.word.now ≡ among (Air ∷ Reply ∷ Up ∷ Report ∷ Read ∷ Run ∷ []) c.args.word.now
-left-8 c = left-7 c ∙ others Credit _ _ (sym c.same-else-same-7.ensures ∙ c.if-same-8.false)
+left-8 c = left-7 c.before.before.before.before ∙ others Credit _ _ (sym c.same-else-same-7.ensures ∙ c.if-same-8.false)
 
 left-9 : (c : Else-same-9) → name_in c.args.word.now ≡ among (Reply ∷ Up ∷ Report ∷ Read ∷ Run ∷ []) c.args.word.now
-left-9 c = left-8 c ∙ others Air _ _ (sym c.same-else-same-8.ensures ∙ c.if-same-9.false)
+left-9 c = left-8 c.before.before.before.before ∙ others Air _ _ (sym c.same-else-same-8.ensures ∙ c.if-same-9.false)
 
 left-10 : (c : Else-same-10) → name_in c.args.word.now ≡ among (Up ∷ Report ∷ Read ∷ Run ∷ []) c.args.word.now
-left-10 c = left-9 c ∙ others Reply _ _ (sym c.same-else-same-9.ensures ∙ c.if-same-10.false)
+left-10 c = left-9 c.before.before.before.before ∙ others Reply _ _ (sym c.same-else-same-9.ensures ∙ c.if-same-10.false)
 
 left-11 : (c : Else-same-11) → name_in c.args.word.now ≡ among (Report ∷ Read ∷ Run ∷ []) c.args.word.now
-left-11 c = left-10 c ∙ others Up _ _ (sym c.same-else-same-10.ensures ∙ c.if-same-11.false)
+left-11 c = left-10 c.before.before.before.before ∙ others Up _ _ (sym c.same-else-same-10.ensures ∙ c.if-same-11.false)
 
 left-12 : (c : Else-same-12) → name_in c.args.word.now ≡ among (Read ∷ Run ∷ []) c.args.word.now
-left-12 c = left-11 c ∙ others Report _ _ (sym c.same-else-same-11.ensures ∙ c.if-same-12.false)
+left-12 c = left-11 c.before.before.before.before ∙ others Report _ _ (sym c.same-else-same-11.ensures ∙ c.if-same-12.false)
 
 left-13 : (c : Else-same-13) → name_in c.args.word.now ≡ among (Run ∷ []) c.args.word.now
-left-13 c = left-12 c ∙ others Read _ _ (sym c.same-else-same-12.ensures ∙ c.if-same-13.false)
+left-13 c = left-12 c.before.before.before.before ∙ others Read _ _ (sym c.same-else-same-12.ensures ∙ c.if-same-13.false)
 
 left-14 : (c : Else-same-14) → name_in c.args.word.now ≡ among [] c.args.word.now
-left-14 c = left-13 c ∙ others Run _ _ (sym c.same-else-same-13.ensures ∙ c.if-same-14.false)
+left-14 c = left-13 c.before.before.before.before ∙ others Run _ _ (sym c.same-else-same-13.ensures ∙ c.if-same-14.false)
 
 pub returns-then-same : goal.returns-then-same
 returns-then-same c = sym (itself Fresh _ _ (sym c.same.ensures ∙ c.if-same.true))

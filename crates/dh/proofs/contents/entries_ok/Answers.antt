@@ -1,0 +1,23 @@
+-- `dh::contents::entries_ok` meets its contract. The loop's invariant: the answer so far is that of the entries passed.
+use Prim.Native.Nat.{◌-◌}
+use mathlib.Core.Path.{◌≡◌, refl, ◌∙◌}
+use native.Mathlib.Numerals.{add-one}
+use native.Mathlib.Omega.{arith}
+use borrow.Author.Rules.{rules}
+use Rattle.dh.specs.Contents.{entries_ok}
+use Rattle.dh.proofs.contents.entries_ok.Goals as goal
+
+pub loop-i-init : goal.loop-i-init
+unfolding entries_ok
+loop-i-init c = (search rules, refl)
+
+pub loop-i-preserved : goal.loop-i-preserved
+unfolding entries_ok
+loop-i-preserved c =
+    let h = c.loop-i in
+    (search rules, rw (add-one h.i, c.ascends-above.ensures, c.entry_ok-ok.ensures, h.invariant.1))
+
+pub returns : goal.returns
+returns c =
+    let all : c.loop-i.i ≡ c.args.n = omega arith in
+    c.loop-i.invariant.1 ∙ rw all

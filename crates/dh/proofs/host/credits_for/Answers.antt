@@ -1,0 +1,26 @@
+-- `dh::host::credits_for` meets its contract. The loop's invariant: the sum is that of the entries passed, and at most 255 for each.
+use Prim.Native.Nat.{◌-◌}
+use mathlib.Core.Path.{◌≡◌, refl, ◌∙◌}
+use native.Mathlib.Numerals.{add-one}
+use native.Mathlib.Omega.{arith}
+use borrow.Author.Rules.{rules}
+use Rattle.dh.specs.Host.{credits_in}
+use Rattle.dh.proofs.host.credits_for.Goals as goal
+
+pub loop-i-init : goal.loop-i-init
+unfolding credits_in
+loop-i-init c = (search rules, refl, search rules)
+
+pub loop-i-preserved : goal.loop-i-preserved
+unfolding credits_in
+loop-i-preserved c =
+    let h = c.loop-i in (
+      search rules,
+      rw (add-one h.i, c.entry_for-more.ensures, h.invariant.1),
+      search rules,
+    )
+
+pub returns : goal.returns
+returns c =
+    let all : c.loop-i.i ≡ c.octet_at-n.result = omega arith in
+    c.loop-i.invariant.1 ∙ rw (all, c.octet_at-n.ensures)

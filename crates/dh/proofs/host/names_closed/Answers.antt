@@ -1,0 +1,24 @@
+-- `dh::host::names_closed` meets its contract. The loop's invariant: the answer so far is that of the entries passed.
+use Prim.Native.Nat.{◌-◌}
+use mathlib.Core.Path.{◌≡◌, refl, ◌∙◌}
+use native.Mathlib.Numerals.{add-one}
+use native.Mathlib.Omega.{arith}
+use borrow.Author.Rules.{rules}
+use Rattle.state.specs.Conn.{held_open}
+use Rattle.dh.specs.Host.{names_closed}
+use Rattle.dh.proofs.host.names_closed.Goals as goal
+
+pub loop-i-init : goal.loop-i-init
+unfolding names_closed
+loop-i-init c = (search rules, refl)
+
+pub loop-i-preserved : goal.loop-i-preserved
+unfolding names_closed
+loop-i-preserved c =
+    let h = c.loop-i in
+    (search rules, rw (add-one h.i, c.held_open-opened.ensures, c.octet_at-id.ensures, h.invariant.1))
+
+pub returns : goal.returns
+returns c =
+    let all : c.loop-i.i ≡ c.args.n = omega arith in
+    c.loop-i.invariant.1 ∙ rw all

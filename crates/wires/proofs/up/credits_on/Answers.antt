@@ -1,0 +1,27 @@
+-- `wires::up::credits_on` meets its contract: no packet, what data carries, or what is inside.
+use mathlib.Core.Path.{sym, ◌∙◌}
+use Rattle.wires.specs.Counted.{credits_inside}
+use Rattle.wires.proofs.Counted.{counted_none, counted_data, counted_control}
+use Rattle.wires.proofs.up.credits_on.Goals as goal
+
+pub returns-in_default : goal.returns-in_default
+returns-in_default c =
+    let s = c.args.slot.now in
+    counted_none _ s (sym c.read-got.ensures ∙ c.in_default.is)
+
+pub returns-then-h-eq-DATA : goal.returns-then-h-eq-DATA
+returns-then-h-eq-DATA c =
+    let g = c in
+    let s = g.args.slot.now in
+    let h = g.in-Packet.h in
+    let n = g.in-Packet.n in
+    c.carried.ensures ∙ counted_data _ s h n (sym g.read-got.ensures ∙ g.in-Packet.is) c.if-h-eq-DATA.true
+
+pub returns : goal.returns
+returns c =
+    let g = c in
+    let a = g.args in
+    let h = g.in-Packet.h in
+    let n = g.in-Packet.n in
+    c.inside_credits.ensures ∙ (λ i. credits_inside a.conn (c.payload-m.ensures i) (c.inside_of-x.ensures i))
+    ∙ counted_control _ a.slot.now h n (sym g.read-got.ensures ∙ g.in-Packet.is) c.if-h-eq-DATA.false
