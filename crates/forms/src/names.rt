@@ -72,6 +72,7 @@ pub fn is_run(name: Name) -> bool
 }
 
 // The name that a word is.
+#[tactic(auto, unfolding(crate::specs::Names::among))]
 pub fn name_in(word: &[u8]) -> Name
     ensures { result ≡ name_in word.now }
 {
