@@ -1,0 +1,27 @@
+-- `call_consume::consume::deliver` meets its contract, by the test.
+use mathlib.Core.Path.{refl, ap, ◌∙◌}
+use native.Mathlib.Omega.{arith}
+use Rattle.area.specs.Map.{controller_run_at}
+use Rattle.octets.specs.Octets.{cut, splice}
+use Rattle.call_consume.proofs.consume.deliver.Goals as goal
+
+pub hand_out-requires : goal.hand_out-requires
+hand_out-requires c =
+    let s = c in
+    let few = s.requires.3 c.if-done.true in
+    (omega (arith, s.requires.1, few), omega (arith, s.requires.0, s.requires.2, few, c.place_of-place.ensures, c.controller_run_at-from.ensures))
+
+pub returns-then-done : goal.returns-then-done
+returns-then-done c =
+    let s = c in
+    rw c.if-done.true (
+      refl,
+      (
+        s.requires.3 c.if-done.true,
+        c.hand_out.ensures
+            ∙ (λ i. splice s.args.out.now 0 (cut ((c.controller_run_at-from.ensures ∙ ap controller_run_at c.place_of-place.ensures) i) s.args.len s.args.area.now)),
+      ),
+    )
+
+pub returns : goal.returns
+returns c = rw c.if-done.false (refl, (omega arith, refl))

@@ -1,0 +1,11 @@
+-- `call_controller::airing::notify` meets its contract: the slot is the first free one.
+use mathlib.Core.Path.{◌∙◌}
+use Rattle.octets.specs.Octets.{splice}
+use Rattle.calls.specs.calls.Air.{aired_packet}
+use Rattle.call_controller.proofs.airing.notify.Goals as goal
+
+pub returns : goal.returns
+returns c =
+    let s = c in
+    c.put_notice.ensures
+    ∙ (λ i. splice s.args.area.now (c.free_at-slot.ensures i) (aired_packet s.args.r s.args.m.now))

@@ -1,0 +1,12 @@
+-- `call_controller::credit::put` meets its contract: the slot is the first free one.
+use mathlib.Core.Path.{◌∙◌}
+use Rattle.octets.specs.Octets.{splice}
+use Rattle.messages.specs.Layout.{credits_message}
+use Rattle.messages.specs.Packets.{notice_packet}
+use Rattle.call_controller.proofs.credit.put.Goals as goal
+
+pub returns : goal.returns
+returns c =
+    let s = c in
+    c.put_notice.ensures
+    ∙ (λ i. splice s.args.area.now (c.free_at-slot.ensures i) (notice_packet (credits_message s.args.r.ends.conns)))

@@ -1,0 +1,12 @@
+-- `call_controller::reply::act` meets its contract: the packet, then the record.
+use Rattle.record.specs.Claims.{saved}
+use mathlib.Core.Path.{◌∙◌}
+use native.Mathlib.Omega.{arith}
+use Rattle.call_controller.proofs.reply.act.Goals as goal
+
+pub puts_up-requires : goal.puts_up-requires
+puts_up-requires c = omega arith
+
+pub returns : goal.returns
+returns c =
+    (c.puts_up.ensures, c.encode.ensures ∙ (λ i. saved (c.put.ensures i) (c.plan-next.ensures i)))

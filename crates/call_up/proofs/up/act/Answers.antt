@@ -1,0 +1,44 @@
+-- `call_up::up::act` meets its contract, by what the reader found.
+use Rattle.calls.specs.calls.Up.{read_up}
+use Rattle.calls.specs.Word.{word_telling}
+use Rattle.calls.specs.Outcome.{outcome, tells}
+use Rattle.calls.proofs.Words.{told_none, tells_by}
+use Rattle.area.proofs.Moves.{payload_few}
+use Rattle.area.specs.Map.{slot_size}
+use Rattle.packets.specs.Packet.{read_of}
+use Rattle.packets.specs.Reserved.{rfu_of, rfu_by}
+use Rattle.packets.specs.declared.Way.TheVariants.{Up}
+use Rattle.packets.specs.declared.Reading.{Reading}
+use Rattle.octets.specs.Octets.{cut}
+use mathlib.Core.Path.{◌≡◌, sym, ap, ◌∙◌}
+use Rattle.call_up.proofs.up.act.Goals as goal
+
+pub returns-in_default : goal.returns-in_default
+returns-in_default c =
+    let s = c in
+    let a = s.args.area.now in
+    let r = s.args.r in
+    let at = c.first_at-slot.ensures in
+    let e = (λ i. read_of (cut (sym at i) slot_size a)) ∙ sym c.read_slot-got.ensures ∙ c.in_default.is in
+    let out = s.args.out.now in
+    let d = c.discard.ensures in
+    (λ i. outcome ((d.0 ∙ sym (told_none 0)) i) (d.1 i) out) ∙ sym (ap (λ (x : Reading). tells (rfu_by Up x) (read_up r x a out)) e)
+
+pub take_packet-w-requires : goal.take_packet-w-requires
+take_packet-w-requires c =
+    let s = c in
+    let few = payload_few s.args.area.now c.first_at-slot.result c.in-Packet.h c.in-Packet.n (sym c.read_slot-got.ensures ∙ c.in-Packet.is) in
+    (s.requires.0, s.requires.1, s.requires.2, few)
+
+pub returns : goal.returns
+returns c =
+    let s = c in
+    let a = s.args.area.now in
+    let r = s.args.r in
+    let at = c.first_at-slot.ensures in
+    let e = (λ i. read_of (cut (sym at i) slot_size a)) ∙ sym c.read_slot-got.ensures ∙ c.in-Packet.is in
+    let h = c.in-Packet.h in
+    let out = s.args.out.now in
+    let bits : c.rfu.result ≡ rfu_of Up h = c.rfu.ensures in
+    let told = c.telling.ensures ∙ (λ i. word_telling (bits i) c.take_packet-w.result) in
+    tells_by (rfu_of Up h) told c.take_packet-w.ensures ∙ sym (ap (λ (x : Reading). tells (rfu_by Up x) (read_up r x a out)) e)

@@ -1,0 +1,18 @@
+-- `call_up::up::heed` meets its contract, by what both ends make of the message.
+use Rattle.calls.specs.calls.Up.{up_record}
+use Rattle.calls.specs.Word.{word_of}
+use Rattle.record.specs.Claims.{saved}
+use Rattle.area.specs.Map.{hearing_at}
+use Rattle.ends.specs.Steps.{heeded}
+use Rattle.octets.proofs.Octets.{cut_part}
+use mathlib.Core.Bool.{false}
+use mathlib.Core.Path.{◌∙◌}
+use Rattle.call_up.proofs.up.heed.Goals as goal
+
+pub returns : goal.returns
+returns c =
+    let s = c in
+    let a = s.args.area.now in
+    let h = s.args.h in
+    let d = c.heed-d.ensures ∙ (λ i. heeded s.args.ends h.mt h.id h.oid (cut_part hearing_at s.args.len a i)) in
+    (c.quiet.ensures ∙ (λ i. word_of (d i).dropped false 0 0 0), c.leave.ensures ∙ (λ i. saved a (up_record s.args.r (d i).next)))
