@@ -22,5 +22,5 @@ take-requires c =
 pub returns : goal.returns
 returns c =
     let s = c.args in
-    subst (λ (x : Reading). outcome c.take.result c.take.new.area c.take.new.1.0 ≡ consumed_by s.r s.conn x s.area.now s.out.now)
+    subst (λ (x : Reading). outcome c.take.result c.take.new.area c.take.new.out ≡ consumed_by s.r s.conn x s.area.now s.out.now)
     (sym (sym c.read-got.ensures ∙ c.in-Packet.is)) c.take.ensures

@@ -14,14 +14,13 @@ hand_out-requires c =
 pub returns-then-done : goal.returns-then-done
 returns-then-done c =
     let s = c in
-    rw c.if-done.true (
-      refl,
-      (
-        s.requires.3 c.if-done.true,
-        c.hand_out.ensures
-            ∙ (λ i. splice s.args.out.now 0 (cut ((c.controller_run_at-from.ensures ∙ ap controller_run_at c.place_of-place.ensures) i) s.args.len s.args.area.now)),
-      ),
-    )
+    rw c.if-done.true record {
+      length = refl;
+      short = s.requires.3 c.if-done.true;
+      octets =
+          c.hand_out.ensures
+          ∙ (λ i. splice s.args.out.now 0 (cut ((c.controller_run_at-from.ensures ∙ ap controller_run_at c.place_of-place.ensures) i) s.args.len s.args.area.now));
+    }
 
 pub returns : goal.returns
-returns c = rw c.if-done.false (refl, (omega arith, refl))
+returns c = rw c.if-done.false record { length = refl; short = omega arith; octets = refl }

@@ -27,7 +27,7 @@ deliver-len-requires c =
 pub leave-requires : goal.leave-requires
 leave-requires c =
     let s = c in
-    (search rules, s.requires.2, c.deliver-len.ensures.short.0)
+    (search rules, s.requires.2, c.deliver-len.ensures.short)
 
 pub returns : goal.returns
 returns c =
@@ -37,6 +37,6 @@ returns c =
     let grown = c.join in
     let handed = c.deliver-len.ensures in
     let left = c.leave.ensures in
-    consumed_parts s.r s.conn join.result _ _ _ grown.new.0 _ s.out.now _ left.0 handed.0 left.1 handed.1.1
+    consumed_parts s.r s.conn join.result _ _ _ grown.new.area _ s.out.now _ left.0 handed.length left.1 handed.octets
     ∙ (λ i.
     consumed_as s.r s.conn ((join.ensures ∙ (λ k. joined_of message_size (side k).run s.more s.n)) i) ((side i).run.len + s.n) (grown.ensures i) s.out.now)
