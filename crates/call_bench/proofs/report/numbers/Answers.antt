@@ -21,11 +21,6 @@ overflow_cast-credits c =
     let s = c in
     omega (arith, c.credits_up-credits.ensures, up_octet s.args.area.now s.args.r s.args.conn s.requires.1)
 
--- ? overflow-cast-t16
--- cast-t16 c =
---     let s = c.before.before.before.before.before.before.before.before.before.before.before in
---     let few = subst (λ (k : Counts). k.controller.store.count ≤ store_slots) (sym c.before.before.before.before.before.before.before.Counts-of.ensures) s.requires.1.counts.store.count in
---     omega (arith, few)
 
 pub returns : goal.returns
 returns c =

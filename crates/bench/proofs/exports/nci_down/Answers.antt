@@ -1,0 +1,66 @@
+-- `bench::exports::nci_down` meets its contract: not entered, refused, or taken.
+use Rattle.views.specs.Moves.{Sound}
+use Rattle.state.specs.declared.kinds.Record.{Record}
+use Rattle.model.specs.calls.Down.{down_rules}
+use Rattle.calls.specs.calls.Down.{downed, down_call}
+use Rattle.calls.proofs.Able.{down_able}
+use mathlib.Core.Path.{subst}
+use Rattle.record.specs.Fit.{Fit}
+use mathlib.Core.Path.{refl, sym, ◌∙◌}
+use lib.ListN.{length}
+use Rattle.views.specs.View.{view}
+use Rattle.calls.specs.Outcome.{lowest}
+use Rattle.calls.proofs.Called.{entered, called_unentered, called_refused, called_taken}
+use borrow.Author.Rules.{rules}
+use Rattle.bench.proofs.exports.nci_down.Goals as goal
+
+pub returns-then-entry-ne0 : goal.returns-then-entry-ne0
+unfolding down_call
+returns-then-entry-ne0 c =
+    let s = c in
+    called_unentered _ _ s.args.area.now s.args.out.now c.enter-l.result.answer c.enter-l.ensures.answer c.if-entry-ne0.true
+
+pub refusal-n-requires : goal.refusal-n-requires
+refusal-n-requires c =
+    let s = c in
+    let e = c.enter-l.ensures in
+    let z = c.if-entry-ne0.false in
+    let x = entered s.args.area.now (length s.args.out.now) (sym z ∙ e.answer) in
+    (subst Fit (sym (e.loads z)) x.sound.fit).down
+
+pub returns-then-n-ne0 : goal.returns-then-n-ne0
+unfolding down_call
+returns-then-n-ne0 c =
+    let s = c in
+    let a = s.args.area.now in
+    let out = s.args.out.now in
+    let e = c.enter-l.ensures in
+    let same = e.loads c.if-entry-ne0.false in
+    let n = c.refusal-n.ensures ∙ (λ i. lowest (down_rules (view a (same i)))) in
+    called_refused _ _ a out (sym c.if-entry-ne0.false ∙ e.answer) c.refusal-n.result n c.if-n-ne0.true
+
+pub act-requires : goal.act-requires
+act-requires c =
+    let s = c in
+    let a = s.args.area.now in
+    let out = s.args.out.now in
+    let e = c.enter-l.ensures in
+    let z = c.if-entry-ne0.false in
+    let x = entered a (length out) (sym z ∙ e.answer) in
+    let r = c.enter-l.result.«record» in
+    let fit = subst Fit (sym (e.loads z)) x.sound.fit in
+    (x.long, down_able a r (subst (λ (r : Record). Sound a r) (sym (e.loads z)) x.sound) (sym c.if-n-ne0.false ∙ c.refusal-n.ensures))
+
+pub returns : goal.returns
+unfolding down_call
+returns c =
+    let s = c in
+    let a = s.args.area.now in
+    let out = s.args.out.now in
+    let e = c.enter-l.ensures in
+    let z = c.if-entry-ne0.false in
+    let same = e.loads z in
+    let none = sym c.if-n-ne0.false ∙ c.refusal-n.ensures ∙ (λ i. lowest (down_rules (view a (same i)))) in
+    c.act.ensures out
+    ∙ (λ i. downed (same i) a out)
+    ∙ called_taken _ _ a out (sym z ∙ e.answer) refl none
