@@ -7,7 +7,6 @@ use native.Mathlib.Omega.{arith}
 use borrow.Author.Tests.{lt-ltb, le-ltb, ltb-true, ltb-false}
 use lib.ListN.{length, take, drop, length-drop}
 use lib.Seq.{take_all}
-use lib.Dec.{ltb}
 use Rattle.octets.specs.Octets.{Octets, pick, cut}
 use Rattle.ascii.specs.Words.{up_to}
 use Rattle.ascii.specs.Writing.{Wrote}

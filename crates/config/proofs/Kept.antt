@@ -10,7 +10,7 @@ use lib.ListN.{length, get_or, take, drop}
 use lib.Seq.{take-length, drop-cons}
 use lib.Dec.{eqb, leb}
 use borrow.Author.Tests.{eq-eqb, ne_eqb, leb-true}
-use Rattle.octets.specs.Octets.{Octets, pick, cut, splice}
+use Rattle.octets.specs.Octets.{Octets, pick, cut}
 use Rattle.octets.proofs.Octets.{length_splice, octet_cut, cut_same, cut_before, cut_after, cut_cut}
 use Rattle.config.specs.declared.table.Row.{Row}
 use Rattle.config.specs.Table.{row, table, row_of, known_row, allowed_by, all_allowed, acceptable}

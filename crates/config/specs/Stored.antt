@@ -3,7 +3,7 @@
 use Rattle.std.specs.Prelude.{ℕ, zero, suc, ◌+◌, ◌-◌, Bool, true, ◌&&◌, List, [], ◌∷◌, length, get_or, eqb, leb}
 use Rattle.octets.specs.Octets.{Octets, pick, cut, splice}
 use Rattle.config.specs.declared.table.Row.{Row}
-use Rattle.config.specs.Table.{table, row_at, row_count, default_of, all_allowed}
+use Rattle.config.specs.Table.{row_at, row_count, default_of, all_allowed}
 
 abbrev pub is_fixed : Row → Bool
 is_fixed r = eqb r.least r.most

@@ -1,6 +1,5 @@
 -- `packets::write_segment` meets its contract: the window is the segment's body, and what follows is its flag.
 use Rattle.octets.specs.Octets.{cut}
-use Rattle.packets.specs.Segments.{body, flag}
 use Rattle.packets.proofs.Segments.{flag_segment, body_segment}
 use Rattle.packets.proofs.write_segment.Goals as goal
 

@@ -1,5 +1,5 @@
 -- `area::movers::clear` meets its contract. The loop's invariant: the area is what it was with i zeros over its front.
-use Prim.Native.Nat.{ℕ, ◌-◌}
+use Prim.Native.Nat.{ℕ}
 use mathlib.Core.Path.{◌≡◌, sym, ap, ◌∙◌}
 use mathlib.Core.List.{List}
 use native.Mathlib.Numerals.{add-one}

@@ -1,6 +1,6 @@
 -- `area::movers::put_all` meets its contract. The loop's invariant: what is still to be put, from here on, makes the whole; and as many
 -- segments are left as the ring has not taken yet.
-use Prim.Native.Nat.{suc, ◌+◌, ◌-◌, ◌≤◌}
+use Prim.Native.Nat.{suc, ◌+◌, ◌≤◌}
 use mathlib.Core.Path.{◌≡◌, refl, ap, ◌∙◌}
 use native.Mathlib.Omega.{arith}
 use lib.ListN.{length, drop}

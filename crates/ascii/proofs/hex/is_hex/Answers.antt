@@ -1,12 +1,11 @@
 -- `ascii::hex::is_hex` meets its contract. The characters that are left decide.
-use Prim.Native.Nat.{ℕ, suc, ◌-◌, ◌≤◌, ◌<◌}
+use Prim.Native.Nat.{ℕ, suc, ◌≤◌, ◌<◌}
 use mathlib.Core.Path.{sym, ap, ◌∙◌}
 use mathlib.Core.Bool.{Bool, ◌&&◌}
 use native.Mathlib.Omega.{arith}
 use native.Mathlib.Numerals.{add-one}
 use borrow.Author.Tests.{eq-eqb, ne_eqb, lt-ltb, le-ltb}
-use lib.ListN.{length, drop, get_or, drop_of_length-le}
-use lib.Dec.{ltb, eqb}
+use lib.ListN.{drop, get_or, drop_of_length-le}
 use Rattle.ascii.specs.Digits.{value_of, all_digits, is_hex}
 use Rattle.ascii.proofs.Digits.{digits_turn}
 use Rattle.ascii.proofs.hex.is_hex.Goals as goal

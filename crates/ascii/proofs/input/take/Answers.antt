@@ -2,8 +2,6 @@
 use native.Mathlib.Omega.{arith}
 use Rattle.ascii.proofs.Taking.{taken_short, takes_line, takes_piece}
 use Rattle.ascii.proofs.Writing.{wrote_text}
-use Prim.Native.Nat.{◌-◌}
-use lib.ListN.{take}
 use Rattle.ascii.proofs.input.take.Goals as goal
 
 pub returns-then-n-rest : goal.returns-then-n-rest

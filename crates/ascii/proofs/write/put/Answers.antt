@@ -1,6 +1,5 @@
 -- `ascii::write::put` meets its contract: what there is room for, or all.
 use Rattle.ascii.proofs.Writing.{wrote_front}
-use Prim.Native.Nat.{◌-◌}
 use Rattle.ascii.proofs.write.put.Goals as goal
 
 pub returns-then-room-text : goal.returns-then-room-text

@@ -1,9 +1,9 @@
 -- `ascii::write::put_octets` meets its contract. The invariant: the digits of the first i octets are written.
-use Prim.Native.Nat.{ℕ, suc, ◌+◌, ◌-◌}
+use Prim.Native.Nat.{ℕ, ◌+◌}
 use mathlib.Core.Path.{◌≡◌, sym, ap, ◌∙◌}
 use native.Mathlib.Omega.{arith}
 use native.Mathlib.Numerals.{add-one}
-use lib.ListN.{length, take, get_or}
+use lib.ListN.{take, get_or}
 use lib.Seq.{take-suc, take_all}
 use mathlib.Core.List.{[], ◌∷◌, ◌++◌}
 use Rattle.ascii.specs.Digits.{hex_of}

@@ -1,7 +1,7 @@
 -- `config::get::all_shown` meets its contract. The loop's invariant: the first i are written, up to index to.
 use native.Mathlib.Omega.{arith}
 use native.Mathlib.Numerals.{add-one}
-use Prim.Native.Nat.{suc, ◌+◌, ◌≤◌, ◌-◌}
+use Prim.Native.Nat.{suc, ◌+◌, ◌≤◌}
 use mathlib.Core.Path.{◌≡◌, refl, sym, ◌∙◌, ap}
 use lib.ListN.{length}
 use lib.ListN.{length-append}
@@ -9,10 +9,6 @@ use Rattle.octets.specs.Octets.{splice}
 use Rattle.octets.proofs.Octets.{splice_nil, length_splice}
 use Rattle.config.specs.Commands.{asked_in, shown_one, shown_in}
 use Rattle.config.proofs.Lists.{grown, shown_grows}
-use Rattle.config.proofs.get.all_shown.Reads as reads
-use Rattle.config.proofs.get.all_shown.Lts as lts
-use Rattle.config.proofs.get.put_shown.Reads as put-shown-reads
-use Rattle.octets.proofs.octet_at.Reads as octet-at-reads
 use Rattle.config.proofs.get.all_shown.Goals as goal
 
 pub loop-i-init : goal.loop-i-init

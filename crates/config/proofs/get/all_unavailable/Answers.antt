@@ -1,7 +1,7 @@
 -- `config::get::all_unavailable` meets its contract. The loop's invariant: those of the first i that are not known are written, up to index to.
 use native.Mathlib.Omega.{arith}
 use native.Mathlib.Numerals.{add-one}
-use Prim.Native.Nat.{suc, ◌+◌, ◌≤◌, ◌-◌}
+use Prim.Native.Nat.{suc, ◌+◌, ◌≤◌}
 use mathlib.Core.Path.{◌≡◌, refl, sym, ◌∙◌, ap}
 use lib.ListN.{length}
 use lib.ListN.{length-append}
@@ -9,10 +9,6 @@ use Rattle.octets.specs.Octets.{splice}
 use Rattle.octets.proofs.Octets.{splice_nil, length_splice}
 use Rattle.config.specs.Commands.{asked_in, unavailable_one, unavailable_in}
 use Rattle.config.proofs.Lists.{grown, unavailable_grows}
-use Rattle.config.proofs.get.all_unavailable.Reads as reads
-use Rattle.config.proofs.get.all_unavailable.Lts as lts
-use Rattle.config.proofs.get.put_unavailable.Reads as put-unavailable-reads
-use Rattle.octets.proofs.octet_at.Reads as octet-at-reads
 use Rattle.config.proofs.get.all_unavailable.Goals as goal
 
 pub loop-i-init : goal.loop-i-init

@@ -4,10 +4,6 @@ use mathlib.Core.Path.{◌≡◌}
 use lib.ListN.{length}
 use Rattle.octets.specs.Octets.{splice}
 use Rattle.config.specs.Commands.{unavailable_in}
-use Rattle.config.proofs.get.all_unavailable.Reads as reads
-use Rattle.config.proofs.get.all_unavailable.Lts as lts
-use Rattle.config.proofs.get.put_unavailable.Reads as put-unavailable-reads
-use Rattle.octets.proofs.octet_at.Reads as octet-at-reads
 use Rattle.config.proofs.get.all_unavailable.Given as goal
 
 abbrev pub invariant-loop-i : goal.invariant-loop-i

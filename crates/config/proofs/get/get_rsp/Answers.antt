@@ -6,14 +6,6 @@ use lib.ListN.{length, set}
 use Rattle.octets.specs.Octets.{splice}
 use Rattle.config.specs.Commands.{count_in, shown_in, unavailable_in, unavailable_count}
 use Rattle.config.proofs.Lists.{ahead_two, unavailable_twice, get_ok, get_long, get_unavailable, get_unavailable_long}
-use Rattle.config.proofs.get.get_rsp.Reads as reads
-use Rattle.config.proofs.get.get_rsp.Lts as lts
-use Rattle.config.proofs.get.all_unavailable.Reads as all-unavailable-reads
-use Rattle.config.proofs.get.all_shown.Reads as all-shown-reads
-use Rattle.config.proofs.get.alone.Reads as alone-reads
-use Rattle.config.proofs.get.unavailable_count.Reads as unavailable-count-reads
-use Rattle.config.proofs.get.shown_size.Reads as shown-size-reads
-use Rattle.octets.proofs.octet_at.Reads as octet-at-reads
 use Rattle.config.proofs.get.get_rsp.Goals as goal
 
 two_more : (n : ℕ) → 2 + n ≡ suc (suc n)

@@ -1,7 +1,7 @@
 -- `config::get::put_shown` meets its contract.
 -- the value that is written
 use native.Mathlib.Omega.{arith}
-use Prim.Native.Nat.{◌+◌, ◌-◌}
+use Prim.Native.Nat.{◌+◌}
 use mathlib.Core.Path.{◌≡◌, ◌∙◌, ap}
 use lib.ListN.{length}
 use mathlib.Core.List.{[], ◌∷◌}
@@ -11,11 +11,6 @@ use Rattle.config.specs.Table.{row_of}
 use Rattle.config.specs.Stored.{value_in}
 use Rattle.config.proofs.Rows.{found_fits}
 use Rattle.config.proofs.Lists.{value_short}
-use Rattle.config.proofs.get.put_shown.Reads as reads
-use Rattle.config.proofs.get.put_shown.Lts as lts
-use Rattle.config.proofs.stored.value_in.Reads as value-in-reads
-use Rattle.config.proofs.table.row_of.Reads as row-of-reads
-use Rattle.octets.proofs.put.Reads as put_reads
 use Rattle.config.proofs.get.put_shown.Goals as goal
 use Rattle.config.proofs.get.put_shown.Goals.{After-value_in-v}
 

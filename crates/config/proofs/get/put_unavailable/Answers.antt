@@ -1,13 +1,8 @@
 -- `config::get::put_unavailable` meets its contract.
 use native.Mathlib.Omega.{arith}
-use Prim.Native.Nat.{◌-◌}
 use mathlib.Core.Path.{refl, sym}
 use borrow.Author.Tests.{le-leb, lt-leb}
 use Rattle.octets.proofs.Octets.{splice_nil}
-use Rattle.config.proofs.get.put_unavailable.Reads as reads
-use Rattle.config.proofs.get.put_unavailable.Lts as lts
-use Rattle.config.proofs.table.row_of.Reads as row-of-reads
-use Rattle.octets.proofs.put.Reads as put_reads
 use Rattle.config.proofs.get.put_unavailable.Goals as goal
 
 pub returns-then-r : goal.returns-then-r

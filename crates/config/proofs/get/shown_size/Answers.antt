@@ -1,7 +1,7 @@
 -- `config::get::shown_size` meets its contract. The loop's invariant: size is how many octets the first i take.
 use native.Mathlib.Omega.{arith}
 use native.Mathlib.Numerals.{add-one}
-use Prim.Native.Nat.{◌≤◌, ◌-◌}
+use Prim.Native.Nat.{◌≤◌}
 use mathlib.Core.Path.{◌≡◌, refl, ◌∙◌, ap}
 use lib.ListN.{length}
 use lib.ListN.{length-append}
@@ -10,11 +10,6 @@ use Rattle.config.specs.Stored.{value_in}
 use Rattle.config.specs.Commands.{asked_in, shown_one, shown_in}
 use Rattle.config.proofs.Rows.{found_fits}
 use Rattle.config.proofs.Lists.{value_short}
-use Rattle.config.proofs.get.shown_size.Reads as reads
-use Rattle.config.proofs.get.shown_size.Lts as lts
-use Rattle.config.proofs.stored.value_in.Reads as value-in-reads
-use Rattle.config.proofs.table.row_of.Reads as row-of-reads
-use Rattle.octets.proofs.octet_at.Reads as octet-at-reads
 use Rattle.config.proofs.get.shown_size.Goals as goal
 use Rattle.config.proofs.get.shown_size.Goals.{After-value_in-v}
 

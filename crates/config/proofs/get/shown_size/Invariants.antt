@@ -3,11 +3,6 @@ use Prim.Native.Nat.{◌*◌, ◌≤◌, ◌-◌}
 use mathlib.Core.Path.{◌≡◌}
 use lib.ListN.{length}
 use Rattle.config.specs.Commands.{shown_in}
-use Rattle.config.proofs.get.shown_size.Reads as reads
-use Rattle.config.proofs.get.shown_size.Lts as lts
-use Rattle.config.proofs.stored.value_in.Reads as value-in-reads
-use Rattle.config.proofs.table.row_of.Reads as row-of-reads
-use Rattle.octets.proofs.octet_at.Reads as octet-at-reads
 use Rattle.config.proofs.get.shown_size.Given as goal
 
 abbrev pub invariant-loop-i : goal.invariant-loop-i

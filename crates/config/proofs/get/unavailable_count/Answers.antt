@@ -1,17 +1,12 @@
 -- `config::get::unavailable_count` meets its contract. The loop's invariant: unavailable is how many of the first i are not known.
 use native.Mathlib.Omega.{arith}
 use native.Mathlib.Numerals.{add-one}
-use Prim.Native.Nat.{◌+◌, ◌-◌}
+use Prim.Native.Nat.{◌+◌}
 use mathlib.Core.Path.{◌≡◌, refl, ◌∙◌, ap}
 use Rattle.octets.specs.Octets.{pick}
 use Rattle.config.specs.Table.{row_of, known_row}
 use Rattle.config.specs.Commands.{asked_in, unavailable_count}
 use Rattle.config.proofs.Lists.{at_most_one}
-use Rattle.config.proofs.get.unavailable_count.Reads as reads
-use Rattle.config.proofs.get.unavailable_count.Lts as lts
-use Rattle.config.proofs.table.row_of.Reads as row-of-reads
-use Rattle.octets.proofs.choose.Reads as choose-reads
-use Rattle.octets.proofs.octet_at.Reads as octet-at-reads
 use Rattle.config.proofs.get.unavailable_count.Goals as goal
 
 pub loop-i-init : goal.loop-i-init

@@ -2,11 +2,6 @@
 use Prim.Native.Nat.{◌≤◌, ◌-◌}
 use mathlib.Core.Path.{◌≡◌}
 use Rattle.config.specs.Commands.{unavailable_count}
-use Rattle.config.proofs.get.unavailable_count.Reads as reads
-use Rattle.config.proofs.get.unavailable_count.Lts as lts
-use Rattle.config.proofs.table.row_of.Reads as row-of-reads
-use Rattle.octets.proofs.choose.Reads as choose-reads
-use Rattle.octets.proofs.octet_at.Reads as octet-at-reads
 use Rattle.config.proofs.get.unavailable_count.Given as goal
 
 abbrev pub invariant-loop-i : goal.invariant-loop-i

@@ -1,10 +1,6 @@
 -- `config::set::is_accepted` meets its contract.
 use mathlib.Core.Path.{sym, ◌∙◌}
 use Rattle.config.proofs.Lists.{accepted_empty, accepted_full}
-use Rattle.config.proofs.set.is_accepted.Reads as reads
-use Rattle.config.proofs.set.is_accepted.Lts as lts
-use Rattle.config.proofs.table.acceptable.Reads as acceptable-reads
-use Rattle.config.proofs.table.row_of.Reads as row-of-reads
 use Rattle.config.proofs.set.is_accepted.Goals as goal
 
 pub returns-then-v-eq0 : goal.returns-then-v-eq0

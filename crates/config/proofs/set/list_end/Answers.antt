@@ -1,12 +1,8 @@
 -- `config::set::list_end` meets its contract. The loop's invariant: at is where parameter i stands.
 use native.Mathlib.Omega.{arith}
 use native.Mathlib.Numerals.{add-one}
-use Prim.Native.Nat.{◌-◌}
 use mathlib.Core.Path.{◌≡◌, refl, ◌∙◌, ap}
 use Rattle.config.specs.Commands.{param_at}
-use Rattle.config.proofs.set.list_end.Reads as reads
-use Rattle.config.proofs.set.list_end.Lts as lts
-use Rattle.octets.proofs.octet_at.Reads as octet-at-reads
 use Rattle.config.proofs.set.list_end.Goals as goal
 
 pub loop-i-init : goal.loop-i-init

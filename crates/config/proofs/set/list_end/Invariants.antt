@@ -2,9 +2,6 @@
 use Prim.Native.Nat.{◌+◌, ◌*◌, ◌≤◌, ◌-◌}
 use mathlib.Core.Path.{◌≡◌}
 use Rattle.config.specs.Commands.{param_at}
-use Rattle.config.proofs.set.list_end.Reads as reads
-use Rattle.config.proofs.set.list_end.Lts as lts
-use Rattle.octets.proofs.octet_at.Reads as octet-at-reads
 use Rattle.config.proofs.set.list_end.Given as goal
 
 abbrev pub invariant-loop-i : goal.invariant-loop-i

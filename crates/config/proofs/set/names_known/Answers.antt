@@ -1,13 +1,8 @@
 -- `config::set::names_known` meets its contract. The loop's invariant: at is where parameter i stands, and found says whether one before it is known.
 use native.Mathlib.Omega.{arith}
 use native.Mathlib.Numerals.{add-one}
-use Prim.Native.Nat.{◌-◌}
 use mathlib.Core.Path.{◌≡◌, refl, ◌∙◌, ap}
 use Rattle.config.specs.Commands.{param_at, names_known}
-use Rattle.config.proofs.set.names_known.Reads as reads
-use Rattle.config.proofs.set.names_known.Lts as lts
-use Rattle.config.proofs.table.row_of.Reads as row-of-reads
-use Rattle.octets.proofs.octet_at.Reads as octet-at-reads
 use Rattle.config.proofs.set.names_known.Goals as goal
 
 pub loop-i-init : goal.loop-i-init

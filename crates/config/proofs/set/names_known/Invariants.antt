@@ -2,10 +2,6 @@
 use Prim.Native.Nat.{◌+◌, ◌*◌, ◌≤◌, ◌-◌}
 use mathlib.Core.Path.{◌≡◌}
 use Rattle.config.specs.Commands.{param_at, names_known}
-use Rattle.config.proofs.set.names_known.Reads as reads
-use Rattle.config.proofs.set.names_known.Lts as lts
-use Rattle.config.proofs.table.row_of.Reads as row-of-reads
-use Rattle.octets.proofs.octet_at.Reads as octet-at-reads
 use Rattle.config.proofs.set.names_known.Given as goal
 
 abbrev pub invariant-loop-i : goal.invariant-loop-i

@@ -1,8 +1,5 @@
 -- `config::set::put_default` meets its contract.
 use borrow.Author.Tests.{eq-eqb, ne_eqb}
-use Rattle.config.proofs.set.put_default.Reads as reads
-use Rattle.config.proofs.set.put_default.Lts as lts
-use Rattle.config.proofs.stored.put_value.Reads as put-value-reads
 use Rattle.config.proofs.set.put_default.Goals as goal
 
 pub returns-then-r-eq0 : goal.returns-then-r-eq0

@@ -2,9 +2,6 @@
 use native.Mathlib.Omega.{arith}
 use mathlib.Core.Path.{refl, sym}
 use Rattle.octets.proofs.Octets.{splice_nil}
-use Rattle.config.proofs.set.put_id.Reads as reads
-use Rattle.config.proofs.set.put_id.Lts as lts
-use Rattle.octets.proofs.put.Reads as put_reads
 use Rattle.config.proofs.set.put_id.Goals as goal
 
 pub returns-then-ok : goal.returns-then-ok

@@ -1,16 +1,10 @@
 -- `config::set::set_all` meets its contract. The loop's invariant: at is where parameter i stands, and those before it are set.
 use native.Mathlib.Omega.{arith}
 use native.Mathlib.Numerals.{add-one}
-use Prim.Native.Nat.{◌-◌}
 use mathlib.Core.Path.{◌≡◌, refl, ◌∙◌, ap}
 use lib.ListN.{length}
 use Rattle.config.specs.Commands.{param_at, set_one, set_first}
 use Rattle.config.proofs.Lists.{id_read, param_read, set_long}
-use Rattle.config.proofs.set.set_all.Reads as reads
-use Rattle.config.proofs.set.set_all.Lts as lts
-use Rattle.config.proofs.set.set_one.Reads as set-one-reads
-use Rattle.octets.proofs.octet_at.Reads as octet-at-reads
-use Rattle.octets.proofs.window.Reads as window-reads
 use Rattle.config.proofs.set.set_all.Goals as goal
 
 pub loop-i-init : goal.loop-i-init

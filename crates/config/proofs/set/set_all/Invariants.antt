@@ -2,11 +2,6 @@
 use Prim.Native.Nat.{◌+◌, ◌*◌, ◌≤◌, ◌-◌}
 use mathlib.Core.Path.{◌≡◌}
 use Rattle.config.specs.Commands.{param_at, set_first}
-use Rattle.config.proofs.set.set_all.Reads as reads
-use Rattle.config.proofs.set.set_all.Lts as lts
-use Rattle.config.proofs.set.set_one.Reads as set-one-reads
-use Rattle.octets.proofs.octet_at.Reads as octet-at-reads
-use Rattle.octets.proofs.window.Reads as window-reads
 use Rattle.config.proofs.set.set_all.Given as goal
 
 abbrev pub invariant-loop-i : goal.invariant-loop-i

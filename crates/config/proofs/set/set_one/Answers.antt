@@ -7,12 +7,6 @@ use Rattle.config.specs.Table.{acceptable, default_of}
 use Rattle.config.specs.Stored.{with_value}
 use Rattle.config.proofs.Rows.{found_fits, found_short}
 use Rattle.config.proofs.Lists.{acceptable_short, set_default, set_unknown, set_value, set_invalid}
-use Rattle.config.proofs.set.set_one.Reads as reads
-use Rattle.config.proofs.set.set_one.Lts as lts
-use Rattle.config.proofs.stored.put_value.Reads as put-value-reads
-use Rattle.config.proofs.set.put_default.Reads as put-default-reads
-use Rattle.config.proofs.table.acceptable.Reads as acceptable-reads
-use Rattle.config.proofs.table.row_of.Reads as row-of-reads
 use Rattle.config.proofs.set.set_one.Goals as goal
 
 pub put_default-requires : goal.put_default-requires

@@ -10,13 +10,6 @@ use Rattle.octets.specs.Octets.{pick, splice}
 use Rattle.octets.proofs.Octets.{splice_nil, length_splice}
 use Rattle.config.specs.Commands.{param_at, count_in, id_in, param_in, accepted, invalid_in}
 use Rattle.config.proofs.Lists.{id_read, param_read, param_far, invalid_few, grown, ahead_two}
-use Rattle.config.proofs.set.set_rsp.Reads as reads
-use Rattle.config.proofs.set.set_rsp.Lts as lts
-use Rattle.config.proofs.set.is_accepted.Reads as is-accepted-reads
-use Rattle.config.proofs.set.put_id.Reads as put-id-reads
-use Rattle.octets.proofs.choose.Reads as choose-reads
-use Rattle.octets.proofs.octet_at.Reads as octet-at-reads
-use Rattle.octets.proofs.window.Reads as window-reads
 use Rattle.config.proofs.set.set_rsp.Goals as goal
 use Rattle.config.proofs.set.set_rsp.Goals.{At-loop-i}
 

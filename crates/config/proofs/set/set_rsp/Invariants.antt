@@ -3,14 +3,7 @@ use Prim.Native.Nat.{◌+◌, ◌*◌, ◌≤◌, ◌-◌}
 use mathlib.Core.Path.{◌≡◌}
 use lib.ListN.{length}
 use Rattle.octets.specs.Octets.{splice}
-use Rattle.config.specs.Commands.{param_at, id_in, invalid_in}
-use Rattle.config.proofs.set.set_rsp.Reads as reads
-use Rattle.config.proofs.set.set_rsp.Lts as lts
-use Rattle.config.proofs.set.is_accepted.Reads as is-accepted-reads
-use Rattle.config.proofs.set.put_id.Reads as put-id-reads
-use Rattle.octets.proofs.choose.Reads as choose-reads
-use Rattle.octets.proofs.octet_at.Reads as octet-at-reads
-use Rattle.octets.proofs.window.Reads as window-reads
+use Rattle.config.specs.Commands.{param_at, invalid_in}
 use Rattle.config.proofs.set.set_rsp.Given as goal
 
 abbrev pub invariant-loop-i : goal.invariant-loop-i

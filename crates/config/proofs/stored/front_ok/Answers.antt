@@ -6,9 +6,6 @@ use Rattle.config.specs.declared.table.Values.TheVariants.{Range}
 use Rattle.config.specs.Table.{table, row_at}
 use Rattle.config.specs.Stored.{rows_ok}
 use Rattle.config.proofs.Kept.{octet_row}
-use Rattle.config.proofs.stored.front_ok.Reads as reads
-use Rattle.config.proofs.stored.front_ok.Lts as lts
-use Rattle.config.proofs.stored.octet_ok.Reads as octet-ok-reads
 use Rattle.config.proofs.stored.front_ok.Goals as goal
 
 pub returns : goal.returns

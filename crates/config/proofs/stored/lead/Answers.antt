@@ -2,8 +2,6 @@
 use borrow.Author.Tests.{eq-eqb, ne_eqb}
 use native.Mathlib.Omega.{arith}
 use mathlib.Core.Path.{refl}
-use Rattle.config.proofs.stored.lead.Reads as reads
-use Rattle.config.proofs.stored.lead.Lts as lts
 use Rattle.config.proofs.stored.lead.Goals as goal
 
 pub returns-then-r : goal.returns-then-r

@@ -7,12 +7,6 @@ use Rattle.config.specs.Table.{table, row_at}
 use Rattle.config.specs.Stored.{row_ok, rows_ok}
 use Rattle.config.proofs.Kept.{octet_row}
 use Rattle.config.proofs.Rows.{row_fits}
-use Rattle.config.proofs.stored.parameters_ok.Reads as reads
-use Rattle.config.proofs.stored.parameters_ok.Lts as lts
-use Rattle.config.proofs.stored.front_ok.Reads as front-ok-reads
-use Rattle.config.proofs.stored.octet_ok.Reads as octet-ok-reads
-use Rattle.config.proofs.stored.row_ok.Reads as row-ok-reads
-use Rattle.config.proofs.table.row_at.Reads as row-at-reads
 use Rattle.config.proofs.stored.parameters_ok.Goals as goal
 
 pub row_ok-info-requires : goal.row_ok-info-requires

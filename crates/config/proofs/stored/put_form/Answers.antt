@@ -7,10 +7,6 @@ use mathlib.Core.List.{[], ◌∷◌}
 use lib.ListN.{length}
 use Rattle.octets.specs.Octets.{splice}
 use Rattle.octets.proofs.Octets.{splice_next, length_splice}
-use Rattle.config.specs.Stored.{room}
-use Rattle.config.proofs.stored.put_form.Reads as reads
-use Rattle.config.proofs.stored.put_form.Lts as lts
-use Rattle.octets.proofs.put.Reads as put_reads
 use Rattle.config.proofs.stored.put_form.Goals as goal
 
 pub returns-then-r : goal.returns-then-r

@@ -5,11 +5,6 @@ use Rattle.config.specs.Stored.{form_of, zeroes, with_value}
 use Prim.Native.Nat.{◌+◌}
 use Rattle.config.proofs.Forms.{none_of}
 use Rattle.octets.specs.Octets.{splice}
-use Rattle.config.proofs.stored.put_value.Reads as reads
-use Rattle.config.proofs.stored.put_value.Lts as lts
-use Rattle.config.proofs.stored.lead.Reads as lead-reads
-use Rattle.config.proofs.stored.put_form.Reads as put-form-reads
-use Rattle.octets.proofs.put.Reads as put_reads
 use Rattle.config.proofs.stored.put_value.Goals as goal
 
 pub returns : goal.returns

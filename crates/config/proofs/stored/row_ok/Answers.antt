@@ -1,12 +1,6 @@
 -- `config::stored::row_ok` meets its contract.
 use borrow.Author.Tests.{le-leb, lt-leb}
 use Rattle.config.specs.Stored.{row_ok}
-use Rattle.config.proofs.stored.row_ok.Reads as reads
-use Rattle.config.proofs.stored.row_ok.Lts as lts
-use Rattle.config.proofs.stored.lead.Reads as lead-reads
-use Rattle.config.proofs.stored.size_in.Reads as size-in-reads
-use Rattle.config.proofs.stored.value_in.Reads as value-in-reads
-use Rattle.config.proofs.table.all_allowed.Reads as all-allowed-reads
 use Rattle.config.proofs.stored.row_ok.Goals as goal
 
 pub returns-then-n-r : goal.returns-then-n-r

@@ -1,8 +1,5 @@
 -- `config::stored::size_in` meets its contract.
 use borrow.Author.Tests.{eq-eqb, ne_eqb}
-use Rattle.config.proofs.stored.size_in.Reads as reads
-use Rattle.config.proofs.stored.size_in.Lts as lts
-use Rattle.octets.proofs.octet_at.Reads as octet-at-reads
 use Rattle.config.proofs.stored.size_in.Goals as goal
 
 pub returns-then-r : goal.returns-then-r

@@ -3,11 +3,6 @@ use Prim.Native.Nat.{◌+◌}
 use mathlib.Core.Path.{◌∙◌}
 use Rattle.octets.specs.Octets.{cut}
 use Rattle.config.specs.Stored.{value_in}
-use Rattle.config.proofs.stored.value_in.Reads as reads
-use Rattle.config.proofs.stored.value_in.Lts as lts
-use Rattle.config.proofs.stored.lead.Reads as lead-reads
-use Rattle.config.proofs.stored.size_in.Reads as size-in-reads
-use Rattle.octets.proofs.window.Reads as window-reads
 use Rattle.config.proofs.stored.value_in.Goals as goal
 
 pub returns : goal.returns

@@ -1,8 +1,5 @@
 -- src/table.rt:112:9
 use Rattle.config.specs.Table.{acceptable}
-use Rattle.config.proofs.table.acceptable.Reads as reads
-use Rattle.config.proofs.table.acceptable.Lts as lts
-use Rattle.config.proofs.table.all_allowed.Reads as all-allowed-reads
 use Rattle.config.proofs.table.acceptable.Goals as goal
 
 -- src/table.rt:108:1

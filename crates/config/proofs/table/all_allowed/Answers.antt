@@ -1,13 +1,9 @@
 -- `config::table::all_allowed` meets its contract. The loop's invariant: all says whether the first i octets may stand.
-use Prim.Native.Nat.{◌-◌}
 use mathlib.Core.Path.{◌≡◌, refl, ◌∙◌, ap}
 use native.Mathlib.Numerals.{add-one}
 use native.Mathlib.Omega.{arith}
 use lib.ListN.{length}
 use Rattle.config.specs.Table.{all_allowed}
-use Rattle.config.proofs.table.all_allowed.Reads as reads
-use Rattle.config.proofs.table.all_allowed.Lts as lts
-use Rattle.config.proofs.table.allowed_by.Reads as allowed-by-reads
 use Rattle.config.proofs.table.all_allowed.Goals as goal
 
 -- src/table.rt:100:5

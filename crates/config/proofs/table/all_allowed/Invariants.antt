@@ -3,9 +3,6 @@ use Prim.Native.Nat.{◌-◌, ◌≤◌}
 use mathlib.Core.Path.{◌≡◌}
 use lib.ListN.{length}
 use Rattle.config.specs.Table.{all_allowed}
-use Rattle.config.proofs.table.all_allowed.Reads as reads
-use Rattle.config.proofs.table.all_allowed.Lts as lts
-use Rattle.config.proofs.table.allowed_by.Reads as allowed-by-reads
 use Rattle.config.proofs.table.all_allowed.Given as goal
 
 abbrev pub invariant-loop-i : goal.invariant-loop-i

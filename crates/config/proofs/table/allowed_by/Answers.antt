@@ -1,6 +1,4 @@
 -- src/table.rt:89:22
-use Rattle.config.proofs.table.allowed_by.Reads as reads
-use Rattle.config.proofs.table.allowed_by.Lts as lts
 use Rattle.config.proofs.table.allowed_by.Goals as goal
 
 -- src/table.rt:85:1

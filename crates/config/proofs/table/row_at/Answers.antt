@@ -2,8 +2,6 @@
 use borrow.Author.Rules.{rules}
 use Rattle.config.specs.Table.{table, no_row, row_at}
 use Rattle.config.proofs.Rows.{any_default}
-use Rattle.config.proofs.table.row_at.Reads as reads
-use Rattle.config.proofs.table.row_at.Lts as lts
 use Rattle.config.proofs.table.row_at.Goals as goal
 
 pub returns : goal.returns

@@ -1,5 +1,5 @@
 -- `config::table::row_of` meets its contract. The loop's invariant: what is found from row i on is the answer.
-use Prim.Native.Nat.{ℕ, ◌-◌}
+use Prim.Native.Nat.{ℕ}
 use mathlib.Core.Path.{◌≡◌, refl, sym, ◌∙◌, ap}
 use native.Mathlib.Omega.{arith}
 use lib.ListN.{drop}

@@ -1,14 +1,6 @@
 -- `config::written::get_written` meets its contract.
-use Prim.Native.Nat.{◌-◌}
 use borrow.Author.Tests.{eq-eqb, ne_eqb}
-use lib.Dec.{eqb}
 use Rattle.config.specs.Written.{get_written}
-use Rattle.config.proofs.written.get_written.Reads as reads
-use Rattle.config.proofs.written.get_written.Lts as lts
-use Rattle.config.proofs.written.list_written.Reads as list-written-reads
-use Rattle.config.proofs.written.unavailable_written.Reads as unavailable-written-reads
-use Rattle.octets.proofs.octet_at.Reads as octet-at-reads
-use Rattle.octets.proofs.window.Reads as window-reads
 use Rattle.config.proofs.written.get_written.Goals as goal
 
 pub returns-then-status-eq-STATUS_OK : goal.returns-then-status-eq-STATUS_OK

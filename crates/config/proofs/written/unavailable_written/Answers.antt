@@ -1,16 +1,11 @@
 -- `config::written::unavailable_written` meets its contract. The loop's invariant: ok says whether the first i entries are such.
 use native.Mathlib.Omega.{arith}
 use native.Mathlib.Numerals.{add-one}
-use Prim.Native.Nat.{◌-◌}
 use mathlib.Core.Path.{◌≡◌, refl, ◌∙◌, ap}
 use mathlib.Core.Bool.{◌&&◌, not}
 use lib.Dec.{eqb}
 use Rattle.config.specs.Table.{row_of, known_row}
 use Rattle.config.specs.Written.{unavailable_written}
-use Rattle.config.proofs.written.unavailable_written.Reads as reads
-use Rattle.config.proofs.written.unavailable_written.Lts as lts
-use Rattle.config.proofs.table.row_of.Reads as row-of-reads
-use Rattle.octets.proofs.octet_at.Reads as octet-at-reads
 use Rattle.config.proofs.written.unavailable_written.Goals as goal
 
 pub loop-i-init : goal.loop-i-init

@@ -2,10 +2,6 @@
 use Prim.Native.Nat.{◌≤◌, ◌-◌}
 use mathlib.Core.Path.{◌≡◌}
 use Rattle.config.specs.Written.{unavailable_written}
-use Rattle.config.proofs.written.unavailable_written.Reads as reads
-use Rattle.config.proofs.written.unavailable_written.Lts as lts
-use Rattle.config.proofs.table.row_of.Reads as row-of-reads
-use Rattle.octets.proofs.octet_at.Reads as octet-at-reads
 use Rattle.config.proofs.written.unavailable_written.Given as goal
 
 abbrev pub invariant-loop-i : goal.invariant-loop-i

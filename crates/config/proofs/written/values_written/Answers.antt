@@ -1,19 +1,12 @@
 -- `config::written::values_written` meets its contract. The loop's invariant: at is where parameter i stands, and ok says whether those before it are acceptable.
 use native.Mathlib.Omega.{arith}
 use native.Mathlib.Numerals.{add-one}
-use Prim.Native.Nat.{◌-◌}
 use mathlib.Core.Path.{◌≡◌, refl, ◌∙◌, ap}
 use mathlib.Core.Bool.{◌&&◌}
 use Rattle.config.specs.Table.{row_of, acceptable}
 use Rattle.config.specs.Commands.{param_at}
 use Rattle.config.specs.Written.{values_written}
 use Rattle.config.proofs.Lists.{id_read, param_read}
-use Rattle.config.proofs.written.values_written.Reads as reads
-use Rattle.config.proofs.written.values_written.Lts as lts
-use Rattle.config.proofs.table.acceptable.Reads as acceptable-reads
-use Rattle.config.proofs.table.row_of.Reads as row-of-reads
-use Rattle.octets.proofs.octet_at.Reads as octet-at-reads
-use Rattle.octets.proofs.window.Reads as window-reads
 use Rattle.config.proofs.written.values_written.Goals as goal
 
 pub loop-i-init : goal.loop-i-init

@@ -3,12 +3,6 @@ use Prim.Native.Nat.{◌+◌, ◌*◌, ◌≤◌, ◌-◌}
 use mathlib.Core.Path.{◌≡◌}
 use Rattle.config.specs.Commands.{param_at}
 use Rattle.config.specs.Written.{values_written}
-use Rattle.config.proofs.written.values_written.Reads as reads
-use Rattle.config.proofs.written.values_written.Lts as lts
-use Rattle.config.proofs.table.acceptable.Reads as acceptable-reads
-use Rattle.config.proofs.table.row_of.Reads as row-of-reads
-use Rattle.octets.proofs.octet_at.Reads as octet-at-reads
-use Rattle.octets.proofs.window.Reads as window-reads
 use Rattle.config.proofs.written.values_written.Given as goal
 
 abbrev pub invariant-loop-i : goal.invariant-loop-i

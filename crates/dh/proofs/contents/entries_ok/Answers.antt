@@ -1,5 +1,4 @@
 -- `dh::contents::entries_ok` meets its contract. The loop's invariant: the answer so far is that of the entries passed.
-use Prim.Native.Nat.{◌-◌}
 use mathlib.Core.Path.{◌≡◌, refl, ◌∙◌}
 use native.Mathlib.Numerals.{add-one}
 use native.Mathlib.Omega.{arith}

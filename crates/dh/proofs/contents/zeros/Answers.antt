@@ -1,5 +1,4 @@
 -- `dh::contents::zeros` meets its contract. The loop's invariant: the answer so far is that of the octets passed.
-use Prim.Native.Nat.{◌-◌}
 use mathlib.Core.Path.{◌≡◌, refl, ◌∙◌}
 use native.Mathlib.Numerals.{add-one}
 use native.Mathlib.Omega.{arith}

@@ -1,5 +1,4 @@
 -- `dh::host::credits_for` meets its contract. The loop's invariant: the sum is that of the entries passed, and at most 255 for each.
-use Prim.Native.Nat.{◌-◌}
 use mathlib.Core.Path.{◌≡◌, refl, ◌∙◌}
 use native.Mathlib.Numerals.{add-one}
 use native.Mathlib.Omega.{arith}

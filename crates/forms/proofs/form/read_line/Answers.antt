@@ -10,7 +10,7 @@ use Rattle.ascii.specs.Digits.{is_hex, octets_in}
 use Rattle.ascii.proofs.Digits.{length_octets}
 use Rattle.forms.specs.Names.{name_in}
 use Rattle.forms.specs.Form.{digits_in}
-use Rattle.forms.proofs.Forming.{formed_hex, formed_args, args_short, unformed_args, unformed_asks, asked_name, asked_bad, formed_asks}
+use Rattle.forms.proofs.Forming.{formed_hex, formed_args, args_short, unformed_args, unformed_asks, asked_name, asked_bad}
 use Rattle.forms.proofs.form.read_line.Goals as goal
 
 pub returns-then-not-formed : goal.returns-then-not-formed

@@ -1,5 +1,4 @@
 -- `messages::layout::credits_ntf` meets its contract. The loop's invariant: the entries before place i are written, up to index at.
-use Prim.Native.Nat.{◌-◌}
 use mathlib.Core.Path.{◌≡◌, sym, ◌∙◌}
 use native.Mathlib.Omega.{arith}
 use lib.ListN.{length, length-map, get_or-map}

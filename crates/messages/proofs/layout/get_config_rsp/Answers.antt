@@ -1,7 +1,4 @@
 -- `messages::layout::get_config_rsp` meets its contract: what the writer of the response promises, with its head.
-use Rattle.messages.proofs.layout.get_config_rsp.Reads as reads
-use Rattle.messages.proofs.layout.get_config_rsp.Lts as lts
-use Rattle.config.proofs.get.get_rsp.Reads as get-rsp-reads
 use Rattle.messages.proofs.layout.get_config_rsp.Goals as goal
 
 pub returns : goal.returns

@@ -1,5 +1,5 @@
 -- `nfcc::controller::configs_ok` meets its contract. The loop's invariant: ok says whether the first i pairs may stand.
-use Prim.Native.Nat.{◌-◌, ℕ}
+use Prim.Native.Nat.{ℕ}
 use mathlib.Core.Path.{◌≡◌, refl, ap, ◌∙◌}
 use native.Mathlib.Numerals.{add-one}
 use native.Mathlib.Omega.{arith}

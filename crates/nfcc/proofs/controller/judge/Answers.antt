@@ -1,5 +1,5 @@
 -- `nfcc::controller::judge` meets its contract: each answer by the tests that led to it, at what the calls ensure.
-use borrow.Author.Tests.{lt-ltb, le-ltb, not-true, not-false}
+use borrow.Author.Tests.{lt-ltb, le-ltb}
 use Rattle.nfcc.specs.Controller.{judge_of}
 use Rattle.nfcc.proofs.controller.judge.Goals as goal
 

@@ -1,5 +1,4 @@
 -- The loop of `nfcc::controller::next_id`.
-use Prim.Native.Nat.{◌-◌}
 use mathlib.Core.Path.{◌≡◌}
 use Rattle.state.specs.Conn.{open_at}
 use Rattle.nfcc.specs.Controller.{seek, next_id}

@@ -1,5 +1,5 @@
 -- `state::radio::is_listed` meets its contract. The loop's invariant: found says whether the pair stands among the first i.
-use Prim.Native.Nat.{◌-◌, ℕ}
+use Prim.Native.Nat.{ℕ}
 use mathlib.Core.Path.{◌≡◌, refl, ap, ◌∙◌}
 use native.Mathlib.Numerals.{add-one}
 use native.Mathlib.Omega.{arith}

@@ -1,5 +1,5 @@
 -- `wires::down::data_count` meets its contract. The loop's invariant: n is the count of the packets passed, and at most one for each.
-use Prim.Native.Nat.{ℕ, ◌-◌, ◌≤◌}
+use Prim.Native.Nat.{ℕ, ◌≤◌}
 use mathlib.Core.Path.{◌≡◌, ap, ◌∙◌}
 use native.Mathlib.Omega.{arith}
 use borrow.Author.Rules.{rules}

@@ -1,5 +1,5 @@
 -- `wires::up::credits_up` meets its contract. The loop's invariant: the sum is that of the packets passed, and at most 255 for each.
-use Prim.Native.Nat.{ℕ, ◌-◌}
+use Prim.Native.Nat.{ℕ}
 use mathlib.Core.Path.{◌≡◌, ap, ◌∙◌}
 use native.Mathlib.Omega.{arith}
 use borrow.Author.Rules.{rules}
