@@ -12,9 +12,8 @@ use Rattle.octets.specs.Octets.{pick}
 use Rattle.state.specs.Conn.{conn_of}
 use Rattle.model.specs.State.{State}
 use Rattle.model.specs.Effects.{Call, fresh, power, command, send, push, down, consume, credit, air, reply, up, report, is_taken}
-use Rattle.model.specs.Refusals.{first}
 use Rattle.model.specs.Bench.{rules}
-use Rattle.model.specs.Press.{moves, possible, Move, rests, plays, first_of}
+use Rattle.model.specs.Press.{moves, possible, rests, plays, first_of}
 use Rattle.model.proofs.Falling.{IsMove}
 use Rattle.model.proofs.Press.{Every}
 use Rattle.calls.specs.Outcome.{lowest}

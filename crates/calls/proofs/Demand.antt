@@ -8,14 +8,14 @@ use native.Mathlib.Omega.{arith}
 use lib.ListN.{length, take, drop}
 use lib.Dec.{ltb}
 use borrow.Author.Tests.{ltb-true, ltb-false, lt-ltb, le-ltb}
-use Rattle.octets.specs.Octets.{Octets, pick, cut, splice}
+use Rattle.octets.specs.Octets.{Octets, pick, cut}
 use Rattle.octets.specs.Octal.{Octal}
 use Rattle.octets.proofs.Octets.{cut_same, drop_splice}
 use Rattle.state.specs.Profile.{profile_in, profile_octets_ok}
 use Rattle.area.specs.Map.{area_size, message_size}
 use Rattle.record.specs.Reading.{decode_of}
 use Rattle.views.specs.View.{view_of}
-use Rattle.model.specs.State.{State, cold}
+use Rattle.model.specs.State.{State}
 use Rattle.model.specs.Effects.{Call, fresh, power, command, send, push, down, consume, credit, air, reply, up, report, Result, taken, refused}
 use Rattle.model.specs.Refusals.{Rule, first}
 use Rattle.model.specs.Bench.{rules, judged, step}

@@ -25,7 +25,7 @@ use Rattle.calls.specs.Seen.{Puts, no_puts, starts, restarts, seen_by}
 use Rattle.calls.specs.Refines.{Good, Along, Refines}
 use Rattle.calls.specs.Packet.{last_packets}
 use Rattle.calls.specs.Demand.{Key, pressed, slice}
-use Rattle.calls.specs.Reached.{Displayed, AlwaysDisplayed}
+use Rattle.calls.specs.Reached.{AlwaysDisplayed}
 use Rattle.calls.proofs.Refine.{refined_good}
 use Rattle.calls.proofs.Packet.{down_shown, up_shown}
 use Rattle.calls.proofs.Demand.{all_refine, short_buffer, Stands, stands_within, run_stands}

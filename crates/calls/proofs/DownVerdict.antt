@@ -18,14 +18,14 @@ use Rattle.state.proofs.SmallVerdicts.{SmallVerdict}
 use Rattle.state.proofs.Steady.{Steady}
 use Rattle.nfcc.specs.Controller.{turned, controller_after, conns_after, endpoint_after}
 use Rattle.nfcc.proofs.Verdicts.{Fits, judge_fits, after_steady, judge_small}
-use Rattle.ends.specs.Changes.{Change, opens, change_by, counts_at_controller}
+use Rattle.ends.specs.Changes.{Change, change_by, counts_at_controller}
 use Rattle.ends.specs.Steps.{ends_after, verdict_of}
 use Rattle.ends.proofs.Changes.{counts_after, length_after, endpoint_after_law}
 use Rattle.area.specs.Map.{places}
 use Rattle.record.specs.Writing.{rf_octets, pairs_octets}
 use Rattle.record.specs.Fit.{Shape, Fit, FitHand, FitCounts}
 use Rattle.record.specs.Small.{SmallCounts, Small}
-use Rattle.record.specs.Plan.{with_ends, with_conns}
+use Rattle.record.specs.Plan.{with_ends}
 use Rattle.record.proofs.Conns.{conns_by}
 use Rattle.record.proofs.Controllers.{steady_fits, fits_steady}
 use Rattle.record.proofs.Small.{SmallController, profile_terms, controller_parts, controller_octal, bare_octal, chosen_octal, none_octal}

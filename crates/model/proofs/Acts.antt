@@ -19,7 +19,7 @@ use Rattle.wires.specs.Meaning.{meaning}
 use Rattle.ends.specs.Changes.{gives, given_to}
 use Rattle.model.specs.calls.Consume.{segment_in}
 use Rattle.model.specs.Observer.{Ledger, blank, put_by, pushed_l, arrived_l, consumed_l, sent_l, spoken_l}
-use Rattle.model.specs.invariant.Items.{Item, credit, opened, loaded, items_by, put_k, puts_k, read_k, reads_k, put_l, puts_l, read_l, reads_l}
+use Rattle.model.specs.invariant.Items.{Item, credit, loaded, items_by, put_k, puts_k, read_k, reads_k, put_l, puts_l, read_l, reads_l}
 use Rattle.model.specs.invariant.Link.{Good}
 use Rattle.model.proofs.Cases.{clash}
 use Rattle.model.proofs.Numbers.{Allowed, Handed, carried, push_numbers, deliver_numbers, drop_numbers, consume_numbers, put_numbers, read_numbers}

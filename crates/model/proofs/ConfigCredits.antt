@@ -1,7 +1,7 @@
 -- No set or get of the configuration changes any credits, on any bench: no packet of theirs is data or says credits, what is decided on them opens and closes
 -- nothing, and what the host makes of their responses is that the command is answered.
 -- Assumes nothing.
-use Prim.Native.Nat.{ℕ, ◌+◌, ◌<◌}
+use Prim.Native.Nat.{ℕ, ◌<◌}
 use native.Mathlib.Omega.{arith}
 use mathlib.Core.Path.{◌≡◌, refl, sym, ap, ◌∙◌, subst}
 use mathlib.Core.Logic.{◌⊎◌, inl, inr}
@@ -24,7 +24,7 @@ use Rattle.dh.specs.Contents.{notice_of, written}
 use Rattle.dh.specs.Host.{answer_of, aim_of, heard_written, expected, hear_of}
 use Rattle.ends.specs.Changes.{stays, change_by, change_heard}
 use Rattle.wires.specs.Meaning.{Meaning, control, meaning}
-use Rattle.wires.specs.Tally.{data_count, aimed_at, says, credits_said, credits_meant, credits_up}
+use Rattle.wires.specs.Tally.{data_count, aimed_at, credits_said, credits_meant, credits_up}
 use Rattle.wires.specs.Counted.{counted_up}
 use Rattle.wires.proofs.Same.{same_up}
 use Rattle.model.specs.Kinds.{Profile, Pending, Verdict, Heard}
@@ -42,7 +42,7 @@ use Rattle.model.specs.calls.Report.{held_by, report_of}
 use Rattle.model.specs.calls.Down.{answers, answering, arriving, taking_down}
 use Rattle.model.specs.calls.Up.{hearing, coming, taking_up}
 use Rattle.model.specs.Bench.{rules, judged, step}
-use Rattle.model.specs.ConfigCredits.{is_config, CreditsKept, AllCreditsKept}
+use Rattle.model.specs.ConfigCredits.{is_config, AllCreditsKept}
 use Rattle.model.proofs.Meanings.{meaning_response, data_count_append, data_count_segs, credits_up_append, segs_of_command}
 
 -- ---- what is known of the two commands

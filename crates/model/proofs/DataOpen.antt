@@ -12,7 +12,6 @@ use Rattle.packets.specs.Segments.{Segment}
 use Rattle.model.specs.Kinds.{Pending}
 use Rattle.model.specs.Kinds.pending as pending
 use Rattle.dh.specs.Host.{aim_of}
-use Rattle.state.proofs.Chains.{on}
 use Rattle.wires.specs.Meaning.{Meaning, datum, control, junk, meaning}
 use Rattle.model.specs.State.{State}
 use Rattle.ends.specs.Changes.{Change, stays, opens, closes, gives}

@@ -34,10 +34,10 @@ use Rattle.model.specs.calls.Down.{answering, arriving, taking_down}
 use Rattle.model.specs.calls.Consume.{is_loop, segment_in, echoed, joined_end, consuming}
 use Rattle.model.specs.calls.Air.{aired_conns, airing}
 use Rattle.model.specs.calls.Reply.{replying}
-use Rattle.model.specs.calls.Up.{coming, taking_up, heard}
+use Rattle.model.specs.calls.Up.{coming, taking_up}
 use Rattle.model.specs.Bench.{rules, act, judged, step}
 use Rattle.model.specs.Observer.{Ledger, Event, Account, change_in, event_of, events, after}
-use Rattle.model.specs.Discards.{Hand, Diary, nothing, first_page, with_hands, hand_sent, hand_pushed, hand_by, hand_heard, noted, turned, note, diary, diary_of, Discards, TakenBefore, DiscardClaim, AllDiscards}
+use Rattle.model.specs.Discards.{Hand, Diary, nothing, first_page, with_hands, hand_sent, hand_pushed, hand_by, hand_heard, noted, turned, note, diary, diary_of, TakenBefore, DiscardClaim, AllDiscards}
 use Rattle.model.specs.invariant.Commands.{Name, named, pending_name, heads, replies}
 use Rattle.model.specs.invariant.Bench.{Fine, Kept, SoundIn, account_of}
 use Rattle.model.specs.invariant.Hands.{Told, Named, Marked}

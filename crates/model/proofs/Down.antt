@@ -17,7 +17,7 @@ use Rattle.wires.specs.Meaning.{Meaning, datum, control, junk, meaning}
 use Rattle.model.specs.State.{State, is_open, at, with_down, with_conns, with_asking}
 use Rattle.model.specs.Effects.{Effect, taken, down}
 use Rattle.model.specs.Refusals.{is_nil}
-use Rattle.model.specs.calls.Down.{answering, asked, arriving, taking_down, needs_two}
+use Rattle.model.specs.calls.Down.{answering, arriving, taking_down, needs_two}
 use Rattle.model.specs.Bench.{rules}
 use Rattle.model.specs.Observer.{Ledger, Account, arrived_l, arrival, puts_up, event_of}
 use Rattle.model.specs.invariant.Items.{items_of, segs_in, segs_of}

@@ -17,7 +17,7 @@ use Rattle.state.proofs.Chains.{or_left, or_right}
 use Rattle.model.specs.Connection.{with_host, sent, pushed}
 use Rattle.packets.specs.Headers.{data_header, control_header}
 use Rattle.wires.specs.Meaning.{datum, control, meaning}
-use Rattle.model.specs.State.{State, at}
+use Rattle.model.specs.State.{State}
 use Rattle.model.specs.Effects.{taken, fresh, power, command, send, push, report}
 use Rattle.model.specs.Refusals.{is_nil, no_conn, first}
 use Rattle.dh.specs.Host.{is_closing}

@@ -24,7 +24,7 @@ use Rattle.dh.specs.Host.{host_after, hear_of}
 use Rattle.air.specs.Air.{event_of, air_message}
 use Rattle.state.proofs.Chains.{on, or_left, or_right}
 use Rattle.state.proofs.Credits.{carriable_few}
-use Rattle.model.specs.Connection.{Connection, with_host, with_controller, sent, pushed, heard_data, credited, stored, owed_on, carried_on, paid, noticed, spoken}
+use Rattle.model.specs.Connection.{Connection, with_host, with_controller, sent, pushed, heard_data, credited, owed_on, carried_on, paid, noticed, spoken}
 use Rattle.packets.specs.Headers.{data_header}
 use Rattle.messages.specs.Packets.{notice_packets}
 use Rattle.wires.proofs.Slots.{meaning_carrying}
@@ -40,7 +40,7 @@ use Rattle.model.specs.calls.Consume.{is_loop, echo, echoed, segment_in, joined_
 use Rattle.model.specs.calls.Credit.{owed_by}
 use Rattle.model.specs.calls.Air.{aired_conns, airing}
 use Rattle.model.specs.calls.Reply.{replying}
-use Rattle.model.specs.calls.Up.{heard, hearing, coming, taking_up}
+use Rattle.model.specs.calls.Up.{heard, coming, taking_up}
 use Rattle.model.specs.Bench.{rules, act}
 use Rattle.model.specs.Observer.{Ledger}
 use Rattle.model.specs.Reachable.{Always, RunWithin, Sizes}

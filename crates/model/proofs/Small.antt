@@ -19,12 +19,11 @@ use Rattle.state.specs.Runs.{data_limit, control_limit}
 use Rattle.state.specs.Profile.{TermsWithin, ProfileWithin}
 use Rattle.state.proofs.Chains.{on}
 use Rattle.state.proofs.Steady.{Steady}
-use Rattle.model.specs.Connection.{Connection, HostEnd, ControllerEnd, with_host, with_controller, closed, stored}
+use Rattle.model.specs.Connection.{Connection, HostEnd, ControllerEnd, with_host, with_controller, closed}
 use Rattle.model.specs.State.{State, cold, at}
 use Rattle.model.specs.Refusals.{no_conn}
 use Rattle.ends.specs.Changes.{Change, stays, opens, closes, gives}
 use Rattle.model.specs.Changes.{at_controller, at_host}
-use Rattle.model.specs.calls.Up.{hearing}
 use Rattle.model.specs.Reachable.{octets_in, RunWithin}
 use Rattle.model.proofs.Cases.{clash, each}
 use Rattle.model.proofs.Fine.{ChangeOk}

@@ -14,7 +14,7 @@ use Rattle.packets.specs.Reassembly.{Run, run, grown, finished, flagged}
 use Rattle.model.specs.Kinds.{Pending, Host, Answer, Heard, Notice}
 use Rattle.model.specs.Kinds.pending as pending
 use Rattle.model.specs.Kinds.answer.{Done, ClosesAll, Sized, Opens, Closes}
-use Rattle.model.specs.Kinds.heard.{Nothing, Answered, Activated, Credits}
+use Rattle.model.specs.Kinds.heard.{Answered}
 use Rattle.state.specs.Runs.{data_limit, control_limit}
 use Rattle.state.specs.Commands.{command_of}
 use Rattle.dh.specs.Contents.{written, notice_of}
@@ -30,7 +30,7 @@ use Rattle.model.specs.Effects.{Effect, taken, up}
 use Rattle.model.specs.Refusals.{is_nil}
 use Rattle.model.specs.Runs.{run_for, same_run}
 use Rattle.ends.specs.Changes.{Change, stays, opens, closes, gives, change_heard}
-use Rattle.model.specs.calls.Up.{understanding, hearing, heard, coming, taking_up}
+use Rattle.model.specs.calls.Up.{understanding, hearing, coming, taking_up}
 use Rattle.model.specs.Bench.{rules}
 use Rattle.model.specs.Observer.{Ledger, Account, given_l, read_by, change_in, heard_as, event_of}
 use Rattle.model.specs.invariant.Items.{loaded, items_by, items_of, segs_of, reads_k}

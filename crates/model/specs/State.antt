@@ -7,7 +7,6 @@ use Rattle.model.specs.Kinds.{Profile, Host, Controller}
 use Rattle.config.specs.Stored.{defaults}
 use Rattle.state.specs.Cold.{cold_host, cold_controller}
 use Rattle.model.specs.Connection.{Connection, closed}
-use Rattle.wires.specs.Meaning.{control}
 
 -- ---- the state
 

@@ -25,7 +25,6 @@ use Rattle.calls.specs.Word.{handed_bit, word_of, word_telling, number_of, answe
 use Rattle.calls.specs.Outcome.{Outcome, outcome, entry_rules}
 use Rattle.calls.specs.Packet.{wire_ring, packet_back, packet_rules, shown_packet, packet_call, handed_by, last_packets}
 use Rattle.calls.specs.Read.{Found, found_in, found_of, found_word}
-use Rattle.calls.proofs.Rules.{small}
 use Rattle.calls.proofs.Called.{sound_area}
 use Rattle.calls.proofs.Words.{word_length, told_length}
 use Rattle.calls.specs.Demand.{perform}

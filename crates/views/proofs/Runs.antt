@@ -11,7 +11,7 @@ use borrow.Author.Tests.{le-leb, lt-leb, lt-ltb, le-ltb}
 use Rattle.octets.specs.Octets.{Octets, pick, cut, splice}
 use Rattle.octets.proofs.Octets.{length_cut, cut_grown}
 use Rattle.packets.specs.Segments.{Segment, more, last, body, flag}
-use Rattle.packets.specs.Reassembly.{run, lost}
+use Rattle.packets.specs.Reassembly.{run}
 use Rattle.views.specs.Kinds.{Progress}
 use Rattle.state.specs.Runs.{within, joined_of}
 use Rattle.state.proofs.Progress.{within_room}

@@ -1,6 +1,6 @@
 -- report: five numbers of a connection.
 -- Assumes nothing.
-use Rattle.std.specs.Prelude.{ℕ, false, not, List, [], ◌∷◌, length, drop}
+use Rattle.std.specs.Prelude.{ℕ, false, not, List, [], ◌∷◌, length}
 use Rattle.octets.specs.Octets.{Octets, pick}
 use Rattle.state.specs.Conn.{flows}
 use Rattle.model.specs.Connection.{HostEnd, owed_on}

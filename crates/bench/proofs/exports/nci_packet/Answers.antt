@@ -7,7 +7,6 @@ use mathlib.Core.Path.{refl, sym, ◌∙◌}
 use lib.ListN.{length}
 use Rattle.calls.specs.Outcome.{lowest}
 use Rattle.calls.proofs.Called.{entered, called_unentered, called_refused, called_taken}
-use borrow.Author.Rules.{rules}
 use Rattle.bench.proofs.exports.nci_packet.Goals as goal
 
 pub returns-then-entry-ne0 : goal.returns-then-entry-ne0

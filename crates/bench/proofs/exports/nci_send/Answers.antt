@@ -9,7 +9,6 @@ use lib.ListN.{length}
 use Rattle.views.specs.View.{view}
 use Rattle.calls.specs.Outcome.{outcome, lowest}
 use Rattle.calls.proofs.Called.{entered, called_unentered, called_refused, called_taken}
-use borrow.Author.Rules.{rules}
 use Rattle.bench.proofs.exports.nci_send.Goals as goal
 
 pub returns-then-entry-ne0 : goal.returns-then-entry-ne0

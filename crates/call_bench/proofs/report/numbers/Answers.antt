@@ -1,10 +1,8 @@
 -- `call_bench::report::numbers` meets its contract: each number is counted, and fits an octet.
-use Prim.Native.Nat.{◌≤◌}
-use mathlib.Core.Path.{sym, subst, ◌∙◌}
+use mathlib.Core.Path.{sym, ◌∙◌}
 use mathlib.Core.List.{[], ◌∷◌}
 use native.Mathlib.Omega.{arith}
 use Rattle.octets.specs.Octets.{pick}
-use Rattle.call_bench.specs.Kinds.{Counts}
 use Rattle.state.specs.Conn.{place_of, counts_of, flows, owing}
 use Rattle.area.specs.Map.{store_slots, store_at}
 use Rattle.area.proofs.Rings.{length_packets}
@@ -20,7 +18,6 @@ pub overflow_cast-credits : goal.overflow_cast-credits
 overflow_cast-credits c =
     let s = c in
     omega (arith, c.credits_up-credits.ensures, up_octet s.args.area.now s.args.r s.args.conn s.requires.1)
-
 
 pub returns : goal.returns
 returns c =

@@ -1,5 +1,5 @@
 -- The loop of `call_controller::credit::none_owed`.
-use Prim.Native.Nat.{◌-◌, ◌≤◌}
+use Prim.Native.Nat.{◌≤◌}
 use mathlib.Core.Path.{◌≡◌}
 use lib.ListN.{drop}
 use Rattle.messages.specs.Layout.{owed_of}

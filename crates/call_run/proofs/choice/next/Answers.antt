@@ -1,5 +1,4 @@
 -- `call_run::choice::next` meets its contract. The loop's invariant: the first possible of those that are left is the first of all.
-use Prim.Native.Nat.{◌-◌}
 use native.Mathlib.Omega.{arith}
 use mathlib.Core.Path.{refl, sym, ◌∙◌}
 use Rattle.views.specs.View.{view}

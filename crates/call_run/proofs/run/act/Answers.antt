@@ -1,5 +1,5 @@
 -- `call_run::run::act` meets its contract. The loop's invariant: going on from here comes to what the whole press comes to.
-use Prim.Native.Nat.{ℕ, ◌+◌, ◌-◌}
+use Prim.Native.Nat.{ℕ, ◌+◌}
 use native.Mathlib.Omega.{arith}
 use mathlib.Core.Path.{refl, sym, ap, ◌∙◌}
 use mathlib.Core.Bool.{◌||◌}

@@ -2,7 +2,6 @@
 use Prim.Native.Nat.{ℕ, suc, ◌-◌}
 use mathlib.Core.Path.{◌≡◌, refl, ap, ◌∙◌}
 use native.Mathlib.Omega.{arith}
-use lib.ListN.{length}
 use Rattle.ascii.specs.Digits.{hex_of}
 use Rattle.sheet.specs.Show.{wire_shown}
 use Rattle.sheet.proofs.Showing.{wire_more, wire_none}
