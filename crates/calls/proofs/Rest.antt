@@ -166,6 +166,10 @@ module _ (a : Octets) (o : Account) (g : Good a) (k : Kept (view_of a) o) (still
         delivered = kept_delivered (view_of a) o k still;
       }
 
+none_pressed : (cs : List Call) → length cs ≡ 0 → cs ≡ []
+none_pressed [] h = refl
+none_pressed (c ∷ cs) h = absurd (omega arith)
+
 pub always_silent : AlwaysSilent
 always_silent area out profile v e xs w buffer room none =
     let s = strokes_stand area out profile v e xs w in

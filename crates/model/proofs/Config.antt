@@ -41,7 +41,7 @@ use Rattle.model.specs.calls.Reply.{replying}
 use Rattle.model.specs.calls.Up.{coming, taking_up, hearing}
 use Rattle.model.specs.calls.Down.{answers, deciding, answering, arriving, taking_down}
 use Rattle.model.specs.Bench.{rules, act, judged, step}
-use Rattle.model.specs.Observer.{Ledger, Event, Account, event_of}
+use Rattle.model.specs.Observer.{Ledger, Event, Account, event_of, observe, events, after}
 use Rattle.model.specs.Config.{Diary, first_page, with_values, set_by, values_by, put_by, put_all, noted, note, diary, is_set, Shows, Lists, Responds, ConfigTold, ConfigClaim, AllConfigs}
 use Rattle.model.specs.invariant.Commands.{Name, named, orders_in, OnItsWay}
 use Rattle.model.specs.invariant.Bench.{Fine, Kept}
@@ -53,7 +53,7 @@ use Rattle.model.proofs.HostCalls.{commanded}
 use Rattle.model.proofs.Messages.{Notices, meaning_answer, notices_verdict}
 use Rattle.model.proofs.Order.{no_way, command_way, data_way, other_way, way_run, way_low, way_small, way_more, way_last}
 use Rattle.model.proofs.Fine.{conn_small}
-use Rattle.model.proofs.Trace.{reachable}
+use Rattle.model.proofs.Trace.{reachable, step_keeps}
 use Rattle.model.proofs.Always.{Noting, always_noted}
 
 -- ---- the values after a verdict are those that its response tells the diary
@@ -365,6 +365,12 @@ configured_claim s o n k c = go (first (rules down s))
     go : (r : Result) → ConfigTold (judged r down s).effect.to_up n
     go taken = (down_turn s k.fine.config.long n c).told
     go (refused i) = none_told n
+
+calls_configured : (cs : List Call) (s : State) (o : Account) (n : Diary) → Kept s o → Configured s n → ConfigClaim (after cs s) (diary (events cs s) n)
+unfolding after events diary
+calls_configured [] s o n k m = configured_claim s o n k m
+calls_configured (c ∷ cs) s o n k m =
+    calls_configured cs (step c s).effect.next (observe (event_of c (step c s)) o) (note (event_of c (step c s)) n) (step_keeps c s o k) (step_configured c s o n k m)
 
 -- ---- the list
 

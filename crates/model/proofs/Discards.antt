@@ -36,7 +36,7 @@ use Rattle.model.specs.calls.Air.{aired_conns, airing}
 use Rattle.model.specs.calls.Reply.{replying}
 use Rattle.model.specs.calls.Up.{coming, taking_up}
 use Rattle.model.specs.Bench.{rules, act, judged, step}
-use Rattle.model.specs.Observer.{Ledger, Event, Account, change_in, event_of, events, after}
+use Rattle.model.specs.Observer.{Ledger, Event, Account, change_in, event_of, events, after, observe, observed}
 use Rattle.model.specs.Discards.{Hand, Diary, nothing, first_page, with_hands, hand_sent, hand_pushed, hand_by, hand_heard, noted, turned, note, diary, diary_of, TakenBefore, DiscardClaim, AllDiscards}
 use Rattle.model.specs.invariant.Commands.{Name, named, pending_name, heads, replies}
 use Rattle.model.specs.invariant.Bench.{Fine, Kept, SoundIn, account_of}
@@ -49,7 +49,7 @@ use Rattle.model.proofs.Fine.{at_keeps}
 use Rattle.model.proofs.Up as hearing
 use Rattle.model.proofs.Meanings.{hear_notice}
 use Rattle.model.proofs.Never.{heard_whole, not_among, answer_first}
-use Rattle.model.proofs.Trace.{same_account, reachable}
+use Rattle.model.proofs.Trace.{same_account, reachable, step_keeps}
 use Rattle.model.proofs.Always.{Noting, always_noted}
 
 -- ---- one connection
@@ -341,6 +341,13 @@ module _ (s : State) (o : Account) (n : Diary) (k : Kept s o) (m : MarkedIn s n)
 
   pub marked_claim : DiscardClaim s o n
   marked_claim = record { discards = taken_before; told = hand_told }
+
+calls_marked : (cs : List Call) (s : State) (o : Account) (n : Diary) → Kept s o → MarkedIn s n
+    → DiscardClaim (after cs s) (observed (events cs s) o) (diary (events cs s) o n)
+unfolding after events observed diary
+calls_marked [] s o n k m = marked_claim s o n k m
+calls_marked (c ∷ cs) s o n k m =
+    calls_marked cs (step c s).effect.next (observe (event_of c (step c s)) o) (note (event_of c (step c s)) o n) (step_keeps c s o k) (step_marked c s o n k m)
 
 -- ---- the list
 

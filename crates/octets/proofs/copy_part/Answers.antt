@@ -7,12 +7,9 @@ use Rattle.octets.proofs.copy_part.Goals as goal
 
 pub returns : goal.returns
 returns c =
-    let second = c in
-    let first = second in
-    let start = first in
-    let a = start.args in
+    let a = c.args in
     let part = cut_part a.from a.n a.area.now in
-    second.put-2.ensures
+    c.put-2.ensures
     ∙ ap (splice a.area.now a.to)
-    (cut_copied _ _ _ a.n (length_cut a.from a.n a.area.now start.requires.1) (omega arith)
-    (first.put.ensures ∙ ap (splice _ 0) part))
+    (cut_copied _ _ _ a.n (length_cut a.from a.n a.area.now c.requires.1) (omega arith)
+    (c.put.ensures ∙ ap (splice _ 0) part))

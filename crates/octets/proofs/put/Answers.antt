@@ -18,12 +18,11 @@ bounds-dst-at c = omega (arith, ap length c.loop-i.invariant.1 ∙ length_splice
 
 pub loop-i-preserved : goal.loop-i-preserved
 loop-i-preserved c =
-    let l = c in
-    let a = l.args in
-    let i = l.loop-i.i in
+    let a = c.args in
+    let i = c.loop-i.i in
     let room : a.at + i < length a.dst.now = omega arith in (
       omega arith,
-      ap (λ (x : List ℕ). set x (a.at + i) (get_or a.src.now i 0)) l.loop-i.invariant.1
+      ap (λ (x : List ℕ). set x (a.at + i) (get_or a.src.now i 0)) c.loop-i.invariant.1
           ∙ splice_more a.dst.now a.at a.src.now i c.loop-i-test.true room
           ∙ ap (λ (n : ℕ). splice a.dst.now a.at (take n a.src.now)) (sym (add-one i)),
     )

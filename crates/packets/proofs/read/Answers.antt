@@ -10,23 +10,17 @@ returns-then-p-lt3 c = sym (read_short c.args.p.now c.if-p-lt3.true)
 
 pub returns-then-mt-ge4 : goal.returns-then-mt-ge4
 returns-then-mt-ge4 c =
-    let b = c in
-    sym (read_rfu b.args.p.now b.if-p-lt3.false c.if-mt-ge4.true)
+    sym (read_rfu c.args.p.now c.if-p-lt3.false c.if-mt-ge4.true)
 
 pub overflow_cast-len : goal.overflow_cast-len
 overflow_cast-len c = omega (arith, c.type_inv.p 2)
 
 pub returns-then-p-len : goal.returns-then-p-len
 returns-then-p-len c =
-    let b = c in
-    let a = b in
-    sym (read_cut a.args.p.now a.if-p-lt3.false b.if-mt-ge4.false c.if-p-len.true)
+    sym (read_cut c.args.p.now c.if-p-lt3.false c.if-mt-ge4.false c.if-p-len.true)
 
 pub returns : goal.returns
 unfolding header_of
 returns c =
-    let d = c in
-    let b = d in
-    let a = b in
     rw (c.spare_of-spare.ensures, c.carried_of-credits.ensures, c.oid_of-oid.ensures)
-    (sym (read_whole a.args.p.now a.if-p-lt3.false b.if-mt-ge4.false d.if-p-len.false))
+    (sym (read_whole c.args.p.now c.if-p-lt3.false c.if-mt-ge4.false c.if-p-len.false))

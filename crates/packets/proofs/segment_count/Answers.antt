@@ -10,15 +10,12 @@ use Rattle.packets.proofs.segment_count.Goals as goal
 
 pub returns-then-n-eq0 : goal.returns-then-n-eq0
 returns-then-n-eq0 c =
-    let s = c in
-    sym (ap (length {A = Segment}) (segments_one s.args.size s.args.msg.now (omega (arith, c.if-n-eq0.true))))
+    sym (ap (length {A = Segment}) (segments_one c.args.size c.args.msg.now (omega (arith, c.if-n-eq0.true))))
 
 pub overflow_add-result : goal.overflow_add-result
 overflow_add-result c =
-    let s = c in
-    omega (arith, div-le_self (length s.args.msg.now - 1) s.args.size)
+    omega (arith, div-le_self (length c.args.msg.now - 1) c.args.size)
 
 pub returns : goal.returns
 returns c =
-    let s = c in
-    sym (segments_many s.args.size s.requires s.args.msg.now (omega (arith, c.if-n-eq0.false)))
+    sym (segments_many c.args.size c.requires c.args.msg.now (omega (arith, c.if-n-eq0.false)))

@@ -16,11 +16,10 @@ returns-then-n-gt255 c =
 
 pub returns-then-slot-n : goal.returns-then-slot-n
 returns-then-slot-n c =
-    let b = c in
-    let a = b.args in
+    let a = c.args in
     record {
-      octets = sym (slot_small a.slot.now a.h a.payload.now b.if-n-gt255.false c.if-slot-n.true);
-      count = sym (size_small a.slot.now a.payload.now b.if-n-gt255.false c.if-slot-n.true);
+      octets = sym (slot_small a.slot.now a.h a.payload.now c.if-n-gt255.false c.if-slot-n.true);
+      count = sym (size_small a.slot.now a.payload.now c.if-n-gt255.false c.if-slot-n.true);
     }
 
 pub bounds-slot-1 : goal.bounds-slot-1
@@ -34,15 +33,12 @@ shape_of-slot c = c.put.auto.dst ∙ simp length-set
 
 pub returns : goal.returns
 returns c =
-    let p = c in
-    let o = p in
-    let d = o in
-    let a = d.args in
+    let a = c.args in
     let room : 3 ≤ length a.slot.now = omega arith in
     record {
       octets =
-          p.put.ensures
-          ∙ packet_stored a.slot.now a.h a.payload.now _ _ room o.first_octet.ensures o.second_octet.ensures
-          ∙ sym (slot_fits a.slot.now a.h a.payload.now d.if-n-gt255.false d.if-slot-n.false);
-      count = sym (size_fits a.slot.now a.payload.now d.if-n-gt255.false d.if-slot-n.false);
+          c.put.ensures
+          ∙ packet_stored a.slot.now a.h a.payload.now _ _ room c.first_octet.ensures c.second_octet.ensures
+          ∙ sym (slot_fits a.slot.now a.h a.payload.now c.if-n-gt255.false c.if-slot-n.false);
+      count = sym (size_fits a.slot.now a.payload.now c.if-n-gt255.false c.if-slot-n.false);
     }

@@ -5,8 +5,6 @@ use Rattle.packets.proofs.write_segment.Goals as goal
 
 pub returns : goal.returns
 returns c =
-    let w = c in
-    let f = w in
-    let a = f.args in
-    rw (flag_segment _ (cut a.at a.size a.msg.now), body_segment _ (cut a.at a.size a.msg.now), ← f.follows.ensures, ← w.window.ensures)
-    w.write.ensures
+    let a = c.args in
+    rw (flag_segment _ (cut a.at a.size a.msg.now), body_segment _ (cut a.at a.size a.msg.now), ← c.follows.ensures, ← c.window.ensures)
+    c.write.ensures

@@ -12,25 +12,22 @@ use Rattle.air.proofs.events.air_message.Goals as goal
 pub found_message-requires : goal.found_message-requires
 unfolding air_message
 found_message-requires c =
-    let start = c in
-    let a = start.args in
-    let short = subst (λ (x : Event). length (air_message a.p x a.m.now).payload ≤ control_limit) c.in-Found.is start.requires in
+    let a = c.args in
+    let short = subst (λ (x : Event). length (air_message a.p x a.m.now).payload ≤ control_limit) c.in-Found.is c.requires in
     omega (arith, simp length-append at short)
 
 pub active_message-requires : goal.active_message-requires
 unfolding air_message
 active_message-requires c =
-    let start = c in
-    let a = start.args in
-    let short = subst (λ (x : Event). length (air_message a.p x a.m.now).payload ≤ control_limit) c.in-Poll.is start.requires in
+    let a = c.args in
+    let short = subst (λ (x : Event). length (air_message a.p x a.m.now).payload ≤ control_limit) c.in-Poll.is c.requires in
     omega (arith, simp length-append at short)
 
 pub active_message-requires-in-Listen : goal.active_message-requires-in-Listen
 unfolding air_message
 active_message-requires-in-Listen c =
-    let start = c in
-    let a = start.args in
-    let short = subst (λ (x : Event). length (air_message a.p x a.m.now).payload ≤ control_limit) c.in-Listen.is start.requires in
+    let a = c.args in
+    let short = subst (λ (x : Event). length (air_message a.p x a.m.now).payload ≤ control_limit) c.in-Listen.is c.requires in
     omega (arith, simp length-append at short)
 
 pub returns-in-Bad : goal.returns-in-Bad

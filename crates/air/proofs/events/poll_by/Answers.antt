@@ -21,9 +21,7 @@ returns-in-Nothing c = rw (c.in-W4HostSelect.is, c.in-Nothing.is)
 pub returns-in-Chosen : goal.returns-in-Chosen
 unfolding poll_by
 returns-in-Chosen c =
-    let s = c in
-    let rf = s in
-    rw (rf.in-W4HostSelect.is, s.in-Chosen.is, c.taken.ensures, c.same_pair.ensures, rf.pair_of-p.ensures)
+    rw (c.in-W4HostSelect.is, c.in-Chosen.is, c.taken.ensures, c.same_pair.ensures, c.pair_of-p.ensures)
 
 pub returns-in-PollActive : goal.returns-in-PollActive
 unfolding poll_by

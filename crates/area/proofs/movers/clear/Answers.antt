@@ -25,11 +25,10 @@ bounds-area-i c = omega (arith, long (goal.at.bounds-area-i c).At-loop-i)
 
 pub loop-i-preserved : goal.loop-i-preserved
 loop-i-preserved c =
-    let l = c in
-    let a = l.args.area.now in
-    let i = l.loop-i.i in (
+    let a = c.args.area.now in
+    let i = c.loop-i.i in (
       omega arith,
-      ap (λ (x : List ℕ). set x i 0) l.loop-i.invariant.1
+      ap (λ (x : List ℕ). set x i 0) c.loop-i.invariant.1
           ∙ zeros_more a i
           ∙ ap (λ (n : ℕ). splice a 0 (zeros n)) (sym (add-one i)),
     )
@@ -39,6 +38,5 @@ shape_of-area c = long (goal.at.shape_of-area c).At-loop-i
 
 pub returns : goal.returns
 returns c =
-    let l = c in
-    let all : l.loop-i.i ≡ 36864 = omega arith in
-    l.loop-i.invariant.1 ∙ ap (λ (n : ℕ). splice l.args.area.now 0 (zeros n)) all
+    let all : c.loop-i.i ≡ 36864 = omega arith in
+    c.loop-i.invariant.1 ∙ ap (λ (n : ℕ). splice c.args.area.now 0 (zeros n)) all

@@ -6,6 +6,5 @@ use Rattle.area.proofs.movers.hand_out.Goals as goal
 
 pub returns : goal.returns
 returns c =
-    let w = c in
-    let a = w.args in
-    w.put.ensures ∙ ap (splice a.buffer.now 0) (cut_part a.from a.n a.area.now)
+    let a = c.args in
+    c.put.ensures ∙ ap (splice a.buffer.now 0) (cut_part a.from a.n a.area.now)

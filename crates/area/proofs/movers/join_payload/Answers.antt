@@ -20,20 +20,14 @@ payload c =
 long : (c : After-payload) → let a = c.args in
     length (payload_of (cut a.slot slot_size a.area.now) a.n) ≡ a.n
 long c =
-    let start = c in
-    length_payload start.args.area.now start.args.slot start.args.n start.requires.0 start.requires.1
+    length_payload c.args.area.now c.args.slot c.args.n c.requires.0 c.requires.1
 
 pub put-requires : goal.put-requires
 put-requires c =
-    let start = c in
-    omega (arith, ap length (payload (goal.at.put-requires c).After-payload) ∙ long (goal.at.put-requires c).After-payload, start.requires.0)
+    omega (arith, ap length (payload (goal.at.put-requires c).After-payload) ∙ long (goal.at.put-requires c).After-payload, c.requires.0)
 
 pub returns : goal.returns
 returns c =
-    let second = c in
-    let first = second in
-    let got = first in
-    let start = got in
-    let a = start.args in
-    second.put-2.ensures
-    ∙ ap (splice a.area.now a.to) (cut_copied _ _ _ a.n (long (goal.at.returns c).After-payload) (omega (arith, start.requires.0)) (first.put.ensures ∙ ap (splice _ 0) (payload (goal.at.returns c).After-payload)))
+    let a = c.args in
+    c.put-2.ensures
+    ∙ ap (splice a.area.now a.to) (cut_copied _ _ _ a.n (long (goal.at.returns c).After-payload) (omega (arith, c.requires.0)) (c.put.ensures ∙ ap (splice _ 0) (payload (goal.at.returns c).After-payload)))

@@ -16,9 +16,8 @@ use Rattle.area.proofs.movers.join_run.Goals.{After-join_payload-arg-1, Start}
 
 room : (c : After-join_payload-arg-1) → let a = c.args in a.p.len + a.n ≤ a.limit
 room c =
-    let f = c in
-    let a = f.args in
-    within_room a.limit a.p a.n (sym f.fits.ensures ∙ c.if-fits.true)
+    let a = c.args in
+    within_room a.limit a.p a.n (sym c.fits.ensures ∙ c.if-fits.true)
 
 -- the area after the payload is within the limit or not
 joined : (start : Start) (b : Bool) → let a = start.args in within a.limit a.p a.n ≡ b
@@ -39,11 +38,8 @@ join_payload-requires c = omega (arith, room (goal.at.join_payload-requires c).A
 
 pub returns-then-fits : goal.returns-then-fits
 returns-then-fits c =
-    let put = c in
-    let f = put in
-    put.join_payload.ensures ∙ sym (joined (goal.at.returns-then-fits c).Start _ (sym f.fits.ensures ∙ put.if-fits.true))
+    c.join_payload.ensures ∙ sym (joined (goal.at.returns-then-fits c).Start _ (sym c.fits.ensures ∙ c.if-fits.true))
 
 pub returns-else-fits : goal.returns-else-fits
 returns-else-fits c =
-    let f = c in
-    sym (joined (goal.at.returns-else-fits c).Start _ (sym f.fits.ensures ∙ c.if-fits.false))
+    sym (joined (goal.at.returns-else-fits c).Start _ (sym c.fits.ensures ∙ c.if-fits.false))

@@ -42,24 +42,20 @@ put_into-q-requires c = omega (arith, some (goal.at.put_into-q-requires c).In-lo
 
 pub loop-at-preserved : goal.loop-at-preserved
 loop-at-preserved c =
-    let put = c in
-    let turn = put in
-    let l = turn in
-    let start = l in
-    let a = start.args in
+    let a = c.args in
     let q = c.put_into-q.ensures in
-    let more : c.put_into-q.result.count ≡ l.loop-at.q.count + 1 = ap (λ (x : Ring). x.count) q in
-    let grown : a.r.count ≤ c.put_into-q.result.count = omega (arith, l.loop-at.invariant.2) in
-    let sum : c.put_into-q.result.count + length (segments a.size (drop (l.loop-at.at + a.size) a.msg.now)) ≡ a.r.count + length (segments a.size a.msg.now) =
-    omega (arith, some (goal.at.loop-at-preserved c).In-loop-at, l.loop-at.invariant.3) in (
+    let more : c.put_into-q.result.count ≡ c.loop-at.q.count + 1 = ap (λ (x : Ring). x.count) q in
+    let grown : a.r.count ≤ c.put_into-q.result.count = omega (arith, c.loop-at.invariant.2) in
+    let sum : c.put_into-q.result.count + length (segments a.size (drop (c.loop-at.at + a.size) a.msg.now)) ≡ a.r.count + length (segments a.size a.msg.now) =
+    omega (arith, some (goal.at.loop-at-preserved c).In-loop-at, c.loop-at.invariant.3) in (
       omega arith,
-      ap (λ (x : Ring). x.head) q ∙ l.loop-at.invariant.1,
+      ap (λ (x : Ring). x.head) q ∙ c.loop-at.invariant.1,
       grown,
       sum,
-      ap length put.put_next.ensures ∙ length_splice _ _ _ ∙ l.loop-at.invariant.4,
-      (λ i. puts_all a.base (put.put_next.ensures i) (q i) (packets_of a.h a.size (drop (l.loop-at.at + a.size) a.msg.now)))
-          ∙ puts_more a.size start.requires.0 a.msg.now l.loop-at.at a.base l.loop-at.area l.loop-at.q a.h turn.loop-at-test.true
-          ∙ l.loop-at.invariant.5,
+      ap length c.put_next.ensures ∙ length_splice _ _ _ ∙ c.loop-at.invariant.4,
+      (λ i. puts_all a.base (c.put_next.ensures i) (q i) (packets_of a.h a.size (drop (c.loop-at.at + a.size) a.msg.now)))
+          ∙ puts_more a.size c.requires.0 a.msg.now c.loop-at.at a.base c.loop-at.area c.loop-at.q a.h c.loop-at-test.true
+          ∙ c.loop-at.invariant.5,
     )
 
 pub put_next-requires-2 : goal.put_next-requires-2
@@ -67,14 +63,10 @@ put_next-requires-2 c = omega (arith, one (goal.at.put_next-requires-2 c).After-
 
 pub returns : goal.returns
 returns c =
-    let put = c in
-    let left = put in
-    let l = left in
-    let start = l in
-    let a = start.args in
+    let a = c.args in
     let n = one (goal.at.returns c).After-loop-at in (
       omega arith,
-      put.put_next-2.ensures
-          ∙ puts_one a.size start.requires.0 a.msg.now l.loop-at.at a.base l.loop-at.area l.loop-at.q a.h left.loop-at-test.false
-          ∙ l.loop-at.invariant.5,
+      c.put_next-2.ensures
+          ∙ puts_one a.size c.requires.0 a.msg.now c.loop-at.at a.base c.loop-at.area c.loop-at.q a.h c.loop-at-test.false
+          ∙ c.loop-at.invariant.5,
     )

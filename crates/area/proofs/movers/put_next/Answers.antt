@@ -7,8 +7,6 @@ use Rattle.area.proofs.movers.put_next.Goals as goal
 
 pub returns : goal.returns
 returns c =
-    let w = c in
-    let free = w in
-    let a = free.args in
-    w.put_piece.ensures
-    ∙ ap (λ (s : ℕ). splice a.area.now s (segment_packet a.h (segment_at a.size a.msg.now a.at))) free.free_at-slot.ensures
+    let a = c.args in
+    c.put_piece.ensures
+    ∙ ap (λ (s : ℕ). splice a.area.now s (segment_packet a.h (segment_at a.size a.msg.now a.at))) c.free_at-slot.ensures

@@ -4,7 +4,5 @@ use Rattle.area.proofs.movers.put_packet.Goals as goal
 
 pub returns : goal.returns
 returns c =
-    let w = c in
-    let start = w in
-    let a = start.args in
-    packet_lent a.area.now _ a.slot a.h a.payload.now start.requires.0 start.requires.1 w.write.ensures.octets
+    let a = c.args in
+    packet_lent a.area.now _ a.slot a.h a.payload.now c.requires.0 c.requires.1 c.write.ensures.octets

@@ -8,9 +8,7 @@ use Rattle.area.proofs.movers.put_piece.Goals as goal
 
 pub returns : goal.returns
 returns c =
-    let w = c in
-    let start = w in
-    let a = start.args in
+    let a = c.args in
     let s = segment_at a.size a.msg.now a.at in
     let short : length (body s) ≤ 255 = omega (arith, segment_short a.size a.msg.now a.at) in
-    packet_lent a.area.now _ a.slot (marked a.h (flag s)) (body s) short start.requires.1 w.write_segment.ensures.octets
+    packet_lent a.area.now _ a.slot (marked a.h (flag s)) (body s) short c.requires.1 c.write_segment.ensures.octets

@@ -10,12 +10,9 @@ use Rattle.area.proofs.movers.put_segment.Goals as goal
 
 pub returns : goal.returns
 returns c =
-    let second = c in
-    let first = second in
-    let start = first in
-    let a = start.args in
+    let a = c.args in
     let part = cut_part a.from a.len a.area.now in
-    second.put_piece.ensures
+    c.put_piece.ensures
     ∙ ap (λ (m : List ℕ). splice a.area.now a.slot (segment_packet a.h (segment_at a.size m a.at)))
     (cut_copied _ _ _ a.len (length_cut a.from a.len a.area.now (omega arith)) (omega arith)
-    (first.put.ensures ∙ ap (splice _ 0) part))
+    (c.put.ensures ∙ ap (splice _ 0) part))

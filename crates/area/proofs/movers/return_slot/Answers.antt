@@ -7,14 +7,10 @@ use Rattle.area.proofs.movers.return_slot.Goals as goal
 
 pub returns : goal.returns
 returns c =
-    let second = c in
-    let between = second in
-    let first = between in
-    let start = first in
-    let a = start.args in
+    let a = c.args in
     let part = cut_part a.from 258 a.area.now in
-    let long = length_cut a.from 258 a.area.now start.requires.0 in
-    second.put-2.ensures
+    let long = length_cut a.from 258 a.area.now c.requires.0 in
+    c.put-2.ensures
     ∙ ap (splice a.area.now a.to)
-    (between.set_credits.ensures
-    ∙ ap (carrying a.n) (first.put.ensures ∙ ap (splice _ 0) part ∙ splice_all _ _ (sym long)))
+    (c.set_credits.ensures
+    ∙ ap (carrying a.n) (c.put.ensures ∙ ap (splice _ 0) part ∙ splice_all _ _ (sym long)))

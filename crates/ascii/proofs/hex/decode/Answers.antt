@@ -21,33 +21,29 @@ loop-i-init c = (omega arith, sym (splice_nil _ _))
 
 pub overflow_mul-buffer : goal.overflow_mul-buffer
 overflow_mul-buffer c =
-    let s = c in
     let i = c.loop-i.i in
-    omega (arith, c.value-high.ensures, hex_at s.args.text.now s.requires.0 (2 * i) (omega arith))
+    omega (arith, c.value-high.ensures, hex_at c.args.text.now c.requires.0 (2 * i) (omega arith))
 
 pub overflow_add-buffer : goal.overflow_add-buffer
 overflow_add-buffer c =
-    let s = c in
     let i = c.loop-i.i in
     omega (
       arith,
       c.value-high.ensures,
       c.value-low.ensures,
-      hex_at s.args.text.now s.requires.0 (2 * i) (omega arith),
-      hex_at s.args.text.now s.requires.0 (2 * i + 1) (omega arith),
+      hex_at c.args.text.now c.requires.0 (2 * i) (omega arith),
+      hex_at c.args.text.now c.requires.0 (2 * i + 1) (omega arith),
     )
 
 pub bounds-buffer-i : goal.bounds-buffer-i
 bounds-buffer-i c =
-    let s = c in
-    omega (arith, s.requires.1, length_octets s.args.text.now, long (goal.at.bounds-buffer-i c).At-loop-i)
+    omega (arith, c.requires.1, length_octets c.args.text.now, long (goal.at.bounds-buffer-i c).At-loop-i)
 
 pub loop-i-preserved : goal.loop-i-preserved
 loop-i-preserved c =
-    let s = c in
     let l = c.loop-i in
     let i = l.i in
-    let text = s.args.text.now in
+    let text = c.args.text.now in
     let all = octets_in text in
     let size : length all ≡ length text / 2 = length_octets text in
     let octet : c.value-high.result * 16 + c.value-low.result ≡ get_or all i 0 =
@@ -55,8 +51,8 @@ loop-i-preserved c =
     let start : i ≡ 0 + i = omega arith in (
       omega arith,
       (λ j. set (l.invariant.1 j) (start j) (octet j))
-          ∙ splice_more s.args.buffer.now 0 all i (omega arith) (omega (arith, s.requires.1))
-          ∙ ap (λ (n : ℕ). splice s.args.buffer.now 0 (take n all)) (sym (add-one i)),
+          ∙ splice_more c.args.buffer.now 0 all i (omega arith) (omega (arith, c.requires.1))
+          ∙ ap (λ (n : ℕ). splice c.args.buffer.now 0 (take n all)) (sym (add-one i)),
     )
 
 pub shape_of-buffer : goal.shape_of-buffer
@@ -64,7 +60,6 @@ shape_of-buffer c = long (goal.at.shape_of-buffer c).At-loop-i
 
 pub returns : goal.returns
 returns c =
-    let s = c in
     let l = c.loop-i in
-    let all = octets_in s.args.text.now in
-    l.invariant.1 ∙ ap (splice s.args.buffer.now 0) (take_all l.i all (omega (arith, length_octets s.args.text.now)))
+    let all = octets_in c.args.text.now in
+    l.invariant.1 ∙ ap (splice c.args.buffer.now 0) (take_all l.i all (omega (arith, length_octets c.args.text.now)))

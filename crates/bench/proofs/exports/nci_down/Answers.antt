@@ -16,23 +16,20 @@ use Rattle.bench.proofs.exports.nci_down.Goals as goal
 pub returns-then-entry-ne0 : goal.returns-then-entry-ne0
 unfolding down_call
 returns-then-entry-ne0 c =
-    let s = c in
-    called_unentered _ _ s.args.area.now s.args.out.now c.enter-l.result.answer c.enter-l.ensures.answer c.if-entry-ne0.true
+    called_unentered _ _ c.args.area.now c.args.out.now c.enter-l.result.answer c.enter-l.ensures.answer c.if-entry-ne0.true
 
 pub refusal-n-requires : goal.refusal-n-requires
 refusal-n-requires c =
-    let s = c in
     let e = c.enter-l.ensures in
     let z = c.if-entry-ne0.false in
-    let x = entered s.args.area.now (length s.args.out.now) (sym z ∙ e.answer) in
+    let x = entered c.args.area.now (length c.args.out.now) (sym z ∙ e.answer) in
     (subst Fit (sym (e.loads z)) x.sound.fit).down
 
 pub returns-then-n-ne0 : goal.returns-then-n-ne0
 unfolding down_call
 returns-then-n-ne0 c =
-    let s = c in
-    let a = s.args.area.now in
-    let out = s.args.out.now in
+    let a = c.args.area.now in
+    let out = c.args.out.now in
     let e = c.enter-l.ensures in
     let same = e.loads c.if-entry-ne0.false in
     let n = c.refusal-n.ensures ∙ (λ i. lowest (down_rules (view a (same i)))) in
@@ -40,9 +37,8 @@ returns-then-n-ne0 c =
 
 pub act-requires : goal.act-requires
 act-requires c =
-    let s = c in
-    let a = s.args.area.now in
-    let out = s.args.out.now in
+    let a = c.args.area.now in
+    let out = c.args.out.now in
     let e = c.enter-l.ensures in
     let z = c.if-entry-ne0.false in
     let x = entered a (length out) (sym z ∙ e.answer) in
@@ -53,9 +49,8 @@ act-requires c =
 pub returns : goal.returns
 unfolding down_call
 returns c =
-    let s = c in
-    let a = s.args.area.now in
-    let out = s.args.out.now in
+    let a = c.args.area.now in
+    let out = c.args.out.now in
     let e = c.enter-l.ensures in
     let z = c.if-entry-ne0.false in
     let same = e.loads z in

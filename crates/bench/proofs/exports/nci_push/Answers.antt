@@ -14,42 +14,38 @@ use Rattle.bench.proofs.exports.nci_push.Goals as goal
 pub returns-then-entry-ne0 : goal.returns-then-entry-ne0
 unfolding push_call
 returns-then-entry-ne0 c =
-    let s = c in
-    called_unentered _ _ s.args.area.now s.args.out.now c.enter-l.result.answer c.enter-l.ensures.answer c.if-entry-ne0.true
+    called_unentered _ _ c.args.area.now c.args.out.now c.enter-l.result.answer c.enter-l.ensures.answer c.if-entry-ne0.true
 
 pub returns-then-n-ne0 : goal.returns-then-n-ne0
 unfolding push_call
 returns-then-n-ne0 c =
-    let s = c in
-    let a = s.args.area.now in
-    let out = s.args.out.now in
+    let a = c.args.area.now in
+    let out = c.args.out.now in
     let e = c.enter-l.ensures in
     let same = e.loads c.if-entry-ne0.false in
-    let n = c.refusal-n.ensures a ∙ (λ i. lowest (push_rules s.args.conn (view a (same i)))) in
+    let n = c.refusal-n.ensures a ∙ (λ i. lowest (push_rules c.args.conn (view a (same i)))) in
     called_refused _ _ a out (sym c.if-entry-ne0.false ∙ e.answer) c.refusal-n.result n c.if-n-ne0.true
 
 pub act-requires : goal.act-requires
 act-requires c =
-    let s = c in
-    let a = s.args.area.now in
-    let out = s.args.out.now in
+    let a = c.args.area.now in
+    let out = c.args.out.now in
     let e = c.enter-l.ensures in
     let z = c.if-entry-ne0.false in
     let x = entered a (length out) (sym z ∙ e.answer) in
     let r = c.enter-l.result.«record» in
     let fit = subst Fit (sym (e.loads z)) x.sound.fit in
-    (x.long, push_able a r s.args.conn fit (sym c.if-n-ne0.false ∙ c.refusal-n.ensures a))
+    (x.long, push_able a r c.args.conn fit (sym c.if-n-ne0.false ∙ c.refusal-n.ensures a))
 
 pub returns : goal.returns
 unfolding push_call
 returns c =
-    let s = c in
-    let a = s.args.area.now in
-    let out = s.args.out.now in
+    let a = c.args.area.now in
+    let out = c.args.out.now in
     let e = c.enter-l.ensures in
     let z = c.if-entry-ne0.false in
     let same = e.loads z in
-    let none = sym c.if-n-ne0.false ∙ c.refusal-n.ensures a ∙ (λ i. lowest (push_rules s.args.conn (view a (same i)))) in
+    let none = sym c.if-n-ne0.false ∙ c.refusal-n.ensures a ∙ (λ i. lowest (push_rules c.args.conn (view a (same i)))) in
     (λ i. outcome (c.act.ensures.0 i) (c.act.ensures.1 i) out)
-    ∙ (λ i. pushed (same i) s.args.conn a out)
+    ∙ (λ i. pushed (same i) c.args.conn a out)
     ∙ called_taken _ _ a out (sym z ∙ e.answer) refl none

@@ -7,13 +7,11 @@ use Rattle.bench.proofs.exports.nci_run.Goals as goal
 
 pub returns-then-entry-ne0 : goal.returns-then-entry-ne0
 returns-then-entry-ne0 c =
-    let s = c in
-    run_shut s.args.area.now s.args.out.now c.enter-l.result.answer c.enter-l.ensures.answer c.if-entry-ne0.true
+    run_shut c.args.area.now c.args.out.now c.enter-l.result.answer c.enter-l.ensures.answer c.if-entry-ne0.true
 
 pub returns : goal.returns
 returns c =
-    let s = c in
     let e = c.enter-l.ensures in
     c.act.ensures
-    ∙ run_entered s.args.area.now s.args.out.now
-    (entered s.args.area.now (length s.args.out.now) (sym c.if-entry-ne0.false ∙ e.answer))
+    ∙ run_entered c.args.area.now c.args.out.now
+    (entered c.args.area.now (length c.args.out.now) (sym c.if-entry-ne0.false ∙ e.answer))

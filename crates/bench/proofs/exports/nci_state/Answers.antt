@@ -9,20 +9,17 @@ use Rattle.bench.proofs.exports.nci_state.Goals as goal
 pub returns-then-entry-ne0 : goal.returns-then-entry-ne0
 unfolding state_call
 returns-then-entry-ne0 c =
-    let s = c in
-    called_unentered _ _ s.args.area.now s.args.out.now c.enter-l.result.answer c.enter-l.ensures.answer c.if-entry-ne0.true
+    called_unentered _ _ c.args.area.now c.args.out.now c.enter-l.result.answer c.enter-l.ensures.answer c.if-entry-ne0.true
 
 pub act-requires : goal.act-requires
 act-requires c =
-    let s = c in
-    (entered s.args.area.now (length s.args.out.now) (sym c.if-entry-ne0.false ∙ c.enter-l.ensures.answer)).room
+    (entered c.args.area.now (length c.args.out.now) (sym c.if-entry-ne0.false ∙ c.enter-l.ensures.answer)).room
 
 pub returns : goal.returns
 unfolding state_call lowest
 returns c =
-    let s = c in
-    let a = s.args.area.now in
-    let out = s.args.out.now in
+    let a = c.args.area.now in
+    let out = c.args.out.now in
     let e = c.enter-l.ensures in
     let same = e.loads c.if-entry-ne0.false in
     (λ i. outcome (c.act.ensures.0 i) a (c.act.ensures.1 i))

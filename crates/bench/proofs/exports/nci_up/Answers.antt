@@ -14,15 +14,13 @@ use Rattle.bench.proofs.exports.nci_up.Goals as goal
 pub returns-then-entry-ne0 : goal.returns-then-entry-ne0
 unfolding up_call
 returns-then-entry-ne0 c =
-    let s = c in
-    called_unentered _ _ s.args.area.now s.args.out.now c.enter-l.result.answer c.enter-l.ensures.answer c.if-entry-ne0.true
+    called_unentered _ _ c.args.area.now c.args.out.now c.enter-l.result.answer c.enter-l.ensures.answer c.if-entry-ne0.true
 
 pub returns-then-n-ne0 : goal.returns-then-n-ne0
 unfolding up_call
 returns-then-n-ne0 c =
-    let s = c in
-    let a = s.args.area.now in
-    let out = s.args.out.now in
+    let a = c.args.area.now in
+    let out = c.args.out.now in
     let e = c.enter-l.ensures in
     let same = e.loads c.if-entry-ne0.false in
     let n = c.refusal-n.ensures a ∙ (λ i. lowest (up_rules (view a (same i)))) in
@@ -30,9 +28,8 @@ returns-then-n-ne0 c =
 
 pub act-requires : goal.act-requires
 act-requires c =
-    let s = c in
-    let a = s.args.area.now in
-    let out = s.args.out.now in
+    let a = c.args.area.now in
+    let out = c.args.out.now in
     let e = c.enter-l.ensures in
     let z = c.if-entry-ne0.false in
     let x = entered a (length out) (sym z ∙ e.answer) in
@@ -42,9 +39,8 @@ act-requires c =
 pub returns : goal.returns
 unfolding up_call
 returns c =
-    let s = c in
-    let a = s.args.area.now in
-    let out = s.args.out.now in
+    let a = c.args.area.now in
+    let out = c.args.out.now in
     let e = c.enter-l.ensures in
     let z = c.if-entry-ne0.false in
     let same = e.loads z in

@@ -12,19 +12,16 @@ use Rattle.call_bench.proofs.packet.act.Goals as goal
 
 pub put-requires : goal.put-requires
 put-requires c =
-    let s = c in
-    let short = length_slot (wire_at s.args.wire) s.args.area.now (slot_back (wire_ring s.args.r s.args.wire) s.args.back) in
-    omega (arith, s.requires.0, short, ap length c.packet_back-p.ensures)
+    let short = length_slot (wire_at c.args.wire) c.args.area.now (slot_back (wire_ring c.args.r c.args.wire) c.args.back) in
+    omega (arith, c.requires.0, short, ap length c.packet_back-p.ensures)
 
 pub hands_out-requires : goal.hands_out-requires
 hands_out-requires c =
-    let s = c in
-    let short = length_slot (wire_at s.args.wire) s.args.area.now (slot_back (wire_ring s.args.r s.args.wire) s.args.back) in
+    let short = length_slot (wire_at c.args.wire) c.args.area.now (slot_back (wire_ring c.args.r c.args.wire) c.args.back) in
     omega (arith, short, ap length c.packet_back-p.ensures)
 
 pub returns : goal.returns
 returns c =
-    let s = c in
     let p = c.packet_back-p.ensures in
     let word = c.hands_out.ensures ∙ (λ i. word_of false true (length (p i)) 0 0) in
-    (λ i. outcome (word i) s.args.area.now ((c.put.ensures ∙ ap (splice s.args.out.now 0) p) i))
+    (λ i. outcome (word i) c.args.area.now ((c.put.ensures ∙ ap (splice c.args.out.now 0) p) i))

@@ -12,18 +12,16 @@ use Rattle.call_bench.proofs.packet.packet_back.Goals as goal
 
 pub slot_back-slot-requires : goal.slot_back-slot-requires
 slot_back-slot-requires c =
-    let s = c in
     let ring = sym c.wire_ring-k.ensures in (
-      subst (λ (x : ℕ). x + wire_size ≤ area_size) (sym c.wire_at-base.ensures) (wire_room s.args.wire),
-      subst (FitRing wire_slots) ring s.requires.ring,
-      subst (λ (k : Ring). s.args.back < k.count) ring s.requires.some,
+      subst (λ (x : ℕ). x + wire_size ≤ area_size) (sym c.wire_at-base.ensures) (wire_room c.args.wire),
+      subst (FitRing wire_slots) ring c.requires.ring,
+      subst (λ (k : Ring). c.args.back < k.count) ring c.requires.some,
     )
 
 pub returns : goal.returns
 unfolding slot_packet
 returns c =
-    let s = c in
-    let a = s.args.area.now in
+    let a = c.args.area.now in
     c.packet_in.ensures
     ∙ (λ i. trim (cut (c.slot_back-slot.ensures i) slot_size a))
-    ∙ (λ i. trim (cut (slot_at (c.wire_at-base.ensures i) (slot_back (c.wire_ring-k.ensures i) s.args.back)) slot_size a))
+    ∙ (λ i. trim (cut (slot_at (c.wire_at-base.ensures i) (slot_back (c.wire_ring-k.ensures i) c.args.back)) slot_size a))

@@ -11,24 +11,21 @@ use Rattle.call_bench.proofs.report.numbers.Goals as goal
 
 pub overflow_cast-second : goal.overflow_cast-second
 overflow_cast-second c =
-    let s = c in
-    omega (arith, c.data_count-second.ensures, down_octet s.args.area.now s.args.r s.args.conn s.requires.1)
+    omega (arith, c.data_count-second.ensures, down_octet c.args.area.now c.args.r c.args.conn c.requires.1)
 
 pub overflow_cast-credits : goal.overflow_cast-credits
 overflow_cast-credits c =
-    let s = c in
-    omega (arith, c.credits_up-credits.ensures, up_octet s.args.area.now s.args.r s.args.conn s.requires.1)
+    omega (arith, c.credits_up-credits.ensures, up_octet c.args.area.now c.args.r c.args.conn c.requires.1)
 
 pub returns : goal.returns
 returns c =
-    let s = c in
-    let a = s.args.area.now in
-    let r = s.args.r in
+    let a = c.args.area.now in
+    let r = c.args.r in
     let k = c.counts_of-k.ensures in
     λ i.
     (c.held_shown-first.ensures ∙ (λ j. pick (flows (k j).controller.grant) (pick (k j).host.opened (k j).host.held 0) 255)) i
     ∷ c.data_count-second.ensures i
-    ∷ ((λ j. (k j).controller.store.count) ∙ sym (length_packets (store_at (place_of s.args.conn)) store_slots a (counts_of r.ends.conns s.args.conn).controller.store)) i
+    ∷ ((λ j. (k j).controller.store.count) ∙ sym (length_packets (store_at (place_of c.args.conn)) store_slots a (counts_of r.ends.conns c.args.conn).controller.store)) i
     ∷ (c.owing-fourth.ensures ∙ (λ j. owing (k j).controller.opened (k j).controller.grant (k j).controller.owed)) i
     ∷ (c.choose-fifth.ensures ∙ (λ j. pick (flows (k j).controller.grant) (c.credits_up-credits.ensures j) 0)) i
     ∷ []

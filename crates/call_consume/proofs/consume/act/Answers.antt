@@ -15,9 +15,8 @@ returns-in_default c =
 
 pub take-requires : goal.take-requires
 take-requires c =
-    let s = c in
     let e = sym c.read-got.ensures ∙ c.in-Packet.is in
-    (s.requires.0, s.requires.1, s.requires.2, payload_few s.args.area.now (oldest_at s.args.r s.args.conn) _ _ e)
+    (c.requires.0, c.requires.1, c.requires.2, payload_few c.args.area.now (oldest_at c.args.r c.args.conn) _ _ e)
 
 pub returns : goal.returns
 returns c =

@@ -7,19 +7,17 @@ use Rattle.call_consume.proofs.consume.deliver.Goals as goal
 
 pub hand_out-requires : goal.hand_out-requires
 hand_out-requires c =
-    let s = c in
-    let few = s.requires.3 c.if-done.true in
-    (omega (arith, s.requires.1, few), omega (arith, s.requires.0, s.requires.2, few, c.place_of-place.ensures, c.controller_run_at-from.ensures))
+    let few = c.requires.3 c.if-done.true in
+    (omega (arith, c.requires.1, few), omega (arith, c.requires.0, c.requires.2, few, c.place_of-place.ensures, c.controller_run_at-from.ensures))
 
 pub returns-then-done : goal.returns-then-done
 returns-then-done c =
-    let s = c in
     rw c.if-done.true record {
       length = refl;
-      short = s.requires.3 c.if-done.true;
+      short = c.requires.3 c.if-done.true;
       octets =
           c.hand_out.ensures
-          ∙ (λ i. splice s.args.out.now 0 (cut ((c.controller_run_at-from.ensures ∙ ap controller_run_at c.place_of-place.ensures) i) s.args.len s.args.area.now));
+          ∙ (λ i. splice c.args.out.now 0 (cut ((c.controller_run_at-from.ensures ∙ ap controller_run_at c.place_of-place.ensures) i) c.args.len c.args.area.now));
     }
 
 pub returns : goal.returns

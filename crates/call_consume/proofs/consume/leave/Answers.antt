@@ -9,11 +9,10 @@ use Rattle.model.specs.calls.Consume.{is_loop}
 use Rattle.call_consume.proofs.consume.leave.Goals as goal
 
 pub answer-requires : goal.answer-requires
-answer-requires c =
-    let s = c in (
-      omega (arith, s.requires.2),
-      subst (λ (n : ℕ). n < 256) (sym c.ups-up.ensures) (on (λ (n : ℕ). n < 256) (is_loop s.args.conn) (λ _. omega arith) (λ _. omega arith)),
-    )
+answer-requires c = (
+  omega (arith, c.requires.2),
+  subst (λ (n : ℕ). n < 256) (sym c.ups-up.ensures) (on (λ (n : ℕ). n < 256) (is_loop c.args.conn) (λ _. omega arith) (λ _. omega arith)),
+)
 
 pub returns : goal.returns
 returns c =

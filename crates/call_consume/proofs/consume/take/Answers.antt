@@ -14,20 +14,17 @@ use Rattle.call_consume.proofs.consume.take.Goals as goal
 
 pub overflow_add-run : goal.overflow_add-run
 overflow_add-run c =
-    let s = c in
-    let run = subst (λ (k : ControllerSide). k.run.len ≤ message_size) (sym c.side_of-side.ensures) s.requires.2.run in
-    omega (arith, run, s.requires.3)
+    let run = subst (λ (k : ControllerSide). k.run.len ≤ message_size) (sym c.side_of-side.ensures) c.requires.2.run in
+    omega (arith, run, c.requires.3)
 
 pub deliver-len-requires : goal.deliver-len-requires
 deliver-len-requires c =
-    let s = c in
     let done = ap (λ (j : Joined). j.done) c.join-j.ensures in
-    (search rules, s.requires.1, s.requires.2.place, λ d. done_room message_size c.side_of-side.result.run s.args.more s.args.n (sym done ∙ d))
+    (search rules, c.requires.1, c.requires.2.place, λ d. done_room message_size c.side_of-side.result.run c.args.more c.args.n (sym done ∙ d))
 
 pub leave-requires : goal.leave-requires
 leave-requires c =
-    let s = c in
-    (search rules, s.requires.2, c.deliver-len.ensures.short)
+    (search rules, c.requires.2, c.deliver-len.ensures.short)
 
 pub returns : goal.returns
 returns c =

@@ -11,25 +11,22 @@ use Rattle.call_controller.proofs.airing.carry.Goals as goal
 
 pub take_message-requires : goal.take_message-requires
 take_message-requires c =
-    let s = c in
-    let m = s.args.m.now in
-    let k = sym s.requires.1 ∙ c.if-spoken.true in
-    omega (arith, s.requires.0, spoken_short m k, ap length (c.window.ensures ∙ cut_rest 1 m))
+    let m = c.args.m.now in
+    let k = sym c.requires.1 ∙ c.if-spoken.true in
+    omega (arith, c.requires.0, spoken_short m k, ap length (c.window.ensures ∙ cut_rest 1 m))
 
 pub returns-then-spoken : goal.returns-then-spoken
 returns-then-spoken c =
-    let s = c in
-    let a = s.args.area.now in
-    let m = s.args.m.now in
-    let k = sym c.if-spoken.true ∙ s.requires.1 in
+    let a = c.args.area.now in
+    let m = c.args.m.now in
+    let k = sym c.if-spoken.true ∙ c.requires.1 in
     c.take_message.ensures
     ∙ (λ i. splice a endpoint_at ((c.window.ensures ∙ cut_rest 1 m) i))
-    ∙ (λ i. pick (k i) (aired_place m a) (aired_slot s.args.r m a))
+    ∙ (λ i. pick (k i) (aired_place m a) (aired_slot c.args.r m a))
 
 pub returns-else-spoken : goal.returns-else-spoken
 returns-else-spoken c =
-    let s = c in
-    let a = s.args.area.now in
-    let m = s.args.m.now in
-    let k = sym c.if-spoken.false ∙ s.requires.1 in
-    c.notify.ensures ∙ (λ i. pick (k i) (aired_place m a) (aired_slot s.args.r m a))
+    let a = c.args.area.now in
+    let m = c.args.m.now in
+    let k = sym c.if-spoken.false ∙ c.requires.1 in
+    c.notify.ensures ∙ (λ i. pick (k i) (aired_place m a) (aired_slot c.args.r m a))

@@ -6,6 +6,5 @@ use Rattle.call_controller.proofs.airing.notify.Goals as goal
 
 pub returns : goal.returns
 returns c =
-    let s = c in
     c.put_notice.ensures
-    ∙ (λ i. splice s.args.area.now (c.free_at-slot.ensures i) (aired_packet s.args.r s.args.m.now))
+    ∙ (λ i. splice c.args.area.now (c.free_at-slot.ensures i) (aired_packet c.args.r c.args.m.now))

@@ -10,15 +10,13 @@ put_into-ring-requires c = c.requires.1.free (sym c.requires.0 ∙ c.if-spoken.f
 
 pub returns-then-spoken : goal.returns-then-spoken
 returns-then-spoken c =
-    let s = c in
-    let r = s.args.r in
-    let spoken = sym c.if-spoken.true ∙ s.requires.0 in
+    let r = c.args.r in
+    let spoken = sym c.if-spoken.true ∙ c.requires.0 in
     λ i. with_up (pick (spoken i) r.up (put_into r.up)) (with_ends (c.meet-met.ensures i).next r)
 
 pub returns-else-spoken : goal.returns-else-spoken
 returns-else-spoken c =
-    let s = c in
-    let r = s.args.r in
-    let spoken = sym c.if-spoken.false ∙ s.requires.0 in
+    let r = c.args.r in
+    let spoken = sym c.if-spoken.false ∙ c.requires.0 in
     (λ i. with_up (c.put_into-ring.ensures i) (with_ends c.meet-met.result.next r))
     ∙ (λ i. with_up (pick (spoken i) r.up (put_into r.up)) (with_ends (c.meet-met.ensures i).next r))

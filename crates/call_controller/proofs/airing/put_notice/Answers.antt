@@ -18,9 +18,8 @@ air_message-note-requires c = event_room c.args.p c.args.m.now c.event_of-e.resu
 
 pub slice_bounds-put_packet-end : goal.slice_bounds-put_packet-end
 slice_bounds-put_packet-end c =
-    let s = c in
-    let p = s.args.p in
-    let m = s.args.m.now in
+    let p = c.args.p in
+    let m = c.args.m.now in
     let x = c.event_of-e.result in
     let e = c.air_message-note.ensures in
     let short : length (air_message p x m).payload ≤ 255 = event_room p m x c.event_of-e.ensures in
@@ -29,26 +28,24 @@ slice_bounds-put_packet-end c =
 
 pub put_packet-requires : goal.put_packet-requires
 put_packet-requires c =
-    let s = c in
-    let p = s.args.p in
-    let m = s.args.m.now in
+    let p = c.args.p in
+    let m = c.args.m.now in
     let x = c.event_of-e.result in
     let e = c.air_message-note.ensures in
     let short : length (air_message p x m).payload ≤ 255 = event_room p m x c.event_of-e.ensures in
     let len = ap (λ (n : Note). n.len) e.head in
     let text = cut_copied _ _ (air_message p x m).payload c.air_message-note.result.len (sym len) (omega (arith, short, len)) e.octets in
-    (omega (arith, short, ap length text), omega (arith, s.requires))
+    (omega (arith, short, ap length text), omega (arith, c.requires))
 
 pub returns : goal.returns
 returns c =
-    let s = c in
-    let p = s.args.p in
-    let m = s.args.m.now in
+    let p = c.args.p in
+    let m = c.args.m.now in
     let x = c.event_of-e.result in
     let e = c.air_message-note.ensures in
     let short : length (air_message p x m).payload ≤ 255 = event_room p m x c.event_of-e.ensures in
     let len = ap (λ (n : Note). n.len) e.head in
     let text = cut_copied _ _ (air_message p x m).payload c.air_message-note.result.len (sym len) (omega (arith, short, len)) e.octets in
     c.put_packet.ensures
-    ∙ (λ i. splice s.args.area.now s.args.slot (packet_of (control_header 3 (e.head i).gid (e.head i).oid) (text i)))
-    ∙ (λ i. splice s.args.area.now s.args.slot (notice_packet (air_message p (c.event_of-e.ensures i) m)))
+    ∙ (λ i. splice c.args.area.now c.args.slot (packet_of (control_header 3 (e.head i).gid (e.head i).oid) (text i)))
+    ∙ (λ i. splice c.args.area.now c.args.slot (notice_packet (air_message p (c.event_of-e.ensures i) m)))

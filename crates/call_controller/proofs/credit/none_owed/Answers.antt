@@ -17,15 +17,14 @@ loop-i-init c =
 
 pub loop-i-preserved : goal.loop-i-preserved
 loop-i-preserved c =
-    let l = c in
-    let conns = l.args.conns in
-    let i = l.loop-i.i in
+    let conns = c.args.conns in
+    let i = c.loop-i.i in
     let some = c.loop-i-test.true in
     let e : suc (i - 1) ≡ i = omega (arith, some) in
-    let five : length conns ≡ 5 = omega (arith, l.well_formed) in (
-      omega (arith, l.loop-i.invariant.0),
-      (λ j. eqb (c.owing-n.ensures j) 0 && (l.loop-i.invariant.1 ∙ ap (λ (n : ℕ). all_zero (drop n (owed_of conns))) (sym e)) j)
-          ∙ sym (owed_turn conns (i - 1) (omega (arith, some, five, l.loop-i.invariant.0))),
+    let five : length conns ≡ 5 = omega (arith, c.well_formed) in (
+      omega (arith, c.loop-i.invariant.0),
+      (λ j. eqb (c.owing-n.ensures j) 0 && (c.loop-i.invariant.1 ∙ ap (λ (n : ℕ). all_zero (drop n (owed_of conns))) (sym e)) j)
+          ∙ sym (owed_turn conns (i - 1) (omega (arith, some, five, c.loop-i.invariant.0))),
     )
 
 pub returns : goal.returns

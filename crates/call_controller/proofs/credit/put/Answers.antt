@@ -7,6 +7,5 @@ use Rattle.call_controller.proofs.credit.put.Goals as goal
 
 pub returns : goal.returns
 returns c =
-    let s = c in
     c.put_notice.ensures
-    ∙ (λ i. splice s.args.area.now (c.free_at-slot.ensures i) (notice_packet (credits_message s.args.r.ends.conns)))
+    ∙ (λ i. splice c.args.area.now (c.free_at-slot.ensures i) (notice_packet (credits_message c.args.r.ends.conns)))

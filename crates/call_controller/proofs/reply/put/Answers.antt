@@ -9,9 +9,8 @@ use Rattle.call_controller.proofs.reply.put.Goals as goal
 
 pub returns : goal.returns
 returns c =
-    let s = c in
     let carried = c.carried-credits.ensures ∙ ap carried_by c.static_side-k.ensures in
     c.put_segment.ensures
     ∙ (λ i.
-    splice s.args.area.now (c.free_at-slot.ensures i)
-    (segment_packet (data_header 0 (carried i)) (replied_segment s.args.r s.args.area.now)))
+    splice c.args.area.now (c.free_at-slot.ensures i)
+    (segment_packet (data_header 0 (carried i)) (replied_segment c.args.r c.args.area.now)))

@@ -20,9 +20,8 @@ use Rattle.call_down.proofs.down.act.Goals as goal
 pub returns-in_default : goal.returns-in_default
 unfolding arrived
 returns-in_default c =
-    let s = c in
-    let r = s.args.r in
-    let a = s.args.area.now in
+    let r = c.args.r in
+    let a = c.args.area.now in
     let read = sym (c.read_slot-got.ensures ∙ (λ i. read_of (cut (c.first_at-slot.ensures i) slot_size a))) ∙ c.in_default.is in
     λ out.
     c.dropped.ensures out
@@ -32,22 +31,20 @@ returns-in_default c =
 
 pub packet-w-requires : goal.packet-w-requires
 packet-w-requires c =
-    let s = c in
-    let a = s.args.area.now in
+    let a = c.args.area.now in
     let h = c.in-Packet.h in
     let n = c.in-Packet.n in
     let read = sym (c.read_slot-got.ensures ∙ (λ i. read_of (cut (c.first_at-slot.ensures i) slot_size a))) ∙ c.in-Packet.is in (
       search rules,
-      omega (arith, s.requires.0, s.requires.1.ring.head, c.first_at-slot.ensures),
-      payload_few a (down_slot s.args.r) h n read,
-      subst (λ (t : Record). Arrivable t.ends.conns t.up h) (sym c.took-t.ensures) (s.requires.1.packet h n read),
+      omega (arith, c.requires.0, c.requires.1.ring.head, c.first_at-slot.ensures),
+      payload_few a (down_slot c.args.r) h n read,
+      subst (λ (t : Record). Arrivable t.ends.conns t.up h) (sym c.took-t.ensures) (c.requires.1.packet h n read),
     )
 
 pub returns : goal.returns
 returns c =
-    let s = c in
-    let r = s.args.r in
-    let a = s.args.area.now in
+    let r = c.args.r in
+    let a = c.args.area.now in
     let h = c.in-Packet.h in
     let n = c.in-Packet.n in
     let read = sym (c.read_slot-got.ensures ∙ (λ i. read_of (cut (c.first_at-slot.ensures i) slot_size a))) ∙ c.in-Packet.is in

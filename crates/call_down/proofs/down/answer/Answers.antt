@@ -19,8 +19,7 @@ part_short n k l h = omega (arith, h, cut_short 0 (n - 0) l)
 
 pub answer-a-requires : goal.answer-a-requires
 answer-a-requires c =
-    let s = c in
-    (ap length c.values_of.ensures ∙ length_config s.args.area.now s.requires.0, part_short _ _ _ s.requires.1)
+    (ap length c.values_of.ensures ∙ length_config c.args.area.now c.requires.0, part_short _ _ _ c.requires.1)
 
 pub slice_bounds-put_answers-end : goal.slice_bounds-put_answers-end
 slice_bounds-put_answers-end c = omega (arith, simp length_splice at (ap length c.answer-a.ensures.response.octets))
@@ -30,9 +29,8 @@ slice_bounds-put_answers-end-2 c = omega (arith, simp length_splice at (ap lengt
 
 pub put_answers-n-requires : goal.put_answers-n-requires
 put_answers-n-requires c =
-    let s = c in
-    let short = answers_short _ _ _ _ _ _ _ _ _ _ (part_short _ _ _ s.requires.1) c.answer-a.ensures in
-    (s.requires.0, s.requires.2, s.requires.3, short.0, short.1)
+    let short = answers_short _ _ _ _ _ _ _ _ _ _ (part_short _ _ _ c.requires.1) c.answer-a.ensures in
+    (c.requires.0, c.requires.2, c.requires.3, short.0, short.1)
 
 pub slice_bounds-settle-end : goal.slice_bounds-settle-end
 slice_bounds-settle-end c = omega (arith, c.requires.1, simp length_splice at (ap length c.hand_out.ensures))
@@ -56,12 +54,11 @@ puts_up-requires c =
 
 pub returns : goal.returns
 returns c =
-    let s = c in
-    let t = s.args.t in
-    let h = s.args.h in
-    let a = s.args.area.now in
-    let len = s.args.len in
+    let t = c.args.t in
+    let h = c.args.h in
+    let a = c.args.area.now in
+    let len = c.args.len in
     let put = c.put_answers-n.ensures in
-    let long = length_cut asking_at len a (omega (arith, s.requires.0, s.requires.1)) in
-    let text = cut_copied _ _ (command_in len a) len long (omega (arith, s.requires.1)) c.hand_out.ensures in
-    answer_made t h (command_in len a) _ a _ _ _ _ _ _ _ _ _ _ _ text (omega (arith, long, s.requires.1)) c.values_of.ensures c.answer-a.ensures refl refl put.0 put.1 c.settle.ensures c.encode.ensures c.puts_up.ensures
+    let long = length_cut asking_at len a (omega (arith, c.requires.0, c.requires.1)) in
+    let text = cut_copied _ _ (command_in len a) len long (omega (arith, c.requires.1)) c.hand_out.ensures in
+    answer_made t h (command_in len a) _ a _ _ _ _ _ _ _ _ _ _ _ text (omega (arith, long, c.requires.1)) c.values_of.ensures c.answer-a.ensures refl refl put.0 put.1 c.settle.ensures c.encode.ensures c.puts_up.ensures

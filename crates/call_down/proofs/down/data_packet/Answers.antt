@@ -16,14 +16,12 @@ returns-then-not-open c =
 
 pub store-requires : goal.store-requires
 store-requires c =
-    let s = c in
     let opened = sym c.open_at-open.ensures ∙ c.if-not-open.false in
-    (search rules, search rules, s.requires.2.place opened, s.requires.2.store opened)
+    (search rules, search rules, c.requires.2.place opened, c.requires.2.store opened)
 
 pub stored_record-next-requires : goal.stored_record-next-requires
 stored_record-next-requires c =
-    let s = c in
-    s.requires.2.room s.requires.3 (sym c.open_at-open.ensures ∙ c.if-not-open.false)
+    c.requires.2.room c.requires.3 (sym c.open_at-open.ensures ∙ c.if-not-open.false)
 
 pub returns : goal.returns
 unfolding data_down word_of bit

@@ -8,6 +8,5 @@ use Rattle.call_down.proofs.down.join.Goals as goal
 
 pub returns : goal.returns
 returns c =
-    let s = c in
-    let a = s.args.area.now in
-    c.join_run.ensures ∙ (λ i. run_area control_size asking_at a (c.run_for-p.ensures i) (payload_of (cut s.args.slot slot_size a) s.args.n))
+    let a = c.args.area.now in
+    c.join_run.ensures ∙ (λ i. run_area control_size asking_at a (c.run_for-p.ensures i) (payload_of (cut c.args.slot slot_size a) c.args.n))

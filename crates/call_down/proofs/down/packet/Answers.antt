@@ -6,8 +6,7 @@ use Rattle.call_down.proofs.down.packet.Goals as goal
 
 pub data_packet-requires : goal.data_packet-requires
 data_packet-requires c =
-    let s = c in
-    (search rules, search rules, s.requires.3, c.if-h-eq-DATA.true)
+    (search rules, search rules, c.requires.3, c.if-h-eq-DATA.true)
 
 pub returns-then-h-eq-DATA : goal.returns-then-h-eq-DATA
 unfolding arrived
@@ -15,8 +14,7 @@ returns-then-h-eq-DATA c = λ out. rw (eq-eqb _ _ c.if-h-eq-DATA.true) (c.data_p
 
 pub command_packet-requires : goal.command_packet-requires
 command_packet-requires c =
-    let s = c in
-    (search rules, search rules, s.requires.2, s.requires.3, c.if-h-eq-COMMAND.true)
+    (search rules, search rules, c.requires.2, c.requires.3, c.if-h-eq-COMMAND.true)
 
 pub returns-then-h-eq-COMMAND : goal.returns-then-h-eq-COMMAND
 unfolding arrived

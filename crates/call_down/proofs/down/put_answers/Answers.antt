@@ -19,16 +19,14 @@ returns-then-notice-eq0 c =
 
 pub put_note-requires-2 : goal.put_note-requires-2
 put_note-requires-2 c =
-    let s = c in
-    (search rules, subst (FitRing wire_slots) (sym c.put_into-next.ensures) (record { head = s.requires.1.head; count = omega (arith, s.requires.2) }), s.requires.4)
+    (search rules, subst (FitRing wire_slots) (sym c.put_into-next.ensures) (record { head = c.requires.1.head; count = omega (arith, c.requires.2) }), c.requires.4)
 
 pub returns : goal.returns
 unfolding puts_all note_packets
 returns c =
-    let s = c in
     let e = ne_eqb _ _ c.if-notice-eq0.false in (
       rw e,
       rw e
           (c.put_note-2.ensures
-          ∙ (λ i. splice (c.put_note.ensures i) (free_at up_at wire_slots (c.put_into-next.ensures i)) (note_packet 3 s.args.notice s.args.ntf.now))),
+          ∙ (λ i. splice (c.put_note.ensures i) (free_at up_at wire_slots (c.put_into-next.ensures i)) (note_packet 3 c.args.notice c.args.ntf.now))),
     )

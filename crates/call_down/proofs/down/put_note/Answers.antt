@@ -10,12 +10,10 @@ use Rattle.call_down.proofs.down.put_note.Goals as goal
 
 pub put_packet-requires : goal.put_packet-requires
 put_packet-requires c =
-    let s = c in
-    (omega (arith, s.requires.2, ap length c.window.ensures, cut_few 0 s.args.note.len s.args.m.now), omega (arith, s.requires.0, c.free_at-slot.ensures))
+    (omega (arith, c.requires.2, ap length c.window.ensures, cut_few 0 c.args.note.len c.args.m.now), omega (arith, c.requires.0, c.free_at-slot.ensures))
 
 pub returns : goal.returns
 returns c =
-    let s = c in
-    let note = s.args.note in
+    let note = c.args.note in
     c.put_packet.ensures
-    ∙ (λ i. splice s.args.area.now (c.free_at-slot.ensures i) (packet_of (control_header s.args.mt note.gid note.oid) (c.window.ensures i)))
+    ∙ (λ i. splice c.args.area.now (c.free_at-slot.ensures i) (packet_of (control_header c.args.mt note.gid note.oid) (c.window.ensures i)))

@@ -10,25 +10,22 @@ use Rattle.call_down.proofs.down.refusal.Goals as goal
 
 pub returns-then-down-eq0 : goal.returns-then-down-eq0
 returns-then-down-eq0 c =
-    let s = c in
-    down_empty s.args.area.now s.args.r s.requires.head (eq-eqb _ _ c.if-down-eq0.true)
+    down_empty c.args.area.now c.args.r c.requires.head (eq-eqb _ _ c.if-down-eq0.true)
 
 pub returns-in_default : goal.returns-in_default
 returns-in_default c =
-    let s = c in
-    let a = s.args.area.now in
+    let a = c.args.area.now in
     let read = sym (c.read_slot-got.ensures ∙ (λ i. read_of (cut (c.first_at-slot.ensures i) slot_size a))) ∙ c.in_default.is in
-    down_lowest a s.args.r s.requires.head (ne_eqb _ _ c.if-down-eq0.false) Drop read
+    down_lowest a c.args.r c.requires.head (ne_eqb _ _ c.if-down-eq0.false) Drop read
 
 pub returns : goal.returns
 returns c =
-    let s = c in
-    let r = s.args.r in
-    let a = s.args.area.now in
+    let r = c.args.r in
+    let a = c.args.area.now in
     let h = c.in-Packet.h in
     let n = c.in-Packet.field-1 in
     let read = sym (c.read_slot-got.ensures ∙ (λ i. read_of (cut (c.first_at-slot.ensures i) slot_size a))) ∙ c.in-Packet.is in
     c.choose.ensures
     ∙ (λ i. pick (tight_by r (Packet h n)) 4 (c.choose-twelve.ensures i))
     ∙ (λ i. pick (tight_by r (Packet h n)) 4 (pick (c.store_full-full.ensures i) 12 0))
-    ∙ down_lowest a r s.requires.head (ne_eqb _ _ c.if-down-eq0.false) (Packet h n) read
+    ∙ down_lowest a r c.requires.head (ne_eqb _ _ c.if-down-eq0.false) (Packet h n) read

@@ -11,8 +11,7 @@ use Rattle.call_down.proofs.down.settle.Goals as goal
 
 pub put-requires : goal.put-requires
 put-requires c =
-    let s = c in
-    omega (arith, ap length c.values_of.ensures, length_config s.args.area.now s.requires)
+    omega (arith, ap length c.values_of.ensures, length_config c.args.area.now c.requires)
 
 -- all of an array is written over
 copied : (l b v w : Octets) → b ≡ splice l 0 w → w ≡ v → length l ≡ length v → b ≡ v
@@ -20,8 +19,7 @@ copied l b v w e same long = e ∙ ap (splice l 0) same ∙ splice_all l v long
 
 pub returns : goal.returns
 returns c =
-    let s = c in
-    let a = s.args.area.now in
-    let values = copied _ _ (config_octets a) _ c.put.ensures c.values_of.ensures (sym (length_config a s.requires)) in
+    let a = c.args.area.now in
+    let values = copied _ _ (config_octets a) _ c.put.ensures c.values_of.ensures (sym (length_config a c.requires)) in
     c.put_values.ensures
-    ∙ (λ i. configured a ((c.config_by.ensures ∙ (λ j. config_by (values j) s.args.m.now s.args.v)) i))
+    ∙ (λ i. configured a ((c.config_by.ensures ∙ (λ j. config_by (values j) c.args.m.now c.args.v)) i))

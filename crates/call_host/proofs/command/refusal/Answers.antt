@@ -8,6 +8,5 @@ pub returns : goal.returns
 unfolding lowest
 returns c =
     λ a.
-    let s = c in
     rw (c.choose.ensures, c.choose-four.ensures, c.choose-five.ensures, c.crowded-full.ensures, c.is_busy-busy.ensures, c.segment_count-n.ensures)
-    (sym (ap lowest (command_tests_law a s.args.r s.args.gid s.args.oid s.args.payload.now)))
+    (sym (ap lowest (command_tests_law a c.args.r c.args.gid c.args.oid c.args.payload.now)))

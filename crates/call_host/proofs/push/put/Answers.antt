@@ -12,18 +12,16 @@ use Rattle.call_host.proofs.push.put.Goals as goal
 
 pub put_segment-requires : goal.put_segment-requires
 put_segment-requires c =
-    let s = c in
-    let p = s.requires.1 in
+    let p = c.requires.1 in
     let hand = subst (λ (k : Counts). FitHand k.host.hand) (sym c.counts_of-k.ensures) p.hand in
-    omega (arith, s.requires.0, p.place, p.ring, hand.len, c.place_of-place.ensures, c.hand_at-from.ensures, c.free_at-slot.ensures)
+    omega (arith, c.requires.0, p.place, p.ring, hand.len, c.place_of-place.ensures, c.hand_at-from.ensures, c.free_at-slot.ensures)
 
 pub returns : goal.returns
 returns c =
-    let s = c in
-    let a = s.args.area.now in
+    let a = c.args.area.now in
     let k = c.counts_of-k.ensures in
     c.put_segment.ensures
     ∙ (λ i.
     splice a (c.free_at-slot.ensures i)
-    (segment_packet (data_header s.args.conn 0)
+    (segment_packet (data_header c.args.conn 0)
     (segment_at (k i).host.payload (cut ((c.hand_at-from.ensures ∙ ap hand_at c.place_of-place.ensures) i) (k i).host.hand.len a) (k i).host.hand.at)))

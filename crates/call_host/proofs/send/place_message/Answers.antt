@@ -6,6 +6,5 @@ use Rattle.call_host.proofs.send.place_message.Goals as goal
 
 pub returns : goal.returns
 returns c =
-    let s = c in
     c.take_message.ensures
-    ∙ (λ i. splice s.args.area.now ((c.hand_at-to.ensures ∙ ap hand_at c.place_of-place.ensures) i) s.args.message.now)
+    ∙ (λ i. splice c.args.area.now ((c.hand_at-to.ensures ∙ ap hand_at c.place_of-place.ensures) i) c.args.message.now)

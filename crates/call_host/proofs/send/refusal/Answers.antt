@@ -17,5 +17,4 @@ returns c =
       c.place_of-place.ensures,
       c.counts_of-k.ensures,
     )
-    (let s = c in
-    sym (ap lowest (send_tests_law a s.args.r s.args.conn s.args.message.now)))
+    (sym (ap lowest (send_tests_law a c.args.r c.args.conn c.args.message.now)))

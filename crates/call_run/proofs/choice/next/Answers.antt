@@ -13,21 +13,18 @@ refusal-n-requires c = (c.requires, c.loop-i-test.true)
 
 pub returns-then-n-eq0 : goal.returns-then-n-eq0
 returns-then-n-eq0 c =
-    let s = c in
     let l = c.loop-i in
     let e = sym c.if-n-eq0.true ∙ c.refusal-n.ensures in
-    record { result_value = possible_here (view s.args.area.now s.args.r) l.i c.loop-i-test.true e ∙ l.invariant.1; possible = λ _. e }
+    record { result_value = possible_here (view c.args.area.now c.args.r) l.i c.loop-i-test.true e ∙ l.invariant.1; possible = λ _. e }
 
 pub loop-i-preserved : goal.loop-i-preserved
 loop-i-preserved c =
-    let s = c in
     let l = c.loop-i in (
       omega (arith, c.loop-i-test.true),
-      refused_here (view s.args.area.now s.args.r) l.i c.loop-i-test.true _ c.refusal-n.ensures c.if-n-eq0.false ∙ l.invariant.1,
+      refused_here (view c.args.area.now c.args.r) l.i c.loop-i-test.true _ c.refusal-n.ensures c.if-n-eq0.false ∙ l.invariant.1,
     )
 
 pub returns : goal.returns
 returns c =
-    let s = c in
     let l = c.loop-i in
-    record { result_value = none_here (view s.args.area.now s.args.r) l.i (omega (arith, c.loop-i-test.false)) l.invariant.0 ∙ l.invariant.1; possible = λ h. absurd (omega arith) }
+    record { result_value = none_here (view c.args.area.now c.args.r) l.i (omega (arith, c.loop-i-test.false)) l.invariant.0 ∙ l.invariant.1; possible = λ h. absurd (omega arith) }

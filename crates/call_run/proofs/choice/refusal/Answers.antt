@@ -10,8 +10,7 @@ use Rattle.call_run.proofs.choice.refusal.Goals as goal
 
 pub returns-then-i-eq-UP : goal.returns-then-i-eq-UP
 returns-then-i-eq-UP c =
-    let s = c in
-    c.refusal.ensures s.args.area.now ∙ ap (λ (x : Call). lowest (rules x (view s.args.area.now s.args.r))) (sym (up_at s.args.i c.if-i-eq-UP.true))
+    c.refusal.ensures c.args.area.now ∙ ap (λ (x : Call). lowest (rules x (view c.args.area.now c.args.r))) (sym (up_at c.args.i c.if-i-eq-UP.true))
 
 pub refusal-requires-then-i-eq-DOWN : goal.refusal-requires-then-i-eq-DOWN
 refusal-requires-then-i-eq-DOWN c =
@@ -19,8 +18,7 @@ refusal-requires-then-i-eq-DOWN c =
 
 pub returns-then-i-eq-DOWN : goal.returns-then-i-eq-DOWN
 returns-then-i-eq-DOWN c =
-    let s = c in
-    c.refusal-then-i-eq-DOWN.ensures ∙ ap (λ (x : Call). lowest (rules x (view s.args.area.now s.args.r))) (sym (down_at_law s.args.i c.if-i-eq-DOWN.true))
+    c.refusal-then-i-eq-DOWN.ensures ∙ ap (λ (x : Call). lowest (rules x (view c.args.area.now c.args.r))) (sym (down_at_law c.args.i c.if-i-eq-DOWN.true))
 
 pub conn_at-requires : goal.conn_at-requires
 conn_at-requires c =
@@ -28,18 +26,15 @@ conn_at-requires c =
 
 pub returns-then-i-lt-CREDIT : goal.returns-then-i-lt-CREDIT
 returns-then-i-lt-CREDIT c =
-    let s = c in
-    c.refusal-then-i-lt-CREDIT.ensures s.args.area.now ∙ ap (λ (x : Call). lowest (rules x (view s.args.area.now s.args.r))) (sym (consume_at s.args.i (omega (arith, c.if-i-eq-DOWN.false, c.if-i-eq-UP.false)) c.if-i-lt-CREDIT.true _ c.conn_at.ensures))
+    c.refusal-then-i-lt-CREDIT.ensures c.args.area.now ∙ ap (λ (x : Call). lowest (rules x (view c.args.area.now c.args.r))) (sym (consume_at c.args.i (omega (arith, c.if-i-eq-DOWN.false, c.if-i-eq-UP.false)) c.if-i-lt-CREDIT.true _ c.conn_at.ensures))
 
 pub returns-then-i-eq-CREDIT : goal.returns-then-i-eq-CREDIT
 returns-then-i-eq-CREDIT c =
-    let s = c in
-    c.refusal-then-i-eq-CREDIT.ensures s.args.area.now ∙ ap (λ (x : Call). lowest (rules x (view s.args.area.now s.args.r))) (sym (credit_at s.args.i c.if-i-eq-CREDIT.true))
+    c.refusal-then-i-eq-CREDIT.ensures c.args.area.now ∙ ap (λ (x : Call). lowest (rules x (view c.args.area.now c.args.r))) (sym (credit_at c.args.i c.if-i-eq-CREDIT.true))
 
 pub returns-then-i-eq-REPLY : goal.returns-then-i-eq-REPLY
 returns-then-i-eq-REPLY c =
-    let s = c in
-    c.refusal-then-i-eq-REPLY.ensures s.args.area.now ∙ ap (λ (x : Call). lowest (rules x (view s.args.area.now s.args.r))) (sym (reply_at s.args.i c.if-i-eq-REPLY.true))
+    c.refusal-then-i-eq-REPLY.ensures c.args.area.now ∙ ap (λ (x : Call). lowest (rules x (view c.args.area.now c.args.r))) (sym (reply_at c.args.i c.if-i-eq-REPLY.true))
 
 pub conn_at-requires-2 : goal.conn_at-requires-2
 conn_at-requires-2 c =
@@ -47,5 +42,4 @@ conn_at-requires-2 c =
 
 pub returns : goal.returns
 returns c =
-    let s = c in
-    c.refusal-2.ensures s.args.area.now ∙ ap (λ (x : Call). lowest (rules x (view s.args.area.now s.args.r))) (sym (push_at s.args.i (omega (arith, c.if-i-eq-CREDIT.false, c.if-i-lt-CREDIT.false)) (omega (arith, c.if-i-eq-REPLY.false, s.requires)) _ c.conn_at-2.ensures))
+    c.refusal-2.ensures c.args.area.now ∙ ap (λ (x : Call). lowest (rules x (view c.args.area.now c.args.r))) (sym (push_at c.args.i (omega (arith, c.if-i-eq-CREDIT.false, c.if-i-lt-CREDIT.false)) (omega (arith, c.if-i-eq-REPLY.false, c.requires)) _ c.conn_at-2.ensures))

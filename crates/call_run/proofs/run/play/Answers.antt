@@ -9,23 +9,20 @@ use Rattle.call_run.proofs.run.play.Goals as goal
 
 pub returns-then-l-ne0 : goal.returns-then-l-ne0
 returns-then-l-ne0 c =
-    let s = c in
-    let a = s.args.area.now in
-    let out = s.args.out.now in
+    let a = c.args.area.now in
+    let out = c.args.out.now in
     none_shut a out c.enter-l.result c.enter-l.ensures c.if-l-ne0.true
 
 pub next-i-requires : goal.next-i-requires
 next-i-requires c =
-    let s = c in
-    let a = s.args.area.now in
-    let out = s.args.out.now in
+    let a = c.args.area.now in
+    let out = c.args.out.now in
     own_ring a out c.enter-l.result c.enter-l.ensures c.if-l-ne0.false
 
 pub make-requires : goal.make-requires
 make-requires c =
-    let s = c in
-    let a = s.args.area.now in
-    let out = s.args.out.now in
+    let a = c.args.area.now in
+    let out = c.args.out.now in
     let l = c.enter-l.result in
     let e = c.enter-l.ensures in
     let z = c.if-l-ne0.false in
@@ -34,9 +31,8 @@ make-requires c =
 
 pub returns-then-i-lt-MOVES : goal.returns-then-i-lt-MOVES
 returns-then-i-lt-MOVES c =
-    let s = c in
-    let a = s.args.area.now in
-    let out = s.args.out.now in
+    let a = c.args.area.now in
+    let out = c.args.out.now in
     let i = c.next-i.result in
     c.make.ensures
     ∙ ap (λ (m : Move). played_by m a out)
@@ -44,9 +40,8 @@ returns-then-i-lt-MOVES c =
 
 pub returns : goal.returns
 returns c =
-    let s = c in
-    let a = s.args.area.now in
-    let out = s.args.out.now in
+    let a = c.args.area.now in
+    let out = c.args.out.now in
     let i = c.next-i.result in
     ap (λ (m : Move). played_by m a out)
     (sym (rests_at i (omega (arith, c.if-i-lt-MOVES.false))) ∙ c.next-i.ensures.result_value ∙ same_move a out c.enter-l.result c.enter-l.ensures c.if-l-ne0.false)

@@ -10,5 +10,4 @@ ran-requires c = (omega (arith, c.length-len.ensures), c.requires)
 
 pub returns : goal.returns
 returns c =
-    let s = c in
-    c.ran.ensures ∙ (λ i. word_of s.args.dropped (c.handed-handed.ensures i) (c.length-len.ensures i) s.args.made 0)
+    c.ran.ensures ∙ (λ i. word_of c.args.dropped (c.handed-handed.ensures i) (c.length-len.ensures i) c.args.made 0)

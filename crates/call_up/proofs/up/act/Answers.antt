@@ -15,30 +15,27 @@ use Rattle.call_up.proofs.up.act.Goals as goal
 
 pub returns-in_default : goal.returns-in_default
 returns-in_default c =
-    let s = c in
-    let a = s.args.area.now in
-    let r = s.args.r in
+    let a = c.args.area.now in
+    let r = c.args.r in
     let at = c.first_at-slot.ensures in
     let e = (λ i. read_of (cut (sym at i) slot_size a)) ∙ sym c.read_slot-got.ensures ∙ c.in_default.is in
-    let out = s.args.out.now in
+    let out = c.args.out.now in
     let d = c.discard.ensures in
     (λ i. outcome ((d.0 ∙ sym (told_none 0)) i) (d.1 i) out) ∙ sym (ap (λ (x : Reading). tells (rfu_by Up x) (read_up r x a out)) e)
 
 pub take_packet-w-requires : goal.take_packet-w-requires
 take_packet-w-requires c =
-    let s = c in
-    let few = payload_few s.args.area.now c.first_at-slot.result c.in-Packet.h c.in-Packet.n (sym c.read_slot-got.ensures ∙ c.in-Packet.is) in
-    (s.requires.0, s.requires.1, s.requires.2, few)
+    let few = payload_few c.args.area.now c.first_at-slot.result c.in-Packet.h c.in-Packet.n (sym c.read_slot-got.ensures ∙ c.in-Packet.is) in
+    (c.requires.0, c.requires.1, c.requires.2, few)
 
 pub returns : goal.returns
 returns c =
-    let s = c in
-    let a = s.args.area.now in
-    let r = s.args.r in
+    let a = c.args.area.now in
+    let r = c.args.r in
     let at = c.first_at-slot.ensures in
     let e = (λ i. read_of (cut (sym at i) slot_size a)) ∙ sym c.read_slot-got.ensures ∙ c.in-Packet.is in
     let h = c.in-Packet.h in
-    let out = s.args.out.now in
+    let out = c.args.out.now in
     let bits : c.rfu.result ≡ rfu_of Up h = c.rfu.ensures in
     let told = c.telling.ensures ∙ (λ i. word_telling (bits i) c.take_packet-w.result) in
     tells_by (rfu_of Up h) told c.take_packet-w.ensures ∙ sym (ap (λ (x : Reading). tells (rfu_by Up x) (read_up r x a out)) e)

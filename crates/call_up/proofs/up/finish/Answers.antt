@@ -16,12 +16,11 @@ use Rattle.call_up.proofs.up.finish.Goals as goal
 
 pub returns-then-not-j : goal.returns-then-not-j
 returns-then-not-j c =
-    let s = c in
-    let a = s.args.area.now in
-    let out = s.args.out.now in
-    let r = s.args.r in
-    let h = s.args.h in
-    let n = s.args.n in
+    let a = c.args.area.now in
+    let out = c.args.out.now in
+    let r = c.args.r in
+    let h = c.args.h in
+    let n = c.args.n in
     let k = c.counts_of-k.ensures in
     let j = c.join-j.ensures ∙ (λ i. joined_of message_size (k i).host.run h.pbf n) in
     let d : false ≡ (received_join r h n).done = sym (sym (ap (λ (x : Joined). x.done) j) ∙ not-true _ c.if-not-j.true) in (
@@ -31,40 +30,35 @@ returns-then-not-j c =
 
 pub overflow_add-len : goal.overflow_add-len
 overflow_add-len c =
-    let s = c in
     let run = c.counts_of-k.result.host.run in
-    let room = done_room message_size run s.args.h.pbf s.args.n (sym (ap (λ (x : Joined). x.done) c.join-j.ensures) ∙ not-false _ c.if-not-j.false) in
+    let room = done_room message_size run c.args.h.pbf c.args.n (sym (ap (λ (x : Joined). x.done) c.join-j.ensures) ∙ not-false _ c.if-not-j.false) in
     omega (arith, room)
 
 pub hand_over-requires : goal.hand_over-requires
 hand_over-requires c =
-    let s = c in
     let run = c.counts_of-k.result.host.run in
-    let room = done_room message_size run s.args.h.pbf s.args.n (sym (ap (λ (x : Joined). x.done) c.join-j.ensures) ∙ not-false _ c.if-not-j.false) in
-    (s.requires.0, s.requires.1, s.requires.2, room)
+    let room = done_room message_size run c.args.h.pbf c.args.n (sym (ap (λ (x : Joined). x.done) c.join-j.ensures) ∙ not-false _ c.if-not-j.false) in
+    (c.requires.0, c.requires.1, c.requires.2, room)
 
 pub overflow_add-len-2 : goal.overflow_add-len-2
 overflow_add-len-2 c =
-    let s = c in
     let run = c.counts_of-k.result.host.run in
-    let room = done_room message_size run s.args.h.pbf s.args.n (sym (ap (λ (x : Joined). x.done) c.join-j.ensures) ∙ not-false _ c.if-not-j.false) in
+    let room = done_room message_size run c.args.h.pbf c.args.n (sym (ap (λ (x : Joined). x.done) c.join-j.ensures) ∙ not-false _ c.if-not-j.false) in
     omega (arith, room)
 
 pub quiet-requires-2 : goal.quiet-requires-2
 quiet-requires-2 c =
-    let s = c in
     let run = c.counts_of-k.result.host.run in
-    let room = done_room message_size run s.args.h.pbf s.args.n (sym (ap (λ (x : Joined). x.done) c.join-j.ensures) ∙ not-false _ c.if-not-j.false) in
+    let room = done_room message_size run c.args.h.pbf c.args.n (sym (ap (λ (x : Joined). x.done) c.join-j.ensures) ∙ not-false _ c.if-not-j.false) in
     omega (arith, room)
 
 pub returns : goal.returns
 returns c =
-    let s = c in
-    let a = s.args.area.now in
-    let out = s.args.out.now in
-    let r = s.args.r in
-    let h = s.args.h in
-    let n = s.args.n in
+    let a = c.args.area.now in
+    let out = c.args.out.now in
+    let r = c.args.r in
+    let h = c.args.h in
+    let n = c.args.n in
     let k = c.counts_of-k.ensures in
     let j = c.join-j.ensures ∙ (λ i. joined_of message_size (k i).host.run h.pbf n) in
     let d : true ≡ (received_join r h n).done = sym (sym (ap (λ (x : Joined). x.done) j) ∙ not-false _ c.if-not-j.false) in (

@@ -6,6 +6,5 @@ use Rattle.call_up.proofs.up.hand_over.Goals as goal
 
 pub returns : goal.returns
 returns c =
-    let s = c in
     c.hand_out.ensures
-    ∙ (λ i. splice s.args.out.now 0 (cut ((c.host_run_at-base.ensures ∙ ap host_run_at c.place_of-place.ensures) i) s.args.n s.args.area.now))
+    ∙ (λ i. splice c.args.out.now 0 (cut ((c.host_run_at-base.ensures ∙ ap host_run_at c.place_of-place.ensures) i) c.args.n c.args.area.now))

@@ -11,8 +11,7 @@ use Rattle.call_up.proofs.up.heed.Goals as goal
 
 pub returns : goal.returns
 returns c =
-    let s = c in
-    let a = s.args.area.now in
-    let h = s.args.h in
-    let d = c.heed-d.ensures ∙ (λ i. heeded s.args.ends h.mt h.id h.oid (cut_part hearing_at s.args.len a i)) in
-    (c.quiet.ensures ∙ (λ i. word_of (d i).dropped false 0 0 0), c.leave.ensures ∙ (λ i. saved a (up_record s.args.r (d i).next)))
+    let a = c.args.area.now in
+    let h = c.args.h in
+    let d = c.heed-d.ensures ∙ (λ i. heeded c.args.ends h.mt h.id h.oid (cut_part hearing_at c.args.len a i)) in
+    (c.quiet.ensures ∙ (λ i. word_of (d i).dropped false 0 0 0), c.leave.ensures ∙ (λ i. saved a (up_record c.args.r (d i).next)))

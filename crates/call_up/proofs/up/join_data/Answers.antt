@@ -8,9 +8,8 @@ use Rattle.call_up.proofs.up.join_data.Goals as goal
 
 pub returns : goal.returns
 returns c =
-    let s = c in
-    let a = s.args.area.now in
+    let a = c.args.area.now in
     c.join_run.ensures
     ∙ (λ i.
     run_area message_size ((c.host_run_at-base.ensures ∙ ap host_run_at c.place_of-place.ensures) i) a (c.counts_of-k.ensures i).host.run
-    (payload_of (cut (c.first_at-slot.ensures i) slot_size a) s.args.n))
+    (payload_of (cut (c.first_at-slot.ensures i) slot_size a) c.args.n))

@@ -8,7 +8,6 @@ use Rattle.call_up.proofs.up.join_hearing.Goals as goal
 
 pub returns : goal.returns
 returns c =
-    let s = c in
-    let a = s.args.area.now in
+    let a = c.args.area.now in
     c.join_run.ensures
-    ∙ (λ i. run_area control_size hearing_at a (c.run_for-run.ensures i) (payload_of (cut (c.first_at-slot.ensures i) slot_size a) s.args.n))
+    ∙ (λ i. run_area control_size hearing_at a (c.run_for-run.ensures i) (payload_of (cut (c.first_at-slot.ensures i) slot_size a) c.args.n))

@@ -5,6 +5,5 @@ use Rattle.call_up.proofs.up.leave.Goals as goal
 
 pub returns : goal.returns
 returns c =
-    let s = c in
     c.encode.ensures
-    ∙ (λ i. saved s.args.area.now (record { ends = s.args.ends; down = s.args.r.down; up = c.took_from-ring.ensures i }))
+    ∙ (λ i. saved c.args.area.now (record { ends = c.args.ends; down = c.args.r.down; up = c.took_from-ring.ensures i }))

@@ -14,20 +14,18 @@ use Rattle.call_up.proofs.up.receive.Goals as goal
 
 pub leave-requires : goal.leave-requires
 leave-requires c =
-    let s = c in
-    let a = s.args.area.now in
-    let r = s.args.r in
-    let h = s.args.h in
-    let long = length_run message_size (host_run_at (place_of h.id)) a (host_side r h.id).run (up_payload r s.args.n a) in
-    (omega (arith, s.requires.0, ap length c.join_data.ensures ∙ long), s.requires.2)
+    let a = c.args.area.now in
+    let r = c.args.r in
+    let h = c.args.h in
+    let long = length_run message_size (host_run_at (place_of h.id)) a (host_side r h.id).run (up_payload r c.args.n a) in
+    (omega (arith, c.requires.0, ap length c.join_data.ensures ∙ long), c.requires.2)
 
 pub returns : goal.returns
 returns c =
-    let s = c in
-    let out = s.args.out.now in
-    let r = s.args.r in
-    let h = s.args.h in
-    let n = s.args.n in
+    let out = c.args.out.now in
+    let r = c.args.r in
+    let h = c.args.h in
+    let n = c.args.n in
     let joined = c.join_data.ensures in
     let said = c.finish-w.ensures in
     let next = c.leave.ensures ∙ (λ i. saved (joined i) (up_record r (c.received_ends-ends.ensures i))) in

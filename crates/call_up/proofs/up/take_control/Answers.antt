@@ -21,11 +21,10 @@ use Rattle.call_up.proofs.up.take_control.Goals as goal
 pub returns-then-not-j : goal.returns-then-not-j
 unfolding heard_ends heard_drop
 returns-then-not-j c =
-    let s = c in
-    let a = s.args.area.now in
-    let r = s.args.r in
-    let h = s.args.h in
-    let n = s.args.n in
+    let a = c.args.area.now in
+    let r = c.args.r in
+    let h = c.args.h in
+    let n = c.args.n in
     let j = c.join_control-j.ensures in
     let d : (heard_join r h n).done ≡ false = sym (ap (λ (x : ControlJoined). x.done) j) ∙ not-true _ c.if-not-j.true in
     let e = sym d in (
@@ -37,11 +36,10 @@ returns-then-not-j c =
 
 pub overflow_add-base : goal.overflow_add-base
 overflow_add-base c =
-    let s = c in
-    let a = s.args.area.now in
-    let r = s.args.r in
-    let h = s.args.h in
-    let n = s.args.n in
+    let a = c.args.area.now in
+    let r = c.args.r in
+    let h = c.args.h in
+    let n = c.args.n in
     let j = c.join_control-j.ensures in
     let d : (heard_join r h n).done ≡ true = sym (ap (λ (x : ControlJoined). x.done) j) ∙ not-false _ c.if-not-j.false in
     let base = ap (λ (x : ControlJoined). x.base) j ∙ control_base r.ends.hearing h n in
@@ -50,26 +48,24 @@ overflow_add-base c =
 
 pub heed-requires : goal.heed-requires
 heed-requires c =
-    let s = c in
-    let a = s.args.area.now in
-    let r = s.args.r in
-    let h = s.args.h in
-    let n = s.args.n in
+    let a = c.args.area.now in
+    let r = c.args.r in
+    let h = c.args.h in
+    let n = c.args.n in
     let j = c.join_control-j.ensures in
     let d : (heard_join r h n).done ≡ true = sym (ap (λ (x : ControlJoined). x.done) j) ∙ not-false _ c.if-not-j.false in
     let base = ap (λ (x : ControlJoined). x.base) j ∙ control_base r.ends.hearing h n in
     let room = control_room r.ends.hearing h n d in
     let long = length_run control_size hearing_at a (run_for r.ends.hearing h) (up_payload r n a) in
-    (omega (arith, s.requires.0, ap length c.join_hearing.ensures ∙ long), s.requires.1, omega (arith, base, room))
+    (omega (arith, c.requires.0, ap length c.join_hearing.ensures ∙ long), c.requires.1, omega (arith, base, room))
 
 pub returns : goal.returns
 unfolding heard_ends heard_drop
 returns c =
-    let s = c in
-    let a = s.args.area.now in
-    let r = s.args.r in
-    let h = s.args.h in
-    let n = s.args.n in
+    let a = c.args.area.now in
+    let r = c.args.r in
+    let h = c.args.h in
+    let n = c.args.n in
     let j = c.join_control-j.ensures in
     let d : (heard_join r h n).done ≡ true = sym (ap (λ (x : ControlJoined). x.done) j) ∙ not-false _ c.if-not-j.false in
     let e = sym d in

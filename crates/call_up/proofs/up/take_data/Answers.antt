@@ -10,30 +10,27 @@ use Rattle.call_up.proofs.up.take_data.Goals as goal
 pub returns-then-not-opened : goal.returns-then-not-opened
 unfolding received_up held_open
 returns-then-not-opened c =
-    let s = c in
-    let a = s.args.area.now in
-    let out = s.args.out.now in
-    let r = s.args.r in
-    let h = s.args.h in
-    let n = s.args.n in
+    let a = c.args.area.now in
+    let out = c.args.out.now in
+    let r = c.args.r in
+    let h = c.args.h in
+    let n = c.args.n in
     let o = sym c.held_open-opened.ensures ∙ c.if-not-opened.true in
     let d = c.discard.ensures in
     (λ i. outcome (d.0 i) (d.1 i) out) ∙ (λ i. pick (sym o i) (received r h n a out) (dropped_up r a out))
 
 pub receive-requires : goal.receive-requires
 receive-requires c =
-    let s = c in
     let o = sym c.held_open-opened.ensures ∙ c.if-not-opened.false in
-    (s.requires.0, s.requires.1, s.requires.2, s.requires.3, held_place s.args.r.ends.conns s.args.h.id s.requires.2.conns o)
+    (c.requires.0, c.requires.1, c.requires.2, c.requires.3, held_place c.args.r.ends.conns c.args.h.id c.requires.2.conns o)
 
 pub returns : goal.returns
 unfolding received_up held_open
 returns c =
-    let s = c in
-    let a = s.args.area.now in
-    let out = s.args.out.now in
-    let r = s.args.r in
-    let h = s.args.h in
-    let n = s.args.n in
+    let a = c.args.area.now in
+    let out = c.args.out.now in
+    let r = c.args.r in
+    let h = c.args.h in
+    let n = c.args.n in
     let o = sym c.held_open-opened.ensures ∙ c.if-not-opened.false in
     c.receive.ensures ∙ (λ i. pick (sym o i) (received r h n a out) (dropped_up r a out))

@@ -10,12 +10,11 @@ use Rattle.call_up.proofs.up.take_packet.Goals as goal
 pub returns-then-h-eq-DATA : goal.returns-then-h-eq-DATA
 unfolding coming_up
 returns-then-h-eq-DATA c =
-    let s = c in
-    let a = s.args.area.now in
-    let out = s.args.out.now in
-    let r = s.args.r in
-    let h = s.args.h in
-    let n = s.args.n in
+    let a = c.args.area.now in
+    let out = c.args.out.now in
+    let r = c.args.r in
+    let h = c.args.h in
+    let n = c.args.n in
     let z = eq-eqb h.mt 0 c.if-h-eq-DATA.true in
     c.take_data.ensures
     ∙ (λ i. pick (sym z i) (received_up r h n a out) (pick (eqb h.mt 1) (dropped_up r a out) (heard_up r h n a out)))
@@ -23,12 +22,11 @@ returns-then-h-eq-DATA c =
 pub returns-then-h-eq-COMMAND : goal.returns-then-h-eq-COMMAND
 unfolding coming_up
 returns-then-h-eq-COMMAND c =
-    let s = c in
-    let a = s.args.area.now in
-    let out = s.args.out.now in
-    let r = s.args.r in
-    let h = s.args.h in
-    let n = s.args.n in
+    let a = c.args.area.now in
+    let out = c.args.out.now in
+    let r = c.args.r in
+    let h = c.args.h in
+    let n = c.args.n in
     let z = ne_eqb h.mt 0 c.if-h-eq-DATA.false in
     let m = eq-eqb h.mt 1 c.if-h-eq-COMMAND.true in
     let d = c.discard.ensures in
@@ -38,12 +36,11 @@ returns-then-h-eq-COMMAND c =
 pub returns : goal.returns
 unfolding coming_up
 returns c =
-    let s = c in
-    let a = s.args.area.now in
-    let out = s.args.out.now in
-    let r = s.args.r in
-    let h = s.args.h in
-    let n = s.args.n in
+    let a = c.args.area.now in
+    let out = c.args.out.now in
+    let r = c.args.r in
+    let h = c.args.h in
+    let n = c.args.n in
     let z = ne_eqb h.mt 0 c.if-h-eq-DATA.false in
     let m = ne_eqb h.mt 1 c.if-h-eq-COMMAND.false in
     let d = c.take_control.ensures in

@@ -18,13 +18,12 @@ loop-i-init c = (omega arith, sym (splice_nil _ _), refl)
 pub put_unavailable-to-requires : goal.put_unavailable-to-requires
 unfolding unavailable_in
 put_unavailable-to-requires c =
-    let l = c in
-    let a = l.args in
-    let i = l.loop-i.i in
+    let a = c.args in
+    let i = c.loop-i.i in
     let more : suc i ≤ a.n = omega arith in
     let fits = unavailable_grows a.m.now (suc i) a.n more in
     let one = ap (λ x. length (unavailable_one x)) c.octet_at.ensures in
-    let long = ap length l.loop-i.invariant.1 ∙ length_splice _ _ _ in
+    let long = ap length c.loop-i.invariant.1 ∙ length_splice _ _ _ in
     let e = length-append (unavailable_in a.m.now i) (unavailable_one (asked_in a.m.now i)) in
     omega arith
 
@@ -32,16 +31,14 @@ pub loop-i-preserved : goal.loop-i-preserved
 unfolding unavailable_in
 loop-i-preserved c =
     let id = c.octet_at.ensures in
-    let l = c in
-    let a = l.args in
-    let i = l.loop-i.i in
-    let more = grown a.out.now _ (unavailable_in a.m.now i) _ _ _ _ l.loop-i.invariant.1 l.loop-i.invariant.2
-    (c.put_unavailable-to.ensures.octets ∙ (λ k. splice l.loop-i.out l.loop-i.to (unavailable_one (id k))))
-    (c.put_unavailable-to.ensures.next ∙ (λ k. l.loop-i.to + length (unavailable_one (id k)))) in
+    let a = c.args in
+    let i = c.loop-i.i in
+    let more = grown a.out.now _ (unavailable_in a.m.now i) _ _ _ _ c.loop-i.invariant.1 c.loop-i.invariant.2
+    (c.put_unavailable-to.ensures.octets ∙ (λ k. splice c.loop-i.out c.loop-i.to (unavailable_one (id k))))
+    (c.put_unavailable-to.ensures.next ∙ (λ k. c.loop-i.to + length (unavailable_one (id k)))) in
     rw (add-one i) (omega arith, more.0, more.1)
 
 pub returns : goal.returns
 returns c =
-    let l = c in
-    let a = l.args in
-    let all : l.loop-i.i ≡ a.n = omega arith in record { octets = l.loop-i.invariant.1 ∙ (λ k. splice a.out.now 2 (unavailable_in a.m.now (all k))); next = l.loop-i.invariant.2 ∙ (λ k. 2 + length (unavailable_in a.m.now (all k))) }
+    let a = c.args in
+    let all : c.loop-i.i ≡ a.n = omega arith in record { octets = c.loop-i.invariant.1 ∙ (λ k. splice a.out.now 2 (unavailable_in a.m.now (all k))); next = c.loop-i.invariant.2 ∙ (λ k. 2 + length (unavailable_in a.m.now (all k))) }

@@ -25,20 +25,16 @@ overflow_cast-head c = omega (arith, ap length (value (goal.at.overflow_cast-hea
 
 pub put-requires-2 : goal.put-requires-2
 put-requires-2 c =
-    let v = c in
     let long = ap length c.put.ensures ∙ length_splice _ _ _ in
-    omega (arith, long, ap length (value (goal.at.put-requires-2 c).After-value_in-v), v.requires.1)
+    omega (arith, long, ap length (value (goal.at.put-requires-2 c).After-value_in-v), c.requires.1)
 
 pub returns : goal.returns
 returns c =
-    let p2 = c in
-    let p1 = p2 in
-    let v = p1 in
-    let a = v.args in
+    let a = c.args in
     let e = value (goal.at.returns c).After-value_in-v in
     let at = a.at in record {
-      octets = p2.put-2.ensures
-          ∙ (λ k. splice (p1.put.ensures k) (at + 2) (e k))
+      octets = c.put-2.ensures
+          ∙ (λ k. splice (c.put.ensures k) (at + 2) (e k))
           ∙ (λ k. splice (splice a.out.now at (a.id ∷ length (e k) ∷ [])) (at + 2) (value_in a.b.now (row_of a.id)))
           ∙ splice_next a.out.now at (a.id ∷ length (value_in a.b.now (row_of a.id)) ∷ []) (value_in a.b.now (row_of a.id));
       next = omega (arith, ap length e);

@@ -11,12 +11,10 @@ returns-then-r c =
 
 pub put-requires : goal.put-requires
 put-requires c =
-    let r = c in
-    let unknown = lt-leb _ _ (rw r.row_of-r.ensures at c.if-r.false) in
-    rw unknown at r.requires
+    let unknown = lt-leb _ _ (rw c.row_of-r.ensures at c.if-r.false) in
+    rw unknown at c.requires
 
 pub returns : goal.returns
 returns c =
-    let if = c in
-    let unknown = lt-leb _ _ (rw if.row_of-r.ensures at if.if-r.false) in
+    let unknown = lt-leb _ _ (rw c.row_of-r.ensures at c.if-r.false) in
     rw unknown record { octets = c.put.ensures; next = refl }

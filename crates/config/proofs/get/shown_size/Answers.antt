@@ -16,8 +16,7 @@ use Rattle.config.proofs.get.shown_size.Goals.{After-value_in-v}
 -- a value is no longer than all values
 short : (c : After-value_in-v) → length c.value_in-v.result.now ≤ 30
 short c =
-    let start = c in
-    omega (arith, ap length c.value_in-v.ensures, value_short start.args.b.now c.row_of-r.result)
+    omega (arith, ap length c.value_in-v.ensures, value_short c.args.b.now c.row_of-r.result)
 
 pub loop-i-init : goal.loop-i-init
 unfolding shown_in
@@ -35,11 +34,9 @@ overflow_add-size-in-loop-i c = omega (arith, short (goal.at.overflow_add-size-i
 pub loop-i-preserved : goal.loop-i-preserved
 unfolding shown_in
 loop-i-preserved c =
-    let r = c in
-    let l = r in
-    let a = l.args in
-    let i = l.loop-i.i in
-    let row : r.row_of-r.result ≡ row_of (asked_in a.m.now i) = r.row_of-r.ensures ∙ ap row_of r.octet_at.ensures in
+    let a = c.args in
+    let i = c.loop-i.i in
+    let row : c.row_of-r.result ≡ row_of (asked_in a.m.now i) = c.row_of-r.ensures ∙ ap row_of c.octet_at.ensures in
     let v = ap length (c.value_in-v.ensures ∙ ap (value_in a.b.now) row) in
     let e = length-append (shown_in a.b.now a.m.now i) (shown_one a.b.now (asked_in a.m.now i)) in (
       omega arith,
@@ -49,7 +46,6 @@ loop-i-preserved c =
 
 pub returns : goal.returns
 returns c =
-    let l = c in
-    let a = l.args in
-    let all : l.loop-i.i ≡ a.n = omega arith in
-    l.loop-i.invariant.1 ∙ (λ k. length (shown_in a.b.now a.m.now (all k)))
+    let a = c.args in
+    let all : c.loop-i.i ≡ a.n = omega arith in
+    c.loop-i.invariant.1 ∙ (λ k. length (shown_in a.b.now a.m.now (all k)))

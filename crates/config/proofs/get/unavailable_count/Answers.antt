@@ -16,18 +16,15 @@ loop-i-init c = (omega arith, refl, omega arith)
 pub loop-i-preserved : goal.loop-i-preserved
 unfolding unavailable_count
 loop-i-preserved c =
-    let r = c in
-    let l = r in
-    let m = l.args.m.now in
-    let one : c.choose-one.result ≡ pick (known_row (row_of (asked_in m l.loop-i.i))) 0 1 = c.choose-one.ensures ∙ ap (λ x. pick (known_row x) 0 1) (r.row_of-r.ensures ∙ ap row_of r.octet_at.ensures) in (
+    let m = c.args.m.now in
+    let one : c.choose-one.result ≡ pick (known_row (row_of (asked_in m c.loop-i.i))) 0 1 = c.choose-one.ensures ∙ ap (λ x. pick (known_row x) 0 1) (c.row_of-r.ensures ∙ ap row_of c.octet_at.ensures) in (
       omega arith,
-      rw (add-one l.loop-i.i) (λ k. l.loop-i.invariant.1 k + one k),
-      omega (arith, at_most_one (known_row (row_of (asked_in m l.loop-i.i)))),
+      rw (add-one c.loop-i.i) (λ k. c.loop-i.invariant.1 k + one k),
+      omega (arith, at_most_one (known_row (row_of (asked_in m c.loop-i.i)))),
     )
 
 pub returns : goal.returns
 returns c =
-    let l = c in
-    let a = l.args in
-    let all : l.loop-i.i ≡ a.n = omega arith in
-    (l.loop-i.invariant.1 ∙ ap (unavailable_count a.m.now) all, omega arith)
+    let a = c.args in
+    let all : c.loop-i.i ≡ a.n = omega arith in
+    (c.loop-i.invariant.1 ∙ ap (unavailable_count a.m.now) all, omega arith)

@@ -12,11 +12,10 @@ loop-i-init c = (omega arith, refl, omega arith)
 pub loop-i-preserved : goal.loop-i-preserved
 unfolding param_at
 loop-i-preserved c =
-    let l = c in (omega arith, rw (add-one l.loop-i.i, c.octet_at.ensures, l.loop-i.invariant.1), omega arith)
+    (omega arith, rw (add-one c.loop-i.i, c.octet_at.ensures, c.loop-i.invariant.1), omega arith)
 
 pub returns : goal.returns
 returns c =
-    let l = c in
-    let a = l.args in
-    let all : l.loop-i.i ≡ a.n = omega arith in
-    l.loop-i.invariant.1 ∙ ap (param_at a.m.now) all
+    let a = c.args in
+    let all : c.loop-i.i ≡ a.n = omega arith in
+    c.loop-i.invariant.1 ∙ ap (param_at a.m.now) all

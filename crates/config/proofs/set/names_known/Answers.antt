@@ -12,18 +12,15 @@ loop-i-init c = (omega arith, refl, refl, omega arith)
 pub loop-i-preserved : goal.loop-i-preserved
 unfolding param_at names_known
 loop-i-preserved c =
-    let r = c in
-    let l = r in
-    let place = l.loop-i.invariant.2 in (
+    let place = c.loop-i.invariant.2 in (
       omega arith,
-      rw (add-one l.loop-i.i, r.row_of-r.ensures, r.octet_at.ensures, place, l.loop-i.invariant.1),
-      rw (add-one l.loop-i.i, c.octet_at-in-loop-i.ensures, place),
+      rw (add-one c.loop-i.i, c.row_of-r.ensures, c.octet_at.ensures, place, c.loop-i.invariant.1),
+      rw (add-one c.loop-i.i, c.octet_at-in-loop-i.ensures, place),
       omega arith,
     )
 
 pub returns : goal.returns
 returns c =
-    let l = c in
-    let a = l.args in
-    let all : l.loop-i.i ≡ a.n = omega arith in
-    l.loop-i.invariant.1 ∙ ap (names_known a.m.now) all
+    let a = c.args in
+    let all : c.loop-i.i ≡ a.n = omega arith in
+    c.loop-i.invariant.1 ∙ ap (names_known a.m.now) all

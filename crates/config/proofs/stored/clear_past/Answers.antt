@@ -31,14 +31,12 @@ loop-k-init c = let none : 0 - c.args.n ≡ 0 = omega arith in (omega arith, rw 
 
 pub loop-k-preserved : goal.loop-k-preserved
 loop-k-preserved c =
-    let l = c in
-    let a = l.args in
-    let k = l.loop-k.k in
-    (omega arith, ap (λ (x : Bool). x && (ltb k a.n || eqb (get_or a.b.now (a.i + k) 0) 0)) l.loop-k.invariant.1 ∙ one_more a.b.now a.i a.n k)
+    let a = c.args in
+    let k = c.loop-k.k in
+    (omega arith, ap (λ (x : Bool). x && (ltb k a.n || eqb (get_or a.b.now (a.i + k) 0) 0)) c.loop-k.invariant.1 ∙ one_more a.b.now a.i a.n k)
 
 pub returns : goal.returns
 returns c =
-    let l = c in
-    let a = l.args in
-    let all : l.loop-k.k ≡ a.room = omega arith in
-    l.loop-k.invariant.1 ∙ ap (λ (k : ℕ). clear a.b.now (a.i + a.n) (k - a.n)) all
+    let a = c.args in
+    let all : c.loop-k.k ≡ a.room = omega arith in
+    c.loop-k.invariant.1 ∙ ap (λ (k : ℕ). clear a.b.now (a.i + a.n) (k - a.n)) all

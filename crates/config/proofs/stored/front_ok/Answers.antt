@@ -11,24 +11,14 @@ use Rattle.config.proofs.stored.front_ok.Goals as goal
 pub returns : goal.returns
 unfolding table row_at rows_ok
 returns c =
-    let c8 = c in
-    let c7 = c8 in
-    let c6 = c7 in
-    let c5 = c6 in
-    let c4 = c5 in
-    let c3 = c4 in
-    let c2 = c3 in
-    let c1 = c2 in
-    let c0 = c1 in
-    let start = c0 in
-    let b = start.args.b.now in
-    let e0 = c0.octet_ok.ensures ∙ sym (octet_row 0x08 0 0x00 (Range 0x00 0x01) b (omega arith)) in
-    let e1 = c1.octet_ok-2.ensures ∙ sym (octet_row 0x09 1 0x08 (Range 0x00 0xFF) b (omega arith)) in
-    let e2 = c2.octet_ok-3.ensures ∙ sym (octet_row 0x10 2 0x00 (Range 0x00 0xFF) b (omega arith)) in
-    let e3 = c3.octet_ok-4.ensures ∙ sym (octet_row 0x11 3 0x00 (Range 0x00 0x01) b (omega arith)) in
-    let e4 = c4.octet_ok-5.ensures ∙ sym (octet_row 0x13 4 0x00 (Range 0x00 0xFF) b (omega arith)) in
-    let e5 = c5.octet_ok-6.ensures ∙ sym (octet_row 0x14 5 0x08 (Range 0x00 0xFF) b (omega arith)) in
-    let e6 = c6.octet_ok-7.ensures ∙ sym (octet_row 0x18 6 0x01 (Range 0x01 0x02) b (omega arith)) in
-    let e7 = c7.octet_ok-8.ensures ∙ sym (octet_row 0x19 7 0x00 (Range 0x00 0x01) b (omega arith)) in
-    let e8 = c8.octet_ok-9.ensures ∙ sym (octet_row 0x1A 8 0x08 (Range 0x00 0xFF) b (omega arith)) in
+    let b = c.args.b.now in
+    let e0 = c.octet_ok.ensures ∙ sym (octet_row 0x08 0 0x00 (Range 0x00 0x01) b (omega arith)) in
+    let e1 = c.octet_ok-2.ensures ∙ sym (octet_row 0x09 1 0x08 (Range 0x00 0xFF) b (omega arith)) in
+    let e2 = c.octet_ok-3.ensures ∙ sym (octet_row 0x10 2 0x00 (Range 0x00 0xFF) b (omega arith)) in
+    let e3 = c.octet_ok-4.ensures ∙ sym (octet_row 0x11 3 0x00 (Range 0x00 0x01) b (omega arith)) in
+    let e4 = c.octet_ok-5.ensures ∙ sym (octet_row 0x13 4 0x00 (Range 0x00 0xFF) b (omega arith)) in
+    let e5 = c.octet_ok-6.ensures ∙ sym (octet_row 0x14 5 0x08 (Range 0x00 0xFF) b (omega arith)) in
+    let e6 = c.octet_ok-7.ensures ∙ sym (octet_row 0x18 6 0x01 (Range 0x01 0x02) b (omega arith)) in
+    let e7 = c.octet_ok-8.ensures ∙ sym (octet_row 0x19 7 0x00 (Range 0x00 0x01) b (omega arith)) in
+    let e8 = c.octet_ok-9.ensures ∙ sym (octet_row 0x1A 8 0x08 (Range 0x00 0xFF) b (omega arith)) in
     λ i. e0 i && e1 i && e2 i && e3 i && e4 i && e5 i && e6 i && e7 i && e8 i

@@ -15,19 +15,11 @@ row_ok-info-requires c = (c.requires, rw c.row_at.ensures (row_fits 9 (omega ari
 pub returns : goal.returns
 unfolding table row_at rows_ok
 returns c =
-    let c4 = c in
-    let c3 = c4 in
-    let c2 = c3 in
-    let c1 = c2 in
-    let c0 = c1 in
-    let f = c0 in
-    let o = f in
-    let start = o in
-    let b = start.args.b.now in
-    let info = o.row_ok-info.ensures ∙ ap (row_ok b) o.row_at.ensures in
-    let e0 = c0.octet_ok.ensures ∙ sym (octet_row 0x21 25 0x00 (Range 0x00 0x03) b (omega arith)) in
-    let e1 = c1.octet_ok-2.ensures ∙ sym (octet_row 0x28 26 0x00 (Range 0x00 0x01) b (omega arith)) in
-    let e2 = c2.octet_ok-3.ensures ∙ sym (octet_row 0x2A 27 0x30 (Range 0x00 0xFF) b (omega arith)) in
-    let e3 = c3.octet_ok-4.ensures ∙ sym (octet_row 0x2F 28 0x08 (Range 0x00 0xFF) b (omega arith)) in
-    let e4 = c4.octet_ok-5.ensures ∙ sym (octet_row 0x68 29 0x01 (BitRates) b (omega arith)) in
-    λ i. f.front_ok.ensures i && info i && e0 i && e1 i && e2 i && e3 i && e4 i
+    let b = c.args.b.now in
+    let info = c.row_ok-info.ensures ∙ ap (row_ok b) c.row_at.ensures in
+    let e0 = c.octet_ok.ensures ∙ sym (octet_row 0x21 25 0x00 (Range 0x00 0x03) b (omega arith)) in
+    let e1 = c.octet_ok-2.ensures ∙ sym (octet_row 0x28 26 0x00 (Range 0x00 0x01) b (omega arith)) in
+    let e2 = c.octet_ok-3.ensures ∙ sym (octet_row 0x2A 27 0x30 (Range 0x00 0xFF) b (omega arith)) in
+    let e3 = c.octet_ok-4.ensures ∙ sym (octet_row 0x2F 28 0x08 (Range 0x00 0xFF) b (omega arith)) in
+    let e4 = c.octet_ok-5.ensures ∙ sym (octet_row 0x68 29 0x01 (BitRates) b (omega arith)) in
+    λ i. c.front_ok.ensures i && info i && e0 i && e1 i && e2 i && e3 i && e4 i

@@ -15,23 +15,19 @@ returns-then-r c = rw (eq-eqb _ _ c.if-r.true) c.put.ensures
 pub put-requires-2 : goal.put-requires-2
 put-requires-2 c =
     let varies = ne_eqb _ _ c.if-r.false in
-    let start = c in
-    let roomy = rw varies at start.requires.0 in omega arith
+    let roomy = rw varies at c.requires.0 in omega arith
 
 pub put-requires-3 : goal.put-requires-3
 put-requires-3 c =
     let varies = ne_eqb _ _ c.if-r.false in
-    let start = c in
-    let roomy = rw varies at start.requires.0 in
-    let long : length c.put-2.new.dst ≡ length start.args.b.now = ap length c.put-2.ensures ∙ length_splice _ _ _ in
+    let roomy = rw varies at c.requires.0 in
+    let long : length c.put-2.new.dst ≡ length c.args.b.now = ap length c.put-2.ensures ∙ length_splice _ _ _ in
     omega arith
 
 pub returns : goal.returns
 returns c =
-    let put = c in
-    let head = put in
-    let varies = ne_eqb _ _ head.if-r.false in
-    let a = head.args in
+    let varies = ne_eqb _ _ c.if-r.false in
+    let a = c.args in
     rw varies
-    (put.put-3.ensures ∙ ap (λ x. splice x (a.r.at + 1) a.v.now) head.put-2.ensures
+    (c.put-3.ensures ∙ ap (λ x. splice x (a.r.at + 1) a.v.now) c.put-2.ensures
     ∙ splice_next a.b.now a.r.at (length a.v.now ∷ []) a.v.now)

@@ -10,9 +10,5 @@ use Rattle.config.proofs.stored.put_value.Goals as goal
 pub returns : goal.returns
 unfolding with_value zeroes
 returns c =
-    let form = c in
-    let put = form in
-    let l = put in
-    let start = l in
-    let a = start.args in
-    form.put_form.ensures ∙ ap (λ x. splice x a.r.at (form_of a.r a.v.now)) (put.put.ensures ∙ ap (splice a.b.now a.r.at) (none_of 16 _ _ (omega (arith, l.lead-before.ensures.upper_bound)) (ap (λ n. n + a.r.most) l.lead-before.ensures.value)))
+    let a = c.args in
+    c.put_form.ensures ∙ ap (λ x. splice x a.r.at (form_of a.r a.v.now)) (c.put.ensures ∙ ap (splice a.b.now a.r.at) (none_of 16 _ _ (omega (arith, c.lead-before.ensures.upper_bound)) (ap (λ n. n + a.r.most) c.lead-before.ensures.value)))

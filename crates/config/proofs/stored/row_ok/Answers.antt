@@ -16,9 +16,5 @@ returns-then-r-n c =
 pub returns : goal.returns
 unfolding row_ok
 returns c =
-    let k = c in
-    let v = k in
-    let hi = v in
-    let lo = hi in
-    let n = lo.size_in-n.ensures in
-    rw (c.clear_past.ensures, c.all_allowed.ensures, v.value_in-v.ensures, k.lead.ensures.value, ← n, le-leb _ _ lo.if-n-r.false, le-leb _ _ hi.if-r-n.false)
+    let n = c.size_in-n.ensures in
+    rw (c.clear_past.ensures, c.all_allowed.ensures, c.value_in-v.ensures, c.lead.ensures.value, ← n, le-leb _ _ c.if-n-r.false, le-leb _ _ c.if-r-n.false)

@@ -8,8 +8,6 @@ use Rattle.config.proofs.stored.value_in.Goals as goal
 pub returns : goal.returns
 unfolding value_in
 returns c =
-    let w = c in
-    let k = w in
-    let n = k.size_in-n.ensures in
-    let a = k.args in
-    c.window-2.ensures ∙ (λ i. cut 0 (n i) ((w.window.ensures ∙ (λ j. cut (a.r.at + k.lead-before.ensures.value j) a.r.most a.b.now)) i))
+    let n = c.size_in-n.ensures in
+    let a = c.args in
+    c.window-2.ensures ∙ (λ i. cut 0 (n i) ((c.window.ensures ∙ (λ j. cut (a.r.at + c.lead-before.ensures.value j) a.r.most a.b.now)) i))

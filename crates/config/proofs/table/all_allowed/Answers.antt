@@ -15,12 +15,11 @@ loop-i-init c = (omega arith, refl)
 pub loop-i-preserved : goal.loop-i-preserved
 unfolding all_allowed
 loop-i-preserved c =
-    let l = c in (omega arith, rw (add-one l.loop-i.i, l.loop-i.invariant.1, c.allowed_by-all.ensures))
+    (omega arith, rw (add-one c.loop-i.i, c.loop-i.invariant.1, c.allowed_by-all.ensures))
 
 -- src/table.rt:95:1
 pub returns : goal.returns
 returns c =
-    let l = c in
-    let a = l.args in
-    let all : l.loop-i.i ≡ length a.v.now = omega arith in
-    l.loop-i.invariant.1 ∙ ap (all_allowed a.values a.v.now) all
+    let a = c.args in
+    let all : c.loop-i.i ≡ length a.v.now = omega arith in
+    c.loop-i.invariant.1 ∙ ap (all_allowed a.values a.v.now) all

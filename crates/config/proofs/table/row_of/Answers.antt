@@ -14,20 +14,17 @@ loop-i-init c = (omega arith, refl)
 pub returns-then-r-id : goal.returns-then-r-id
 unfolding table
 returns-then-r-id c =
-    let l = c in
-    found_now l.loop-i.i _ l.args.id c.loop-i-test.true c.if-r-id.true l.loop-i.invariant.1
+    found_now c.loop-i.i _ c.args.id c.loop-i-test.true c.if-r-id.true c.loop-i.invariant.1
 
 pub loop-i-preserved : goal.loop-i-preserved
 unfolding table
-loop-i-preserved c =
-    let l = c in (
-      omega arith,
-      found_later l.loop-i.i _ l.args.id c.loop-i-test.true c.if-r-id.false l.loop-i.invariant.1,
-    )
+loop-i-preserved c = (
+  omega arith,
+  found_later c.loop-i.i _ c.args.id c.loop-i-test.true c.if-r-id.false c.loop-i.invariant.1,
+)
 
 pub returns : goal.returns
 returns c =
-    let l = c in
-    let id = l.args.id in
-    let end : l.loop-i.i ≡ row_count = omega arith in
-    sym (ap (λ (n : ℕ). find_in (drop n table) id) end ∙ find_none id) ∙ l.loop-i.invariant.1
+    let id = c.args.id in
+    let end : c.loop-i.i ≡ row_count = omega arith in
+    sym (ap (λ (n : ℕ). find_in (drop n table) id) end ∙ find_none id) ∙ c.loop-i.invariant.1

@@ -15,17 +15,13 @@ loop-i-init c = (omega arith, refl)
 pub loop-i-preserved : goal.loop-i-preserved
 unfolding unavailable_written
 loop-i-preserved c =
-    let none = c in
-    let r = none in
-    let l = r in
-    let row = r.row_of-r.ensures ∙ ap row_of r.octet_at.ensures in (
+    let row = c.row_of-r.ensures ∙ ap row_of c.octet_at.ensures in (
       omega arith,
-      rw (add-one l.loop-i.i) (λ k. l.loop-i.invariant.1 k && (not (known_row (row k)) && eqb (none.octet_at-none.ensures k) 0x00)),
+      rw (add-one c.loop-i.i) (λ k. c.loop-i.invariant.1 k && (not (known_row (row k)) && eqb (c.octet_at-none.ensures k) 0x00)),
     )
 
 pub returns : goal.returns
 returns c =
-    let l = c in
-    let a = l.args in
-    let all : l.loop-i.i ≡ a.n = omega arith in
-    l.loop-i.invariant.1 ∙ ap (unavailable_written a.m.now) all
+    let a = c.args in
+    let all : c.loop-i.i ≡ a.n = omega arith in
+    c.loop-i.invariant.1 ∙ ap (unavailable_written a.m.now) all

@@ -16,25 +16,20 @@ loop-i-init c = (omega arith, refl, refl, omega arith)
 pub loop-i-preserved : goal.loop-i-preserved
 unfolding param_at values_written
 loop-i-preserved c =
-    let w = c in
-    let r = w in
-    let n = r in
-    let l = n in
-    let i = l.loop-i.i in
-    let m = l.args.m.now in
-    let place = l.loop-i.invariant.2 in
-    let id = id_read m _ i _ place n.octet_at-id.ensures in
-    let v = param_read m _ i _ _ place n.octet_at-n.ensures w.window.ensures in
-    let one = c.acceptable-ok.ensures ∙ (λ k. acceptable ((r.row_of-r.ensures ∙ ap row_of id) k) (v k)) in (
+    let i = c.loop-i.i in
+    let m = c.args.m.now in
+    let place = c.loop-i.invariant.2 in
+    let id = id_read m _ i _ place c.octet_at-id.ensures in
+    let v = param_read m _ i _ _ place c.octet_at-n.ensures c.window.ensures in
+    let one = c.acceptable-ok.ensures ∙ (λ k. acceptable ((c.row_of-r.ensures ∙ ap row_of id) k) (v k)) in (
       omega arith,
-      rw (add-one i) (λ k. l.loop-i.invariant.1 k && one k),
-      rw (add-one i, n.octet_at-n.ensures, place),
+      rw (add-one i) (λ k. c.loop-i.invariant.1 k && one k),
+      rw (add-one i, c.octet_at-n.ensures, place),
       omega arith,
     )
 
 pub returns : goal.returns
 returns c =
-    let l = c in
-    let a = l.args in
-    let all : l.loop-i.i ≡ a.n = omega arith in
-    l.loop-i.invariant.1 ∙ ap (values_written a.m.now) all
+    let a = c.args in
+    let all : c.loop-i.i ≡ a.n = omega arith in
+    c.loop-i.invariant.1 ∙ ap (values_written a.m.now) all

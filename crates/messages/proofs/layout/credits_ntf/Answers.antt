@@ -16,12 +16,11 @@ entry-at-requires c = omega (arith, c.loop-i.invariant)
 
 pub loop-i-preserved : goal.loop-i-preserved
 loop-i-preserved c =
-    let l = c in
-    let a = l.args in
-    let five : length a.conns ≡ 5 = omega (arith, l.well_formed) in
-    entries_turn (owed_of a.conns) (length-map a.conns _ ∙ five) _ _ _ _ _ _ _ _ (omega arith) l.loop-i.invariant
+    let a = c.args in
+    let five : length a.conns ≡ 5 = omega (arith, c.well_formed) in
+    entries_turn (owed_of a.conns) (length-map a.conns _ ∙ five) _ _ _ _ _ _ _ _ (omega arith) c.loop-i.invariant
     c.conn_of.ensures
-    (c.owing.ensures ∙ sym (get_or-map (λ (k : Counts). owed_on k.controller) a.conns l.loop-i.i closed_counts))
+    (c.owing.ensures ∙ sym (get_or-map (λ (k : Counts). owed_on k.controller) a.conns c.loop-i.i closed_counts))
     c.entry-at.ensures.octets c.entry-at.ensures.next
 
 pub overflow_cast-out : goal.overflow_cast-out

@@ -10,10 +10,7 @@ use Rattle.messages.proofs.layout.emit_around.Goals as goal
 
 pub returns : goal.returns
 returns c =
-    let third = c in
-    let second = third in
-    let first = second in
-    let a = first.args in
+    let a = c.args in
     let h = a.head.now in
     let m = a.params.now in
     let t = a.tail.now in
@@ -21,7 +18,7 @@ returns c =
     record {
       head = λ i. record { gid = a.gid; oid = a.oid; len = long i };
       octets =
-          third.put-3.ensures
-          ∙ (λ i. splice ((second.put-2.ensures ∙ (λ j. splice (first.put.ensures j) (length h) m)) i) (length h + length m) t)
+          c.put-3.ensures
+          ∙ (λ i. splice ((c.put-2.ensures ∙ (λ j. splice (c.put.ensures j) (length h) m)) i) (length h + length m) t)
           ∙ splice_three a.out.now h m t;
     }

@@ -10,5 +10,4 @@ returns-then-n-eq0 c = rw (eq-eqb _ 0 c.if-n-eq0.true) record { octets = sym (sp
 
 pub returns : goal.returns
 returns c =
-    let put = c in
-    rw (ne_eqb _ 0 put.if-n-eq0.false) record { octets = put.put.ensures; next = refl }
+    rw (ne_eqb _ 0 c.if-n-eq0.false) record { octets = c.put.ensures; next = refl }

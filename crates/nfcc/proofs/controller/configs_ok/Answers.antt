@@ -12,17 +12,16 @@ loop-i-init c = (omega arith, refl)
 
 pub loop-i-preserved : goal.loop-i-preserved
 unfolding configs_ok
-loop-i-preserved c =
-    let l = c in (
-      omega arith,
-      rw (
-        add-one l.loop-i.i,
-        l.loop-i.invariant.1,
-        c.config_ok-ok.ensures,
-        c.octet_at-frequency.ensures,
-        c.octet_at-mode.ensures,
-      ),
-    )
+loop-i-preserved c = (
+  omega arith,
+  rw (
+    add-one c.loop-i.i,
+    c.loop-i.invariant.1,
+    c.config_ok-ok.ensures,
+    c.octet_at-frequency.ensures,
+    c.octet_at-mode.ensures,
+  ),
+)
 
 pub returns : goal.returns
 returns c =

@@ -5,10 +5,8 @@ use Rattle.nfcc.proofs.controller.create_by.Goals as goal
 pub returns-then-destination-parameters : goal.returns-then-destination-parameters
 unfolding create_by
 returns-then-destination-parameters c =
-    let t = c in
-    let o = t in
     rw (
-      rw (o.octet_at-parameters.ensures, o.octet_at-destination.ensures) at t.if-destination-parameters.true,
+      rw (c.octet_at-parameters.ensures, c.octet_at-destination.ensures) at c.if-destination-parameters.true,
       c.opens_as.ensures,
       c.next_id-id.ensures,
     )
@@ -16,5 +14,4 @@ returns-then-destination-parameters c =
 pub returns-else-destination-parameters : goal.returns-else-destination-parameters
 unfolding create_by
 returns-else-destination-parameters c =
-    let o = c in
-    rw (rw (o.octet_at-parameters.ensures, o.octet_at-destination.ensures) at c.if-destination-parameters.false)
+    rw (rw (c.octet_at-parameters.ensures, c.octet_at-destination.ensures) at c.if-destination-parameters.false)

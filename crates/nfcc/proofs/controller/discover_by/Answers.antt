@@ -10,19 +10,15 @@ returns-then-not-idle c = rw (sym c.is_idle-idle.ensures ∙ c.if-not-idle.true)
 pub returns-then-n-ok : goal.returns-then-n-ok
 unfolding discover_by
 returns-then-n-ok c =
-    let k = c in
-    let n = k in
     rw (
-      sym n.is_idle-idle.ensures ∙ c.if-not-idle.false,
-      rw (k.configs_ok-ok.ensures, n.octet_at-n.ensures) at c.if-n-ok.true,
+      sym c.is_idle-idle.ensures ∙ c.if-not-idle.false,
+      rw (c.configs_ok-ok.ensures, c.octet_at-n.ensures) at c.if-n-ok.true,
     )
 
 pub returns-else-n-ok : goal.returns-else-n-ok
 unfolding discover_by
 returns-else-n-ok c =
-    let k = c in
-    let n = k in
     rw (
-      sym n.is_idle-idle.ensures ∙ c.if-not-idle.false,
-      rw (k.configs_ok-ok.ensures, n.octet_at-n.ensures) at c.if-n-ok.false,
+      sym c.is_idle-idle.ensures ∙ c.if-not-idle.false,
+      rw (c.configs_ok-ok.ensures, c.octet_at-n.ensures) at c.if-n-ok.false,
     )

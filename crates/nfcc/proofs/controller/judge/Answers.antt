@@ -6,32 +6,27 @@ use Rattle.nfcc.proofs.controller.judge.Goals as goal
 pub returns-then-m-least : goal.returns-then-m-least
 unfolding judge_of
 returns-then-m-least c =
-    let s = c in
-    rw (← s.command_of-c.ensures, ← s.shortest-least.ensures, lt-ltb _ _ c.if-m-least.true)
+    rw (← c.command_of-c.ensures, ← c.shortest-least.ensures, lt-ltb _ _ c.if-m-least.true)
 
 pub returns-then-not-taken : goal.returns-then-not-taken
 unfolding judge_of
 returns-then-not-taken c =
-    let a = c in
-    let s = a in
     rw (
-      ← s.command_of-c.ensures,
-      ← s.shortest-least.ensures,
+      ← c.command_of-c.ensures,
+      ← c.shortest-least.ensures,
       le-ltb _ _ c.if-m-least.false,
-      ← a.allowed-taken.ensures,
+      ← c.allowed-taken.ensures,
       c.if-not-taken.true,
     )
 
 pub returns : goal.returns
 unfolding judge_of
 returns c =
-    let a = c in
-    let s = a in
     rw (
-      ← s.command_of-c.ensures,
-      ← s.shortest-least.ensures,
+      ← c.command_of-c.ensures,
+      ← c.shortest-least.ensures,
       le-ltb _ _ c.if-m-least.false,
-      ← a.allowed-taken.ensures,
+      ← c.allowed-taken.ensures,
       c.if-not-taken.false,
       c.values_of.ensures,
     )

@@ -16,5 +16,4 @@ returns-then-kept c =
 pub returns-else-kept : goal.returns-else-kept
 unfolding deactivate_by
 returns-else-kept c =
-    let e = c in
-    rw (c.ended.ensures, le-ltb _ _ e.if-kind-gt-TO_DISCOVERY.false, sym e.sleep_rejected-kept.ensures ∙ c.if-kept.false)
+    rw (c.ended.ensures, le-ltb _ _ c.if-kind-gt-TO_DISCOVERY.false, sym c.sleep_rejected-kept.ensures ∙ c.if-kept.false)

@@ -33,22 +33,18 @@ loop-tries-init c = rw c.after-id.ensures
 
 pub returns-then-not-open_at : goal.returns-then-not-open_at
 returns-then-not-open_at c =
-    let l = c in
-    let a = l.args in
+    let a = c.args in
     let free = sym c.open_at.ensures ∙ c.if-not-open_at.true in
-    sym (seek_free (open_at a.conns) _ _ c.loop-tries-test.true free) ∙ l.loop-tries.invariant
+    sym (seek_free (open_at a.conns) _ _ c.loop-tries-test.true free) ∙ c.loop-tries.invariant
 
 pub loop-tries-preserved : goal.loop-tries-preserved
 loop-tries-preserved c =
-    let o = c in
-    let l = o in
-    let a = l.args in
-    let passed = sym o.open_at.ensures ∙ c.if-not-open_at.false in
-    rw c.after-id-in-loop-tries.ensures (sym (seek_open (open_at a.conns) _ _ o.loop-tries-test.true passed) ∙ l.loop-tries.invariant)
+    let a = c.args in
+    let passed = sym c.open_at.ensures ∙ c.if-not-open_at.false in
+    rw c.after-id-in-loop-tries.ensures (sym (seek_open (open_at a.conns) _ _ c.loop-tries-test.true passed) ∙ c.loop-tries.invariant)
 
 pub returns : goal.returns
 returns c =
-    let l = c in
-    let a = l.args in
-    let spent : l.loop-tries.tries ≡ 0 = omega arith in
-    sym (seek_spent (open_at a.conns) _ _ spent) ∙ l.loop-tries.invariant
+    let a = c.args in
+    let spent : c.loop-tries.tries ≡ 0 = omega arith in
+    sym (seek_spent (open_at a.conns) _ _ spent) ∙ c.loop-tries.invariant

@@ -5,11 +5,9 @@ use Rattle.nfcc.proofs.controller.set_by.Goals as goal
 pub returns-then-idle-known : goal.returns-then-idle-known
 unfolding set_by
 returns-then-idle-known c =
-    let k = c in
-    rw (← k.octet_at-n.ensures, ← k.names_known-known.ensures, ← k.is_idle-idle.ensures, c.if-idle-known.true)
+    rw (← c.octet_at-n.ensures, ← c.names_known-known.ensures, ← c.is_idle-idle.ensures, c.if-idle-known.true)
 
 pub returns : goal.returns
 unfolding set_by
 returns c =
-    let k = c in
-    rw (← k.octet_at-n.ensures, ← k.names_known-known.ensures, ← k.is_idle-idle.ensures, c.if-idle-known.false)
+    rw (← c.octet_at-n.ensures, ← c.names_known-known.ensures, ← c.is_idle-idle.ensures, c.if-idle-known.false)

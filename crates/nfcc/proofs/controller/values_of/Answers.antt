@@ -18,13 +18,12 @@ returns-in-Discover c = rw (c.discover_by.ensures, c.in-Discover.is)
 
 pub returns-in-Select : goal.returns-in-Select
 returns-in-Select c =
-    let s = c in
     rw (
       c.select_by.ensures,
-      s.in-Select.is,
+      c.in-Select.is,
       c.octet_at-interface.ensures,
       c.octet_at-protocol.ensures,
-      s.octet_at-first.ensures,
+      c.octet_at-first.ensures,
     )
 
 pub returns-in-Deactivate : goal.returns-in-Deactivate

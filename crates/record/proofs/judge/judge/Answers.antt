@@ -9,11 +9,9 @@ use Rattle.record.proofs.judge.judge.Goals as goal
 
 pub parameters_ok-values-requires : goal.parameters_ok-values-requires
 parameters_ok-values-requires c =
-    let start = c in
-    ap length c.values_of.ensures ∙ length_config start.args.area.now start.requires.0
+    ap length c.values_of.ensures ∙ length_config c.args.area.now c.requires.0
 
 pub returns : goal.returns
 unfolding judge_of record_octets cut
 returns c =
-    let start = c in
-    rw (c.parameters_ok-values.ensures, c.values_of.ensures, c.record_ok-ok.ensures, c.tags_ok-known.ensures, start.requires.1)
+    rw (c.parameters_ok-values.ensures, c.values_of.ensures, c.record_ok-ok.ensures, c.tags_ok-known.ensures, c.requires.1)

@@ -4,12 +4,5 @@ use Rattle.record.proofs.write.store_controller.Goals as goal
 
 pub returns : goal.returns
 returns c =
-    let third = c in
-    let second = third in
-    let first = second in
-    let pairs = first in
-    let state = pairs in
-    let phase = state in
-    let start = phase in
-    rw (third.put-3.ensures, second.put-2.ensures, first.put.ensures, pairs.pairs_octets-pairs.ensures, state.rf_octets-state.ensures, phase.phase_octet.ensures)
-    (controller_stored start.args.area.now start.args.at start.args.k)
+    rw (c.put-3.ensures, c.put-2.ensures, c.put.ensures, c.pairs_octets-pairs.ensures, c.rf_octets-state.ensures, c.phase_octet.ensures)
+    (controller_stored c.args.area.now c.args.at c.args.k)

@@ -4,12 +4,5 @@ use Rattle.record.proofs.write.store_front.Goals as goal
 
 pub returns : goal.returns
 returns c =
-    let third = c in
-    let second = third in
-    let first = second in
-    let run = first in
-    let host = run in
-    let profile = host in
-    let start = profile in
-    rw (third.put-3.ensures, second.put-2.ensures, first.put.ensures, run.run_octets-hearing.ensures, host.host_octets-host.ensures, profile.profile_octets-profile.ensures)
-    (front_stored start.args.area.now start.args.at start.args.e)
+    rw (c.put-3.ensures, c.put-2.ensures, c.put.ensures, c.run_octets-hearing.ensures, c.host_octets-host.ensures, c.profile_octets-profile.ensures)
+    (front_stored c.args.area.now c.args.at c.args.e)

@@ -13,11 +13,10 @@ loop-i-init c = (omega arith, refl)
 pub loop-i-preserved : goal.loop-i-preserved
 unfolding listed_in
 loop-i-preserved c =
-    let l = c in
-    let a = l.args in
-    let i = l.loop-i.i in (
+    let a = c.args in
+    let i = c.loop-i.i in (
       omega arith,
-      rw (add-one i, l.loop-i.invariant.1, c.same_pair.ensures),
+      rw (add-one i, c.loop-i.invariant.1, c.same_pair.ensures),
     )
 
 pub returns : goal.returns

@@ -7,21 +7,18 @@ use Rattle.state.proofs.runs.join.Goals as goal
 
 pub overflow_add-result : goal.overflow_add-result
 overflow_add-result c =
-    let f = c in
-    let a = f.args in
-    omega (arith, within_room a.limit a.p a.n (sym f.fits.ensures ∙ c.if-fits.true), f.ranges, f.well_formed)
+    let a = c.args in
+    omega (arith, within_room a.limit a.p a.n (sym c.fits.ensures ∙ c.if-fits.true), c.ranges, c.well_formed)
 
 pub returns-then-more : goal.returns-then-more
 unfolding joined_of
 returns-then-more c =
-    let f = c in
-    rw (sym f.fits.ensures ∙ c.if-fits.true, c.if-more.true)
+    rw (sym c.fits.ensures ∙ c.if-fits.true, c.if-more.true)
 
 pub returns-else-more : goal.returns-else-more
 unfolding joined_of
 returns-else-more c =
-    let f = c in
-    rw (sym f.fits.ensures ∙ c.if-fits.true, c.if-more.false)
+    rw (sym c.fits.ensures ∙ c.if-fits.true, c.if-more.false)
 
 pub returns-else-fits : goal.returns-else-fits
 unfolding joined_of

@@ -11,8 +11,7 @@ returns-in_default c =
 
 pub returns : goal.returns
 returns c =
-    let g = c in
     let s = c.args.slot.now in
-    let h = g.in-Packet.h in
-    let n = g.in-Packet.field-1 in
-    rw (meaning_packet s h n (sym g.read-got.ensures ∙ g.in-Packet.is)) (data_meant _ h _)
+    let h = c.in-Packet.h in
+    let n = c.in-Packet.field-1 in
+    rw (meaning_packet s h n (sym c.read-got.ensures ∙ c.in-Packet.is)) (data_meant _ h _)

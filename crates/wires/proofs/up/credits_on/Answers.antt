@@ -11,17 +11,15 @@ returns-in_default c =
 
 pub returns-then-h-eq-DATA : goal.returns-then-h-eq-DATA
 returns-then-h-eq-DATA c =
-    let g = c in
-    let s = g.args.slot.now in
-    let h = g.in-Packet.h in
-    let n = g.in-Packet.n in
-    c.carried.ensures ∙ counted_data _ s h n (sym g.read-got.ensures ∙ g.in-Packet.is) c.if-h-eq-DATA.true
+    let s = c.args.slot.now in
+    let h = c.in-Packet.h in
+    let n = c.in-Packet.n in
+    c.carried.ensures ∙ counted_data _ s h n (sym c.read-got.ensures ∙ c.in-Packet.is) c.if-h-eq-DATA.true
 
 pub returns : goal.returns
 returns c =
-    let g = c in
-    let a = g.args in
-    let h = g.in-Packet.h in
-    let n = g.in-Packet.n in
+    let a = c.args in
+    let h = c.in-Packet.h in
+    let n = c.in-Packet.n in
     c.inside_credits.ensures ∙ (λ i. credits_inside a.conn (c.payload-m.ensures i) (c.inside_of-x.ensures i))
-    ∙ counted_control _ a.slot.now h n (sym g.read-got.ensures ∙ g.in-Packet.is) c.if-h-eq-DATA.false
+    ∙ counted_control _ a.slot.now h n (sym c.read-got.ensures ∙ c.in-Packet.is) c.if-h-eq-DATA.false

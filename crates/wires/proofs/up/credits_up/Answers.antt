@@ -18,7 +18,6 @@ loop-i-preserved c =
 
 pub returns : goal.returns
 returns c =
-    let l = c in
-    let b = l.args in
-    let all : l.loop-i.i ≡ b.count = omega arith in
-    l.loop-i.invariant.2 ∙ ap (λ (k : ℕ). counted_up b.conn (packets_from b.base 16 b.area.now b.head k)) all
+    let b = c.args in
+    let all : c.loop-i.i ≡ b.count = omega arith in
+    c.loop-i.invariant.2 ∙ ap (λ (k : ℕ). counted_up b.conn (packets_from b.base 16 b.area.now b.head k)) all

@@ -6,8 +6,7 @@ use Rattle.wires.proofs.up.notice_credits.Goals as goal
 
 pub overflow_cast-result : goal.overflow_cast-result
 overflow_cast-result c =
-    let s = c in
-    omega (arith, c.credits_for.ensures, notice_few s.args.m.now s.args.conn (sym c.credits_written-ours.ensures ∙ c.if-ours.true))
+    omega (arith, c.credits_for.ensures, notice_few c.args.m.now c.args.conn (sym c.credits_written-ours.ensures ∙ c.if-ours.true))
 
 pub returns-then-ours : goal.returns-then-ours
 returns-then-ours c = rw (sym c.credits_written-ours.ensures ∙ c.if-ours.true) c.credits_for.ensures
