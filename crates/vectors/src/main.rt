@@ -9,31 +9,32 @@ ghost use Rattle.std.specs.Prelude.{◌≤◌};
 
 use ascii::input::{Taken, take};
 use octets::window;
+use std::io::Read;
 
 // One character more than a line may have: a line that fills its buffer is too long, however long it is.
 const ROOM: usize = 601;
 
 // Writes the answer to a line. A line has at most 600 characters, so that the longest answer has under 1,200: the name, the
 // payload, the packet again and the names of the fields.
-fn reply(line: &[u8]) {
+fn reply(rt: &impl Print, line: &[u8]) {
     let mut out = [0u8; 2048];
     let n = line::answer(line, &mut out);
-    io::write_all(1, window(&out, 0, n));
+    let _ = rt.write_all(window(&out, 0, n));
 }
 
 // Answers the line where what was taken made it whole: the characters that are held of the next.
-fn reply_whole(line: &[u8], t: Taken) -> usize
+fn reply_whole(rt: &impl Print, line: &[u8], t: Taken) -> usize
     ensures { result ≤ t.held }
 {
     if !t.whole {
         return t.held;
     }
-    reply(window(line, 0, t.held));
+    reply(rt, window(line, 0, t.held));
     0
 }
 
 // Answers the lines that end in a piece of the input.
-fn reply_piece(line: &mut [u8; ROOM], held: usize, piece: &[u8]) -> usize
+fn reply_piece(rt: &impl Print, line: &mut [u8; ROOM], held: usize, piece: &[u8]) -> usize
     requires { held ≤ 601 }
     ensures { result ≤ 601 }
 {
@@ -41,34 +42,32 @@ fn reply_piece(line: &mut [u8; ROOM], held: usize, piece: &[u8]) -> usize
     let mut at = 0;
     while at < piece.len() {
         let t = take(line, n, piece, at);
-        n = reply_whole(line, t);
+        n = reply_whole(rt, line, t);
         at = t.next;
     }
     n
 }
 
 // At the end of the input a line without a line feed is answered too.
-fn reply_last(line: &[u8; ROOM], held: usize) {
+fn reply_last(rt: &impl Print, line: &[u8; ROOM], held: usize) {
     if 0 < held {
-        reply(window(line, 0, held));
+        reply(rt, window(line, 0, held));
     }
 }
 
-// A proved loop has to end, and nothing says that the input does: the loop counts its turns down, from a number that no run
-// uses up.
-fn main() {
-    let mut chunk = io::buffer();
+// A proved loop has to end, and nothing says that the input does: the loop has more turns than any run uses up. What cannot be
+// read is the end of the input.
+fn main(rt: HostRuntime) {
+    let mut input = rt.stdin();
+    let mut chunk = [0u8; 4096];
     let mut line = [0u8; ROOM];
     let mut held = 0;
-    let mut turns = u64::MAX;
-    while 0 < turns {
-        let got = libc::read(0, &mut chunk);
-        let n = io::count(got, &chunk);
+    for _ in 0..u64::MAX {
+        let n = input.read(&mut chunk).unwrap_or(0);
         if n == 0 {
-            reply_last(&line, held);
+            reply_last(&rt, &line, held);
             return;
         }
-        held = reply_piece(&mut line, held, &chunk[..n]);
-        turns -= 1;
+        held = reply_piece(&rt, &mut line, held, &chunk[..n]);
     }
 }

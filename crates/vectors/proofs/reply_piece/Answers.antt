@@ -1,0 +1,11 @@
+-- `vectors::reply_piece` is safe: what a line has by now, and what is taken, stay within their bounds.
+use native.Mathlib.Omega.{arith}
+use Rattle.ascii.proofs.Taking.{takes_on}
+use Rattle.ascii.proofs.Writing.{wrote_length}
+use Rattle.vectors.proofs.reply_piece.Goals as goal
+
+pub loop-at-preserved : goal.loop-at-preserved
+loop-at-preserved g c =
+    let on = takes_on _ c.args.piece.now _ _ c.loop-at.at _ c.take-t.ensures c.loop-at-test.true in
+    let held = c.take-t.ensures.wrote in
+    (omega (arith, c.reply_whole-n.ensures, held.room, wrote_length held), on.1)
