@@ -1,6 +1,6 @@
 // The paper sheet as a program: lines of calls on standard input, a line of answer for each on standard output, written as
 // soon as the line feed is read. It starts with a fresh bench. What it cannot read or write it says on standard error, and
-// ends: a program has no exit status, so `play` gives one where anything but the note on lines was said.
+// ends: its exit status says nothing of that, so `play` gives one where anything but the note on lines was said.
 #![tactic(auto)]
 
 ghost use Rattle.std.specs.Prelude.{◌≤◌};
@@ -10,6 +10,7 @@ use ascii::write::put;
 use bench::exports::nci_fresh;
 use octets::window;
 use sheet::{LINE, answer_line};
+use std::io::Read;
 
 // One character more than a line may have: a line that fills its buffer is too long, however long it is.
 const ROOM: usize = 2101;
@@ -24,35 +25,33 @@ struct Playing {
 }
 
 // Writes the answer to a line, and says whether it could.
-fn answer(area: &mut [u8], out: &mut [u8], line: &[u8]) -> bool {
+fn answer(rt: &(impl Print + Eprint), area: &mut [u8], out: &mut [u8], line: &[u8]) -> bool {
     let mut text = [0u8; LINE];
     let n = answer_line(area, out, line, &mut text);
     let end = put(&mut text, n, b"\n");
-    let written = io::write_all(1, window(&text, 0, end));
-    if !written {
-        os::fail(b"paper: an answer is lost");
+    match rt.write_all(window(&text, 0, end)) {
+        Ok(()) => true,
+        Err(e) => {
+            let _ = eprintln!(rt; "paper: an answer is lost: {e}");
+            false
+        }
     }
-    written
 }
 
 // Says of a line that it ends in CRLF, or begins with a BOM, as an editor leaves them and no candidate types them; and
 // whether it said so.
-fn note_foreign(line: &[u8]) -> bool {
+fn note_foreign(rt: &impl Eprint, line: &[u8]) -> bool {
     let n = line.len();
     if n == 0 {
         return false;
     }
     if line[n - 1] == b'\r' {
-        io::write_all(
-            2,
-            b"paper: note: lines end in CRLF; README.md says how to convert them\n",
-        );
+        let _ = eprintln!(rt; "paper: note: lines end in CRLF; README.md says how to convert them");
         return true;
     }
     if 2 < n && line[0] == 0xEF && line[1] == 0xBB && line[2] == 0xBF {
-        io::write_all(
-            2,
-            b"paper: note: the paper has a BOM; README.md says how to take it off\n",
+        let _ = eprintln!(rt;
+            "paper: note: the paper has a BOM; README.md says how to take it off"
         );
         return true;
     }
@@ -60,7 +59,14 @@ fn note_foreign(line: &[u8]) -> bool {
 }
 
 // Answers the line where what was taken made it whole. A foreign one is a bad line as any other; the first is noted.
-fn answer_whole(area: &mut [u8], out: &mut [u8], line: &[u8], t: Taken, noted: bool) -> Playing
+fn answer_whole(
+    rt: &(impl Print + Eprint),
+    area: &mut [u8],
+    out: &mut [u8],
+    line: &[u8],
+    t: Taken,
+    noted: bool,
+) -> Playing
     ensures { result.held ≤ t.held }
 {
     if !t.whole {
@@ -70,8 +76,8 @@ fn answer_whole(area: &mut [u8], out: &mut [u8], line: &[u8], t: Taken, noted: b
             noted,
         };
     }
-    let open = answer(area, out, window(line, 0, t.held));
-    let noted = noted || note_foreign(window(line, 0, t.held));
+    let open = answer(rt, area, out, window(line, 0, t.held));
+    let noted = noted || note_foreign(rt, window(line, 0, t.held));
     Playing {
         held: 0,
         open,
@@ -81,6 +87,7 @@ fn answer_whole(area: &mut [u8], out: &mut [u8], line: &[u8], t: Taken, noted: b
 
 // Answers the lines that end in a piece of the input.
 fn play_piece(
+    rt: &(impl Print + Eprint),
     area: &mut [u8],
     out: &mut [u8],
     line: &mut [u8; ROOM],
@@ -99,7 +106,7 @@ fn play_piece(
     let mut at = 0;
     while at < piece.len() {
         let t = take(line, s.held, piece, at);
-        s = answer_whole(area, out, line, t, s.noted);
+        s = answer_whole(rt, area, out, line, t, s.noted);
         if !s.open {
             return s;
         }
@@ -110,6 +117,8 @@ fn play_piece(
 
 // Reads what there is, and answers its lines. At the end of the input a last line without a line feed is answered too.
 fn play_more(
+    rt: &(impl Print + Eprint),
+    input: &mut impl Read,
     area: &mut [u8],
     out: &mut [u8],
     line: &mut [u8; ROOM],
@@ -119,17 +128,16 @@ fn play_more(
     requires { held ≤ 2101 }
     ensures { result.held ≤ 2101 }
 {
-    let mut chunk = io::buffer();
-    let got = libc::read(0, &mut chunk);
-    let n = io::count(got, &chunk);
-    if 0 < n {
-        return play_piece(area, out, line, held, noted, &chunk[..n]);
-    }
-    if got < 0 {
-        os::fail(b"paper: the input cannot be read");
+    let mut chunk = [0u8; 4096];
+    match input.read(&mut chunk) {
+        Ok(0) => {}
+        Ok(n) => return play_piece(rt, area, out, line, held, noted, &chunk[..n]),
+        Err(e) => {
+            let _ = eprintln!(rt; "paper: the input cannot be read: {e}");
+        }
     }
     if 0 < held {
-        answer(area, out, window(line, 0, held));
+        answer(rt, area, out, window(line, 0, held));
     }
     Playing {
         held: 0,
@@ -138,9 +146,9 @@ fn play_more(
     }
 }
 
-// A proved loop has to end, and nothing says that the input does: the loop counts its turns down, from a number that no run
-// uses up.
-fn main() {
+// A proved loop has to end, and nothing says that the input does: the loop has more turns than any run uses up.
+fn main(rt: HostRuntime) {
+    let mut input = rt.stdin();
     let mut area = [0u8; 36864];
     let mut out = [0u8; 1024];
     nci_fresh(&mut area, &mut out, &[0x20, 4, 2, 4, 1]);
@@ -150,12 +158,12 @@ fn main() {
         open: true,
         noted: false,
     };
-    let mut turns = u64::MAX;
-    while 0 < turns {
-        s = play_more(&mut area, &mut out, &mut line, s.held, s.noted);
+    for _ in 0..u64::MAX {
+        s = play_more(
+            &rt, &mut input, &mut area, &mut out, &mut line, s.held, s.noted,
+        );
         if !s.open {
             return;
         }
-        turns -= 1;
     }
 }
