@@ -1,4 +1,5 @@
-// The calls as C makes them. Each takes any area, any buffer and any arguments, and answers its effect or one number.
+// The calls. Each takes any area, any buffer and any arguments, and answers its effect or one number. Crate bench_c hands them to
+// C, each under its own name.
 ghost use Rattle.std.specs.Prelude.{◌≡◌};
 ghost use Rattle.calls.specs.Outcome.{outcome};
 ghost use Rattle.calls.specs.calls.Fresh.{fresh_call};
@@ -28,8 +29,7 @@ use call_run::run;
 use call_up::up;
 
 // A new bench with a profile of five octets or eleven.
-#[unsafe(no_mangle)]
-pub extern "C" fn nci_fresh(area: &mut [u8], out: &mut [u8], profile: &[u8]) -> u64
+pub fn nci_fresh(area: &mut [u8], out: &mut [u8], profile: &[u8]) -> u64
     ensures { outcome result area.new out.new ≡ fresh_call area.old out.old profile.now }
 {
     let n = fresh::refusal(area.len(), out.len(), profile);
@@ -40,8 +40,7 @@ pub extern "C" fn nci_fresh(area: &mut [u8], out: &mut [u8], profile: &[u8]) -> 
 }
 
 // Both ends cold, both wires empty, the profile kept.
-#[unsafe(no_mangle)]
-pub extern "C" fn nci_power(area: &mut [u8], out: &mut [u8]) -> u64
+pub fn nci_power(area: &mut [u8], out: &mut [u8]) -> u64
     ensures { outcome result area.new out.new ≡ power_call area.old out.old }
 {
     let l = enter(area, out.len());
@@ -54,14 +53,7 @@ pub extern "C" fn nci_power(area: &mut [u8], out: &mut [u8]) -> u64
 }
 
 // All segments of a command go on the down wire.
-#[unsafe(no_mangle)]
-pub extern "C" fn nci_command(
-    area: &mut [u8],
-    out: &mut [u8],
-    gid: u8,
-    oid: u8,
-    payload: &[u8],
-) -> u64
+pub fn nci_command(area: &mut [u8], out: &mut [u8], gid: u8, oid: u8, payload: &[u8]) -> u64
     ensures { outcome result area.new out.new ≡ command_call area.old out.old gid oid payload.now }
 {
     let l = enter(area, out.len());
@@ -78,8 +70,7 @@ pub extern "C" fn nci_command(
 }
 
 // A message is put in hand.
-#[unsafe(no_mangle)]
-pub extern "C" fn nci_send(area: &mut [u8], out: &mut [u8], conn: u8, message: &[u8]) -> u64
+pub fn nci_send(area: &mut [u8], out: &mut [u8], conn: u8, message: &[u8]) -> u64
     ensures { outcome result area.new out.new ≡ send_call area.old out.old conn message.now }
 {
     let l = enter(area, out.len());
@@ -96,8 +87,7 @@ pub extern "C" fn nci_send(area: &mut [u8], out: &mut [u8], conn: u8, message: &
 }
 
 // The next segment of the message in hand of a connection goes down.
-#[unsafe(no_mangle)]
-pub extern "C" fn nci_push(area: &mut [u8], out: &mut [u8], conn: u8) -> u64
+pub fn nci_push(area: &mut [u8], out: &mut [u8], conn: u8) -> u64
     ensures { outcome result area.new out.new ≡ push_call area.old out.old conn }
 {
     let l = enter(area, out.len());
@@ -114,8 +104,7 @@ pub extern "C" fn nci_push(area: &mut [u8], out: &mut [u8], conn: u8) -> u64
 }
 
 // The controller takes the first packet of the down wire.
-#[unsafe(no_mangle)]
-pub extern "C" fn nci_down(area: &mut [u8], out: &mut [u8]) -> u64
+pub fn nci_down(area: &mut [u8], out: &mut [u8]) -> u64
     ensures { outcome result area.new out.new ≡ down_call area.old out.old }
 {
     let l = enter(area, out.len());
@@ -132,8 +121,7 @@ pub extern "C" fn nci_down(area: &mut [u8], out: &mut [u8]) -> u64
 }
 
 // The controller takes the oldest stored packet of a connection into reassembly.
-#[unsafe(no_mangle)]
-pub extern "C" fn nci_consume(area: &mut [u8], out: &mut [u8], conn: u8) -> u64
+pub fn nci_consume(area: &mut [u8], out: &mut [u8], conn: u8) -> u64
     ensures { outcome result area.new out.new ≡ consume_call area.old out.old conn }
 {
     let l = enter(area, out.len());
@@ -150,8 +138,7 @@ pub extern "C" fn nci_consume(area: &mut [u8], out: &mut [u8], conn: u8) -> u64
 }
 
 // One notice of all that is owed goes up.
-#[unsafe(no_mangle)]
-pub extern "C" fn nci_credit(area: &mut [u8], out: &mut [u8]) -> u64
+pub fn nci_credit(area: &mut [u8], out: &mut [u8]) -> u64
     ensures { outcome result area.new out.new ≡ credit_call area.old out.old }
 {
     let l = enter(area, out.len());
@@ -168,8 +155,7 @@ pub extern "C" fn nci_credit(area: &mut [u8], out: &mut [u8]) -> u64
 }
 
 // The next segment of the endpoint's message goes up on connection 0.
-#[unsafe(no_mangle)]
-pub extern "C" fn nci_reply(area: &mut [u8], out: &mut [u8]) -> u64
+pub fn nci_reply(area: &mut [u8], out: &mut [u8]) -> u64
     ensures { outcome result area.new out.new ≡ reply_call area.old out.old }
 {
     let l = enter(area, out.len());
@@ -186,8 +172,7 @@ pub extern "C" fn nci_reply(area: &mut [u8], out: &mut [u8]) -> u64
 }
 
 // The host takes the first packet of the up wire.
-#[unsafe(no_mangle)]
-pub extern "C" fn nci_up(area: &mut [u8], out: &mut [u8]) -> u64
+pub fn nci_up(area: &mut [u8], out: &mut [u8]) -> u64
     ensures { outcome result area.new out.new ≡ up_call area.old out.old }
 {
     let l = enter(area, out.len());
@@ -204,8 +189,7 @@ pub extern "C" fn nci_up(area: &mut [u8], out: &mut [u8]) -> u64
 }
 
 // An event of the RF field meets the controller.
-#[unsafe(no_mangle)]
-pub extern "C" fn nci_air(area: &mut [u8], out: &mut [u8], event: &[u8]) -> u64
+pub fn nci_air(area: &mut [u8], out: &mut [u8], event: &[u8]) -> u64
     ensures { outcome result area.new out.new ≡ air_call area.old out.old event.now }
 {
     let l = enter(area, out.len());
@@ -222,8 +206,7 @@ pub extern "C" fn nci_air(area: &mut [u8], out: &mut [u8], event: &[u8]) -> u64
 }
 
 // Five numbers of a connection.
-#[unsafe(no_mangle)]
-pub extern "C" fn nci_report(area: &mut [u8], out: &mut [u8], conn: u8) -> u64
+pub fn nci_report(area: &mut [u8], out: &mut [u8], conn: u8) -> u64
     ensures { outcome result area.new out.new ≡ report_call area.old out.old conn }
 {
     let l = enter(area, out.len());
@@ -240,8 +223,7 @@ pub extern "C" fn nci_report(area: &mut [u8], out: &mut [u8], conn: u8) -> u64
 }
 
 // Run to rest: moves until none is left, or one has handed a message out. It is none of the twelve calls, but a list of them.
-#[unsafe(no_mangle)]
-pub extern "C" fn nci_run(area: &mut [u8], out: &mut [u8]) -> u64
+pub fn nci_run(area: &mut [u8], out: &mut [u8]) -> u64
     ensures { outcome result area.new out.new ≡ run_call area.old out.old }
 {
     let l = enter(area, out.len());
@@ -254,8 +236,7 @@ pub extern "C" fn nci_run(area: &mut [u8], out: &mut [u8]) -> u64
 
 // The packet of a wire (0 the down wire, 1 the up wire) after which so many others were put, for front ends that show packets. It
 // is none of the twelve calls.
-#[unsafe(no_mangle)]
-pub extern "C" fn nci_packet(area: &[u8], out: &mut [u8], wire: u8, back: u8) -> u64
+pub fn nci_packet(area: &[u8], out: &mut [u8], wire: u8, back: u8) -> u64
     ensures { outcome result area.now out.new ≡ packet_call area.now out.old wire back }
 {
     let l = enter(area, out.len());
@@ -273,8 +254,7 @@ pub extern "C" fn nci_packet(area: &[u8], out: &mut [u8], wire: u8, back: u8) ->
 
 // What is going on: the controller's phase, the RF state, the unanswered command, packets on the wires, messages in hand and open
 // connections, for front ends that say it. It is none of the twelve calls.
-#[unsafe(no_mangle)]
-pub extern "C" fn nci_state(area: &[u8], out: &mut [u8]) -> u64
+pub fn nci_state(area: &[u8], out: &mut [u8]) -> u64
     ensures { outcome result area.now out.new ≡ state_call area.now out.old }
 {
     let l = enter(area, out.len());
@@ -288,8 +268,7 @@ pub extern "C" fn nci_state(area: &[u8], out: &mut [u8]) -> u64
 
 // Octets that are read as a packet going up, and nothing else, for front ends that show reserved bits. It is none of the twelve
 // calls.
-#[unsafe(no_mangle)]
-pub extern "C" fn nci_read(octets: &[u8]) -> u64
+pub fn nci_read(octets: &[u8]) -> u64
     ensures { result ≡ read_call octets.now }
 {
     read::read(octets)
