@@ -41,27 +41,29 @@ shown() {
 
 # ---- proofs and builds
 
-# crates_of NAME: how many crates a proof of this one goes through, itself among them
+# crates_of NAME: the crates that a proof of this one goes through, each behind those that it stands on, itself the last
 crates_of() {
     awk -v name="$1" '
         { sub(/#.*/, ""); at = index($0, ":") }
-        at { crate = substr($0, 1, at - 1); deps[crate] = substr($0, at + 1) }
+        at { split($0, words, /[ :]+/); deps[words[1]] = substr($0, at + 1) }
         function visit(crate, words, n, i) {
             if (seen[crate]++ || !(crate in deps)) return
-            count++
             n = split(deps[crate], words, " ")
             for (i = 1; i <= n; i++) visit(words[i])
+            print crate
         }
-        END { visit(name); print count }' "$root/crates.txt"
+        END { visit(name) }' "$root/crates.txt"
 }
 
-# is_built CRATE FILE: whether the file is there, and nothing of the crates has changed since its build began
+# is_built CRATE FILE: whether the file is there, and nothing of the crates has changed since its build began. What rt makes
+# stands in the folder out of each crate, and is no change.
 is_built() {
     local since=$root/target/since/$1
-    [ -e "$root/$2" ] && [ -e "$since" ] && [ -z "$(find "$root/crates" "$root/crates.txt" -newer "$since" -print -quit)" ]
+    [ -e "$root/$2" ] && [ -e "$since" ] && [ -z "$(cd "$root" && find crates crates.txt \
+        -name out -prune -o \( -type f -o -path 'crates/*/*' \) -newer "$since" -print -quit)" ]
 }
 
-# locked COMMAND..: one build at a time. What is locked is a file that stays, since a whole run of the tests removes target/.
+# locked COMMAND..: one build at a time. What is locked is a file that stays.
 locked() {
     need flock
     (
@@ -73,40 +75,53 @@ locked() {
     ) 9<"$root/crates.txt"
 }
 
-# told COUNT: writes what rt says to the log, and a line for each crate as it is proved
+# told CRATE: writes what rt says to the log, and a line for the crate where it is proved
 told() {
-    local line n=0
+    local line began=$SECONDS
     while IFS= read -r line; do
         printf '%s\n' "$line" >>"$build_log"
-        if [[ $line =~ ^rt:\ ([A-Za-z0-9_]+)\ proved\ \((.*)\)$ ]]; then
-            n=$((n + 1))
-            [[ ${BASH_REMATCH[2]} = unchanged* ]] || printf '%d of %d: %s, %s\n' "$n" "$1" "${BASH_REMATCH[1]}" "${BASH_REMATCH[2]}" >&2
-        elif [[ $line = "rt: "*"NOT PROVED"* || $line = "rt: "*FAILED* ]]; then
-            printf '%s\n' "$line" >&2
+        [[ $line != "logic=proved "* ]] || printf '%s, %d s\n' "$1" $((SECONDS - began)) >&2
+    done
+}
+
+# prove_all CRATE VERB: the crates that this one stands on, one behind the other, each as a library; then itself, as rt VERB
+# builds it. What is proved already takes no time, and has no line.
+prove_all() {
+    local crate=$1 verb name crates n=0
+    mapfile -t crates < <(crates_of "$crate")
+    for name in "${crates[@]}"; do
+        n=$((n + 1))
+        verb=lib
+        [ "$name" != "$crate" ] || verb=$2
+        (cd "$root/crates/$name" && rt "$verb") </dev/null 2>&1 | told "$n of ${#crates[@]}: $name"
+        if [ "${PIPESTATUS[0]}" -ne 0 ]; then
+            printf '%d of %d: %s NOT PROVED\n' "$n" "${#crates[@]}" "$name" >&2
+            return 1
         fi
     done
 }
 
-# prove_and_build CRATE FILE: the crate and all that it stands on; of a library the archive too
+# taken CRATE FILE: what rt made of a program or a static library, at its place below target/
+taken() {
+    local made=$root/crates/$1/out/$1
+    [[ $2 != *.a ]] || made=$root/crates/$1/out/lib$1.a
+    mkdir -p "$(dirname "$root/$2")" && install -m 755 "$made" "$root/$2.new" && mv "$root/$2.new" "$root/$2"
+}
+
+# prove_and_build CRATE FILE: the crate and all that it stands on; it is a program, or a static library
 prove_and_build() {
-    local crate=$1 file=$2 started=$SECONDS count status
+    local crate=$1 file=$2 started=$SECONDS verb=run
     # another build may have ended while this one waited
     if is_built "$crate" "$file"; then
         return 0
     fi
-    count=$(crates_of "$crate")
     mkdir -p "$root/target/since" || die "cannot write below $(shown "$root/target")"
     touch "$root/target/since/$crate.new"
     : >"$build_log"
-    say "proves and builds first what is not proved yet: $count crates, about seven minutes on two cores if it is all of them"
-    (cd "$root" && rt check "$crate") </dev/null 2>&1 | told "$count"
-    status=${PIPESTATUS[0]}
-    if [ "$status" -eq 0 ] && [[ $file = *.a ]]; then
-        say "makes the library, for which $crate is proved once more"
-        (cd "$root" && rt staticlib "$crate") </dev/null >>"$build_log" 2>&1
-        status=$?
-    fi
-    if [ "$status" -ne 0 ] || [ ! -e "$root/$file" ]; then
+    say "proves and builds first what is not proved yet: $(crates_of "$crate" | grep -c .) crates, about seven minutes on two cores if it is all of them"
+    # a program that is run without input ends at once
+    [[ $file != *.a ]] || verb=lib
+    if ! prove_all "$crate" "$verb" || ! taken "$crate" "$file"; then
         say "$crate is not built; the whole log is $(shown "$build_log")"
         return 1
     fi

@@ -1,6 +1,6 @@
 #!/usr/bin/env bash
-# Proves every crate from nothing, tries the wrong programs and runs each program on its stored input, by `rt ci`. The last
-# line is 'crates: N passed, M failed'; any failure makes the exit status non-zero.
+# Proves every crate, tries the wrong programs and runs each program on its stored input, by `rt ci`. The last line is
+# 'crates: N passed, M failed'; any failure makes the exit status non-zero.
 set -u
 . "$(dirname "$(readlink -f "$0")")/../scripts/common.sh" || exit 1
 cd "$root" || exit 1
@@ -19,18 +19,30 @@ fi
 # the programs are built now: play does not ask for them once more
 if [ "$status" -eq 0 ]; then
     mkdir -p target/since
-    touch -r "$began" target/since/paper target/since/vectors
+    for program in paper vectors; do
+        if taken "$program" "target/bin/$program"; then
+            touch -r "$began" "target/since/$program"
+        else
+            failed=$((failed + 1))
+        fi
+    done
 fi
 # a run that died has no count
 if [ "$failed" -eq 0 ] && { [ "$status" -ne 0 ] || [ "$passed" -eq 0 ]; }; then
     echo "rt ci: exit status $status"
     failed=1
 fi
-# a wrong program is to be refused by a proof; an edit that is no definition any more shows nothing
-unread=$(grep -c 'must-fail .*(first at specs/' "$log")
-if [ "$unread" -ne 0 ]; then
-    echo "must-fail edits: $unread stop at their own definition"
-    failed=$((failed + unread))
-fi
+# a wrong program is to be refused by a proof, and for what it means: one that is refused otherwise shows nothing, though rt ci
+# passes it
+void() {
+    if [ "$1" -ne 0 ]; then
+        echo "must-fail edits: $1 $2"
+        failed=$((failed + $1))
+    fi
+}
+bad=$(sed -n 's/^rt: ok; .*, \([0-9]*\) bad.*/\1/p' "$log")
+void "${bad:-0}" "cannot be applied or read"
+void "$(grep -c 'must-fail .*: refused, as it must be: \(note: \)\?\(\./\)\?specs/' "$log")" "stop at their own definition"
+void "$(grep -c 'must-fail .*: refused, as it must be (only because a proof file names' "$log")" "are refused for a missing name"
 echo "crates: $passed passed, $failed failed"
 [ "$failed" -eq 0 ]

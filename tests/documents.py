@@ -31,7 +31,7 @@ WRONG = "docs/WRONG-PROGRAMS.md"
 PROOFS = "docs/PROOFS.md"
 DOCUMENTS = {README, "examples/README.md", "second/README.md", "compare/README.md"}
 CLAIM = "crates/calls/specs/Demand.antt"
-SKIPPED = {".git", "target", "build", "__pycache__"}
+SKIPPED = {".git", "target", "build", "out", "__pycache__"}
 # crates of programs: their functions have no contracts of their own, other scripts compare what they print
 PROGRAMS = {"vectors", "paper"}
 # columns whose names are definitions, in the files that the section or the cell names

@@ -5,7 +5,7 @@
                         the statements of crates/opinions/proofs/Lists.antt with what is made here
     lists.py --write    writes the answers and the statements
 
-Each paper becomes the statement that the model gives the same answers; `rt check opinions` proves it by computing. A paper
+Each paper becomes the statement that the model gives the same answers; the proof of crate opinions computes it. A paper
 that has read in it does not: the model has no such call. Together they meet every call and every refusal, every number of
 credits inside a data packet, both lengths of a profile, every status of a set and of a get, what read tells, and presses of
 Run to rest that make no move, that hand a message out, and that drop a packet."""

@@ -12,10 +12,10 @@ TOLD = 5
 
 
 def built(name):
-    """A program that `rt check NAME` builds."""
+    """A proved program, which `./test` builds before the suites that run it."""
     path = ROOT / "target" / "bin" / name
     if not path.exists():
-        raise SystemExit(f"{path} is not there: rt check {name} builds it")
+        raise SystemExit(f"{path} is not there: ./test builds it")
     return path
 
 
@@ -96,7 +96,7 @@ def spaced(lines, count):
 
 
 def stored(crate, lines, line_out):
-    """The input and the output that stand in a program's crate, made from some lines: `rt check` runs the program on
+    """The input and the output that stand in a program's crate, made from some lines: `rt ci` runs the program on
     them."""
     folder = ROOT / "crates" / crate
     return {folder / "stdin": "\n".join(lines), folder / "stdout": "".join(line_out(line) + "\n" for line in lines)}

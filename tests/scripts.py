@@ -25,23 +25,40 @@ BAD = b"ev=bad ans=3\n"
 BOM = b"\xef\xbb\xbf"
 # what the scripts call beside the tools that they name when they are missing
 USED = "bash env basename dirname readlink find awk sed mkdir touch mv rm install mktemp chmod sh cat cp rmdir sleep ld as grep flock"
+# the calls that make a program and the archive
+MADE = ("run paper", "lib bench_c")
 RT = """#!/bin/sh
-mkdir rt-at-work || { echo "rt: two at once FAILED"; exit 1; }
-echo "$@" >>calls
+top=../..
+crate=${PWD##*/}
+mkdir $top/rt-at-work || { echo "rt: two at once"; exit 1; }
+echo "$1 $crate" >>$top/calls
 echo "a line of the prover"
-echo "rt: octets proved (unchanged since it was last proved)"
-echo "rt: state proved (25 s)"
-sleep "${RT_SECONDS:-0}"
-if [ -e broken ]; then
-    echo "rt: dh NOT PROVED (exit 1, 3 s)"
-    rmdir rt-at-work
-    exit 1
-fi
-mkdir -p target/bin target/staticlib
-[ "$1" = check ] && [ "$2" = paper ] && cp PAPER target/bin/paper
-[ "$1" = staticlib ] && cp ARCHIVE target/staticlib/libbench.a
-rmdir rt-at-work
+status=0
+case "$1 $crate" in
+"lib octets") sleep "${RT_SECONDS:-0}" ;;
+"lib state") echo "logic=proved functions=1" ;;
+"lib dh") [ ! -e $top/broken ] || { echo "logic=not-proved"; status=1; } ;;
+"run paper") cp PAPER out/paper ;;
+"lib bench_c") cp ARCHIVE out/libbench_c.a ;;
+esac
+rmdir $top/rt-at-work
+exit $status
 """
+
+
+def below(crate):
+    """The crates that a proof of this one goes through, each behind those that it stands on, itself the last."""
+    lines = re.findall(r"^(\w+)(?: staticlib)?:([^#\n]*)", (ROOT / "crates.txt").read_text(), re.M)
+    names = {name: words.split() for name, words in lines}
+
+    def visit(name, found):
+        if name in names and name not in found:
+            for word in names[name]:
+                visit(word, found)
+            found.append(name)
+        return found
+
+    return visit(crate, [])
 
 
 class Copy:
@@ -54,6 +71,8 @@ class Copy:
         for name in COPIED:
             source = ROOT / name
             (shutil.copytree if source.is_dir() else shutil.copy)(source, self.root / name)
+        for crate in [*below("paper"), *below("bench_c")]:
+            (self.root / "crates" / crate / "out").mkdir(parents=True, exist_ok=True)
         rt = self.tools / "rt"
         rt.write_text(RT.replace("PAPER", f"'{built('paper')}'").replace("ARCHIVE", f"'{ARCHIVE}'"))
         rt.chmod(0o755)
@@ -200,34 +219,24 @@ def check_at_once(suite, copy):
         told = [(*run.communicate(timeout=PATIENCE), run.returncode) for run in runs]
         name = " and ".join(scripts)
         suite.equal(f"{name} at once, statuses", [status for _, _, status in told], [0, 0])
-        suite.equal(f"{name} at once, once each", len(copy.calls()), len(set(copy.calls())))
+        made = [call for call in copy.calls() if call in MADE]
+        suite.equal(f"{name} at once, once each", len(made), len(set(made)))
         suite.equal(f"{name} at once, one waits", b"".join(said for _, said, _ in told).count(b"waits"), 1)
         for script, (out, _, _) in zip(scripts, told):
             if script == "play":
                 suite.equal(f"{name} at once, answers", out, ANSWERS)
 
 
-def below(crate):
-    """The crates that a proof of this one goes through, itself among them."""
-    lines = re.findall(r"^(\w+):([^#\n]*)", (ROOT / "crates.txt").read_text(), re.M)
-    names = {name: words.split() for name, words in lines}
-    found, left = set(), [crate]
-    while left:
-        name = left.pop()
-        if name in names and name not in found:
-            found.add(name)
-            left += names[name]
-    return found
-
-
 def check_progress(suite, copy):
     """A build says what it does and how long that takes, then a line a crate that it proves; a second run says nothing."""
-    for script, crate in (("play", "paper"), ("library", "bench"), ("front/build", "bench")):
+    for script, crate in (("play", "paper"), ("library", "bench_c"), ("front/build", "bench_c")):
         copy.forget()
-        count = len(below(crate))
+        crates = below(crate)
+        count = len(crates)
         said = copy.run(script).stderr.decode()
         suite.holds(f"{script}, a first build", f"{count} crates, about seven minutes on two cores" in said, said)
-        suite.holds(f"{script}, a line a crate", f"\n2 of {count}: state, 25 s\n" in said and "octets" not in said, said)
+        line = rf"^{crates.index('state') + 1} of {count}: state, \d+ s$"
+        suite.holds(f"{script}, a line a crate", re.search(line, said, re.M) and "octets" not in said, said)
         done = copy.run(script)
         suite.equal(f"{script}, built already", (done.stderr, done.returncode), (b"", 0))
         (copy.root / "crates" / "changed").touch()
@@ -243,7 +252,7 @@ def check_broken(suite, copy):
         suite.holds(f"{script}, a build that fails", failed_with(done, "whole log is target/build.log$"), f"{done}")
         far = copy.run(script, cwd=copy.elsewhere)
         suite.holds(f"{script}, from another folder", failed_with(far, r"whole log is /.*the\\ bench/target/build.log$"), f"{far}")
-        suite.holds(f"{script}, what fails", b"dh NOT PROVED" in done.stderr, f"{done.stderr}")
+        suite.holds(f"{script}, what fails", b": dh NOT PROVED\n" in done.stderr, f"{done.stderr}")
         log = copy.root / "target" / "build.log"
         suite.holds(f"{script}, the log", log.exists() and "a line of the prover" in log.read_text())
         suite.equal(f"{script}, nothing else", (done.stdout, (copy.root / "build" / "lib").exists()), (b"", False))
