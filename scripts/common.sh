@@ -75,28 +75,21 @@ locked() {
     ) 9<"$root/crates.txt"
 }
 
-# told CRATE: writes what rt says to the log, and a line for the crate where it is proved
+# told CRATE..: writes what rt says to the log, and a line for each of these crates as it is proved, or is not
 told() {
-    local line began=$SECONDS
+    local line name=- began=$SECONDS
+    local -A nth=()
+    for name in "$@"; do
+        nth[$name]=$((${#nth[@]} + 1))
+    done
     while IFS= read -r line; do
         printf '%s\n' "$line" >>"$build_log"
-        [[ $line != "logic=proved "* ]] || printf '%s, %d s\n' "$1" $((SECONDS - began)) >&2
-    done
-}
-
-# prove_all CRATE VERB: the crates that this one stands on, one behind the other, each as a library; then itself, as rt VERB
-# builds it. What is proved already takes no time, and has no line.
-prove_all() {
-    local crate=$1 verb name crates n=0
-    mapfile -t crates < <(crates_of "$crate")
-    for name in "${crates[@]}"; do
-        n=$((n + 1))
-        verb=lib
-        [ "$name" != "$crate" ] || verb=$2
-        (cd "$root/crates/$name" && rt "$verb") </dev/null 2>&1 | told "$n of ${#crates[@]}: $name"
-        if [ "${PIPESTATUS[0]}" -ne 0 ]; then
-            printf '%d of %d: %s NOT PROVED\n' "$n" "${#crates[@]}" "$name" >&2
-            return 1
+        if [[ $line =~ ^rt:\ chose\ --jobs\ [0-9]+\ for\ ([A-Za-z0-9_]+)$ ]]; then
+            name=${BASH_REMATCH[1]} began=$SECONDS
+        elif [[ $line = "logic=proved "* ]]; then
+            printf '%s of %d: %s, %d s\n' "${nth[$name]-?}" $# "$name" $((SECONDS - began)) >&2
+        elif [[ $line = logic=not-proved* ]]; then
+            printf '%s of %d: %s NOT PROVED\n' "${nth[$name]-?}" $# "$name" >&2
         fi
     done
 }
@@ -108,20 +101,23 @@ taken() {
     mkdir -p "$(dirname "$root/$2")" && install -m 755 "$made" "$root/$2.new" && mv "$root/$2.new" "$root/$2"
 }
 
-# prove_and_build CRATE FILE: the crate and all that it stands on; it is a program, or a static library
+# prove_and_build CRATE FILE: the crate, a program or a static library, and all that it stands on
 prove_and_build() {
-    local crate=$1 file=$2 started=$SECONDS verb=run
+    local crate=$1 file=$2 started=$SECONDS verb=run status crates
     # another build may have ended while this one waited
     if is_built "$crate" "$file"; then
         return 0
     fi
+    mapfile -t crates < <(crates_of "$crate")
     mkdir -p "$root/target/since" || die "cannot write below $(shown "$root/target")"
     touch "$root/target/since/$crate.new"
     : >"$build_log"
-    say "proves and builds first what is not proved yet: $(crates_of "$crate" | grep -c .) crates, about seven minutes on two cores if it is all of them"
-    # a program that is run without input ends at once
+    say "proves and builds first what is not proved yet: ${#crates[@]} crates, about seven minutes on two cores if it is all of them"
+    # rt builds a program to run it; without input that ends at once
     [[ $file != *.a ]] || verb=lib
-    if ! prove_all "$crate" "$verb" || ! taken "$crate" "$file"; then
+    (cd "$root/crates/$crate" && rt "$verb") </dev/null 2>&1 | told "${crates[@]}"
+    status=${PIPESTATUS[0]}
+    if [ "$status" -ne 0 ] || ! taken "$crate" "$file"; then
         say "$crate is not built; the whole log is $(shown "$build_log")"
         return 1
     fi
