@@ -22,9 +22,9 @@ HEADER = "include/nci_bench.h"
 
 # sizes that the header has too
 HEADER_SIZES = {
-    "NCI_AREA_SIZE": "areaSize", "NCI_BUFFER_SIZE": "messageSize", "NCI_MESSAGE_MAX": "messageSize",
-    "NCI_COMMAND_MAX": "controlSize", "NCI_PACKET_MAX": "slotSize", "NCI_LONG_PROFILE_SIZE": "profileSize",
-    "NCI_WIRE_SLOTS": "wireSlots", "NCI_STORE_SLOTS": "storeSlots",
+    "NCI_AREA_SIZE": "area_size", "NCI_BUFFER_SIZE": "message_size", "NCI_MESSAGE_MAX": "message_size",
+    "NCI_COMMAND_MAX": "control_size", "NCI_PACKET_MAX": "slot_size", "NCI_LONG_PROFILE_SIZE": "profile_size",
+    "NCI_WIRE_SLOTS": "wire_slots", "NCI_STORE_SLOTS": "store_slots",
 }
 
 # parts of the record that have a table of their own
@@ -32,46 +32,46 @@ APART = ("host.pending", "controller.rf", "controller.pairs.list", "conns")
 # most of an octet
 OCTET = 255
 # what the definitions say of records that can be: a head and a count, a message in hand, yes or no
-RING = "ringOk slots k = leb (k .count) slots && ltb (k .head) slots"
-HAND = "handOk h = leb (h .len) messageSize && leb (h .at) (h .len)"
-FLAG = "flagOk s at = leb (getD s at 0) 1"
+RING = "ring_ok slots k = leb k.count slots && ltb k.head slots"
+HAND = "hand_ok h = leb h.len message_size && leb h.at h.len"
+FLAG = "flag_ok s at = leb (get_or s at 0) 1"
 
 # the tests of the record's numbers
-JUDGED = ("recordOk", "endsOk", "handOk", "hostSideOk", "controllerSideOk")
+JUDGED = ("record_ok", "ends_ok", "hand_ok", "host_side_ok", "controller_side_ok")
 
 # of fields, by the end of their names: the numbers that their values are told with, and the definition that they are from.
 # A field that is not here is not judged, or has its cases in a table
 VALUES = {
-    "profile.control": (("leastSize", OCTET), PROFILE, "controlOk n = leb leastSize n && leb n 255"),
-    "profile.*.payload": ((1, OCTET), PROFILE, "payloadOk n = leb 1 n && leb n 255"),
-    "profile.*.credits": ((1, 8, OCTET), PROFILE, "creditsOk n = (leb 1 n && leb n 8) || eqb n 255"),
-    "host.size": (("leastSize", OCTET), JUDGE, "leb leastSize (e .host .size)"),
-    "hearing.run.len": ((0, "controlSize"), JUDGE, "leb (e .hearing .run .len) controlSize"),
-    "asking.run.len": ((0, "controlSize"), JUDGE, "leb (e .asking .run .len) controlSize"),
-    "controller.given": ((0, 2, 5), JUDGE, "givenOk id = eqb id 0 || (leb 2 id && leb id 5)"),
-    "controller.pairs.count": ((0, "pairsRoom"), JUDGE, "leb (e .controller .pairs .count) pairsRoom"),
-    "host.payload": ((1, OCTET), JUDGE, "(not (h .opened) || leb 1 (h .payload))"),
-    "host.held": ((0,), JUDGE, "leb (h .held) (h .grant)"),
-    "controller.owed": ((0,), JUDGE, "leb (k .owed) (k .grant)"),
-    "host.run.len": ((0, "messageSize"), JUDGE, "leb (h .run .len) messageSize"),
-    "controller.run.len": ((0, "messageSize"), JUDGE, "leb (k .run .len) messageSize"),
-    "store.head": ((0, "storeSlots - 1"), JUDGE, "ringOk storeSlots (k .store)"),
-    "store.count": ((0, "storeSlots"), JUDGE, RING),
-    "down.head": ((0, "wireSlots - 1"), JUDGE, "ringOk wireSlots (r .down)"),
-    "up.head": ((0, "wireSlots - 1"), JUDGE, "ringOk wireSlots (r .up)"),
-    "*.count": ((0, "wireSlots"), JUDGE, RING),
-    "endpoint.len": ((0, "messageSize"), JUDGE, "handOk (e .endpoint)"),
-    "hand.len": ((0, "messageSize"), JUDGE, "handOk (h .hand)"),
+    "profile.control": (("least_size", OCTET), PROFILE, "control_ok n = leb least_size n && leb n 255"),
+    "profile.*.payload": ((1, OCTET), PROFILE, "payload_ok n = leb 1 n && leb n 255"),
+    "profile.*.credits": ((1, 8, OCTET), PROFILE, "credits_ok n = (leb 1 n && leb n 8) || eqb n 255"),
+    "host.size": (("least_size", OCTET), JUDGE, "leb least_size e.host.size"),
+    "hearing.run.len": ((0, "control_size"), JUDGE, "leb e.hearing.run.len control_size"),
+    "asking.run.len": ((0, "control_size"), JUDGE, "leb e.asking.run.len control_size"),
+    "controller.given": ((0, 2, 5), JUDGE, "given_ok id = eqb id 0 || (leb 2 id && leb id 5)"),
+    "controller.pairs.count": ((0, "pairs_room"), JUDGE, "leb e.controller.pairs.count pairs_room"),
+    "host.payload": ((1, OCTET), JUDGE, "(not h.opened || leb 1 h.payload)"),
+    "host.held": ((0,), JUDGE, "leb h.held h.grant"),
+    "controller.owed": ((0,), JUDGE, "leb k.owed k.grant"),
+    "host.run.len": ((0, "message_size"), JUDGE, "leb h.run.len message_size"),
+    "controller.run.len": ((0, "message_size"), JUDGE, "leb k.run.len message_size"),
+    "store.head": ((0, "store_slots - 1"), JUDGE, "ring_ok store_slots k.store"),
+    "store.count": ((0, "store_slots"), JUDGE, RING),
+    "down.head": ((0, "wire_slots - 1"), JUDGE, "ring_ok wire_slots r.down"),
+    "up.head": ((0, "wire_slots - 1"), JUDGE, "ring_ok wire_slots r.up"),
+    "*.count": ((0, "wire_slots"), JUDGE, RING),
+    "endpoint.len": ((0, "message_size"), JUDGE, "hand_ok e.endpoint"),
+    "hand.len": ((0, "message_size"), JUDGE, "hand_ok h.hand"),
     "*.at": ((0,), JUDGE, HAND),
     "*.full": ((0, 1), JUDGE, FLAG),
     "*.lost": ((0, 1), JUDGE, FLAG),
     "*.opened": ((0, 1), JUDGE, FLAG),
     # cases that can be are those that the tables have
-    "controller.phase": (None, JUDGE, "leb (getD s controllerPlace 0) 2"),
-    "controller.rf": (None, JUDGE, "rfKnown tag selected = leb tag 6 && (not (eqb tag 3) || leb selected 1)"),
-    "host.pending": (None, JUDGE, "flagOk s (hostPlace + pendingPart)"),
+    "controller.phase": (None, JUDGE, "leb (get_or s controller_place 0) 2"),
+    "controller.rf": (None, JUDGE, "rf_known tag selected = leb tag 6 && (not (eqb tag 3) || leb selected 1)"),
+    "host.pending": (None, JUDGE, "flag_ok s (host_place + pending_part)"),
     # the parameters have a table of their own
-    "configAt": (None, JUDGE, "parametersOk (configOctets area)"),
+    "config_at": (None, JUDGE, "parameters_ok (config_octets area)"),
 }
 
 
@@ -94,22 +94,22 @@ def both(octet):
 
 def area_rows(area):
     starts = [area.names[name] for name in PARTS]
-    for name, start, end in zip(PARTS, starts, [*starts[1:], area.names["areaSize"]]):
+    for name, start, end in zip(PARTS, starts, [*starts[1:], area.names["area_size"]]):
         yield [both(start), str(end - start), f"`{name}`", None]
 
 
 def slot_rows(area, slots, starts):
     """The slots of rings that start there."""
     for slot in range(slots):
-        yield [str(slot), *(both(start + slot * area.names["slotSize"]) for start in starts)]
+        yield [str(slot), *(both(start + slot * area.names["slot_size"]) for start in starts)]
 
 
 def record_rows(area):
     for field, length in area.fields(apart=APART).items():
         yield [both(area.at(field)), str(length), f"`{field}`", None, values_of(area, field)]
-    config, end = area.names["configAt"], area.names["configEnd"]
-    yield [both(config), str(end - config), "`configAt`", None, None]
-    yield [both(end), str(area.names["areaSize"] - end), "", None, None]
+    config, end = area.names["config_at"], area.names["config_end"]
+    yield [both(config), str(end - config), "`config_at`", None, None]
+    yield [both(end), str(area.names["area_size"] - end), "", None, None]
 
 
 def octets_said(ranges):
@@ -141,7 +141,7 @@ def conn_rows(area):
 
 
 def pair_rows(area):
-    for i in range(area.names["pairsRoom"]):
+    for i in range(area.names["pairs_room"]):
         yield [str(i), *(both(area.at(f"controller.pairs.list.{i}.{part}")) for part in ("id", "protocol"))]
 
 
@@ -156,18 +156,18 @@ def tables(area):
     """Of each table its rows, the heading among them, by the title over it."""
     names, conns, places = area.names, area.conns, range(area.names["places"])
     by_place = [names[name] for name in PARTS.values() if name]
-    stores = [names["storeAt"](place) for place in places]
+    stores = [names["store_at"](place) for place in places]
     return {
         "Sizes": [[None] * 3, *([f"`{name}`", str(names[name]), None] for name in SIZES)],
         "The area": [[None] * 4, *area_rows(area)],
-        "Slots of the wires": [[None] * 3, *slot_rows(area, names["wireSlots"], [names["downAt"], names["upAt"]])],
+        "Slots of the wires": [[None] * 3, *slot_rows(area, names["wire_slots"], [names["down_at"], names["up_at"]])],
         "Parts by connection": [[None] * 5, *([conns[p], *(both(part(p)) for part in by_place)] for p in places)],
-        "Slots of the stores": [[None, *conns], *slot_rows(area, names["storeSlots"], stores)],
+        "Slots of the stores": [[None, *conns], *slot_rows(area, names["store_slots"], stores)],
         "The record": [[None] * 5, *record_rows(area)],
         "The configuration": [[None] * 6, *config_rows(area)],
-        "The unanswered command": list(case_rows(area, "pendingOctets", "host.pending")),
-        "The controller's phase": list(case_rows(area, "phaseOctet", "controller.phase")),
-        "The RF state": list(case_rows(area, "rfOctets", "controller.rf")),
+        "The unanswered command": list(case_rows(area, "pending_octets", "host.pending")),
+        "The controller's phase": list(case_rows(area, "phase_octet", "controller.phase")),
+        "The RF state": list(case_rows(area, "rf_octets", "controller.rf")),
         "The pairs found": [[None] * 3, *pair_rows(area)],
         "A connection in the record": [[None, None, *conns, None, None], *conn_rows(area)],
     }
@@ -256,7 +256,7 @@ def unsaid(texts):
     known = {part for _, _, words in VALUES.values() for part in split(words.split(" = ")[-1], "&&")}
     for name in JUDGED:
         for part in split(definition(texts[JUDGE], name), "&&"):
-            if part not in known and part.split()[0] not in (*JUDGED, "profileOk", "givenOk", "connsOk"):
+            if part not in known and part.split()[0] not in (*JUDGED, "profile_ok", "given_ok", "conns_ok"):
                 yield f"{name} tests {part}, and the page has no values from it"
 
 
@@ -291,18 +291,18 @@ def compared(texts, area):
 COUNTED = {
     PAGE: r"^\|.*|^- layout .*",
     HEADER: rf"^#define (?:NCI_LAYOUT|{'|'.join(HEADER_SIZES)}) \d+",
-    RUNS: r"^\w+Limit = .*",
-    PROFILE: r"^(?:leastSize|payloadOk|creditsOk|controlOk) .*",
+    RUNS: r"^\w+_limit = .*",
+    PROFILE: r"^(?:least_size|payload_ok|credits_ok|control_ok) .*",
     CONN: PLACES,
     MAP: r"^(?!--).*[=≡].*",
     LAYOUT: r"^(?!--).*[=≡].*",
-    WRITING: r"^(?!--|use|noPair).*",
-    JUDGE: r"^(?:givenOk|flagOk|rfKnown) .*|^    && leb \(getD s controllerPlace 0\) 2$",
+    WRITING: r"^(?!--|use|no_pair).*",
+    JUDGE: r"^(?:given_ok|flag_ok|rf_known) .*|^    && leb \(get_or s controller_place 0\) 2$",
     CODE_RUNS: r"^pub const .*",
     CODE_MAP: r"^(?:pub )?const .*",
     CODE_PLACES: r"^(?:pub )?const .*",
-    TABLE: r"^(?:rowCount|configSize|noRow|allowedBy BitRates) .*|^    (?:∷ )?row .*",
-    STORED: r"^(?:lead|sizeIn) .*",
+    TABLE: r"^(?:row_count|config_size|no_row|allowed_by BitRates) .*|^    (?:∷ )?row .*",
+    STORED: r"^(?:lead|size_in) .*",
     CODE_TABLE: r"^pub const .*|^        (?:id|at|least|most|default|values): .*",
 }
 
@@ -326,7 +326,7 @@ def unnoticed(texts, path):
 
 def same_number(texts):
     """Two fields change places, and the page follows: the layout's number is then wrong, and nothing else."""
-    moved = texts | {WRITING: texts[WRITING].replace("r .gid ∷ r .oid", "r .oid ∷ r .gid")}
+    moved = texts | {WRITING: texts[WRITING].replace("r.gid ∷ r.oid", "r.oid ∷ r.gid")}
     wrong = {name for name, found in problems(moved | {PAGE: rewritten(moved)}).items() if found}
     return [] if wrong == {"the layout's number"} else [f"wrong is {wrong or 'nothing'}"]
 

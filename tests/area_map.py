@@ -15,43 +15,50 @@ CODE_RUNS, CODE_MAP, CODE_PLACES = "crates/state/src/runs.rt", "crates/area/src/
 CODE_TABLE = "crates/config/src/table.rt"
 FILES = (RUNS, PROFILE, CONN, MAP, LAYOUT, WRITING, JUDGE, TABLE, STORED, CODE_RUNS, CODE_MAP, CODE_PLACES, CODE_TABLE)
 
-SIZES = ("areaSize", "slotSize", "wireSlots", "wireSize", "storeSlots", "storeSize", "messageSize", "controlSize", "places")
+SIZES = ("area_size", "slot_size", "wire_slots", "wire_size", "store_slots", "store_size", "message_size", "control_size", "places")
 # the parts of the area in their order, and what those are called of a place that have one for each
 PARTS = {
-    "downAt": None, "upAt": None, "storesAt": "storeAt", "handsAt": "handAt", "endpointAt": None,
-    "hostRunsAt": "hostRunAt", "controllerRunsAt": "controllerRunAt", "askingAt": None, "hearingAt": None,
-    "spareAt": None, "recordAt": None,
+    "down_at": None, "up_at": None, "stores_at": "store_at", "hands_at": "hand_at", "endpoint_at": None,
+    "host_runs_at": "host_run_at", "controller_runs_at": "controller_run_at", "asking_at": None, "hearing_at": None,
+    "spare_at": None, "record_at": None,
 }
 # which place a Conn ID has
 PLACES = r"pick \(eqb c (\d)\) (\d)"
 # octets by cases, and what they are called in one
-CASES = ("pendingOctets", "phaseOctet", "rfOctets")
+CASES = ("pending_octets", "phase_octet", "rf_octets")
 WORDS = {"gid": "GID", "oid": "OID", "aim": "aim", "id": "ID", "protocol": "protocol", "mode": "mode"}
 # what an octet of a number, and of yes or no, is
 FORMS = r"^(?:high|low|bit) .* = .*$"
 # and what the octets of a parameter are
-STORED_FORMS = r"^(?:isFixed|lead|room|sizeIn|formOf) .* = .*$"
+STORED_FORMS = r"^(?:is_fixed|lead|room|size_in|form_of) .* = .*$"
 
 # each name of Layout as the distance from one field to another: where a field ends the next one starts
 DISTANCES = {
-    "profilePlace": ("", "profile"), "hostPlace": ("", "host"), "hearingPlace": ("", "hearing"),
-    "controllerPlace": ("", "controller"), "askingPlace": ("", "asking"), "endpointPlace": ("", "endpoint"),
-    "connsPlace": ("", "conns"), "downPlace": ("", "down"), "upPlace": ("", "up"), "recordEnd": ("", "end"),
-    "profileSize": ("profile", "host"), "hostSize": ("host", "hearing"), "controlRunSize": ("hearing", "controller"),
-    "controllerSize": ("controller", "asking"), "handSize": ("endpoint", "conns"), "connsSize": ("conns", "down"),
-    "ringSize": ("down", "up"), "pendingPart": ("host", "host.pending"), "runPart": ("asking", "asking.run"),
-    "lostPart": ("asking.run.len", "asking.run.lost"), "progressSize": ("asking.run", "endpoint"),
-    "rfPart": ("controller", "controller.rf"), "pairsPart": ("controller", "controller.pairs"),
-    "pairsSize": ("controller.pairs", "asking"), "countsSize": ("conns.0", "conns.1"),
-    "hostSideSize": ("conns.0.host", "conns.0.controller"), "controllerSideSize": ("conns.0.controller", "conns.1"),
-    "handPart": ("conns.0.host", "conns.0.host.hand"), "hostRunPart": ("conns.0.host", "conns.0.host.run"),
-    "storePart": ("conns.0.controller", "conns.0.controller.store"),
-    "controllerRunPart": ("conns.0.controller", "conns.0.controller.run"),
-    "frontSize": ("profile", "controller"), "middleSize": ("asking", "conns"), "wiresSize": ("down", "end"),
+    "profile_place": ("", "profile"), "host_place": ("", "host"), "hearing_place": ("", "hearing"),
+    "controller_place": ("", "controller"), "asking_place": ("", "asking"), "endpoint_place": ("", "endpoint"),
+    "conns_place": ("", "conns"), "down_place": ("", "down"), "up_place": ("", "up"), "record_end": ("", "end"),
+    "profile_size": ("profile", "host"), "host_size": ("host", "hearing"), "control_run_size": ("hearing", "controller"),
+    "controller_size": ("controller", "asking"), "hand_size": ("endpoint", "conns"), "conns_size": ("conns", "down"),
+    "ring_size": ("down", "up"), "pending_part": ("host", "host.pending"), "run_part": ("asking", "asking.run"),
+    "lost_part": ("asking.run.len", "asking.run.lost"), "progress_size": ("asking.run", "endpoint"),
+    "rf_part": ("controller", "controller.rf"), "pairs_part": ("controller", "controller.pairs"),
+    "pairs_size": ("controller.pairs", "asking"), "counts_size": ("conns.0", "conns.1"),
+    "host_side_size": ("conns.0.host", "conns.0.controller"), "controller_side_size": ("conns.0.controller", "conns.1"),
+    "hand_part": ("conns.0.host", "conns.0.host.hand"), "host_run_part": ("conns.0.host", "conns.0.host.run"),
+    "store_part": ("conns.0.controller", "conns.0.controller.store"),
+    "controller_run_part": ("conns.0.controller", "conns.0.controller.run"),
+    "front_size": ("profile", "controller"), "middle_size": ("asking", "conns"), "wires_size": ("down", "end"),
 }
 
 
 # ---- the record's octets, in the order in which they are written
+
+def as_noted(said):
+    """In the spelling that the definitions had when the first layout's checksum was noted: a checksum that stays says that
+    the map is the same one."""
+    said = re.sub(r"(\+ )?\b([a-z])\.(\w+)", lambda m: f"{m[1]}{m[2]} .{m[3]}" if m[1] else f"({m[2]} .{m[3]})", said)
+    return re.sub(r"_([a-z])", lambda m: m[1].upper(), said.replace("get_or", "getD"))
+
 
 # an octet's field, and what it has of it: all, the high or low octet of a number, yes or no, or its place among those of a case
 Leaf = namedtuple("Leaf", ("field", "form"))
@@ -66,12 +73,12 @@ class Written:
             self.clauses.setdefault(name, []).append((left, right))
 
     def field(self, words, known):
-        """The field that words speak of: `p .two .payload`, or a place of a list, by `getD`."""
-        first, *rest = words.strip("()").split()
-        first = known.get(first, first)
-        if first == "getD":
-            first = f"{known[rest[0]]}.{known[rest[1]]}"
-        return ".".join(filter(None, [first, *(word[1:] for word in rest if word.startswith("."))]))
+        """The field that words speak of: `p.two.payload`, or a place of a list, by `get_or`."""
+        place = re.fullmatch(r"\(get_or (\w+) (\w+) \w+\)((?:\.\w+)*)", words)
+        if place:
+            return f"{known[place[1]]}.{known[place[2]]}{place[3]}"
+        first, *rest = words.split(".")
+        return ".".join(filter(None, [known.get(first, first), *rest]))
 
     def octets(self, name, arguments):
         """The leaves of a function."""
@@ -82,13 +89,13 @@ class Written:
 
     def parts(self, text, known):
         for part in split(text, "∷", "++"):
-            applied = re.fullmatch(r"(\w+) ((?:\([^()]*\)|\w+)(?: \w+)*)", part)
-            if part.startswith("("):
+            applied = re.fullmatch(r"(\w+) ((?:\([^()]*\)|[\w.]+)(?: \w+)*)", part)
+            if re.fullmatch(r"\(.*\)", part, re.S):
                 yield from self.parts(part[1:-1], known)
             elif applied and applied[1] in ("high", "low", "bit"):
                 yield Leaf(self.field(applied[2], known), applied[1])
             elif applied and applied[1] in self.clauses:
-                words = re.findall(r"\([^()]*\)|\w+", applied[2])
+                words = re.findall(r"\([^()]*\)|[\w.]+", applied[2])
                 yield from self.octets(applied[1], [self.field(word, known) for word in words])
             elif part != "[]":
                 yield Leaf(self.field(part, known), "octet")
@@ -110,7 +117,7 @@ CODE_ROW = r",\s+".join((
     r"Row \{\s+id: (\w+)", r"at: (\d+)", r"least: (\d+)", r"most: (\d+)", r"default: (\w+)", r"values: Values::([\w(), ]+)", r"\}",
 ))
 # the bit rates that are not reserved
-RATES = r"^allowedBy BitRates x = leb x (\w+) \|\| eqb x (\w+) \|\| \(leb (\w+) x && leb x (\w+)\)$"
+RATES = r"^allowed_by BitRates x = leb x (\w+) \|\| eqb x (\w+) \|\| \(leb (\w+) x && leb x (\w+)\)$"
 
 # the ranges are those of the octets that a value may have
 Parameter = namedtuple("Parameter", ("name", "id", "at", "least", "most", "default", "ranges"))
@@ -139,11 +146,11 @@ class Area:
 
     def __init__(self, texts):
         self.names = defined(*(texts[path] for path in (RUNS, PROFILE, MAP, TABLE, LAYOUT)))
-        self.names["configEnd"] = self.names["configAt"] + self.names["configSize"]
+        self.names["config_end"] = self.names["config_at"] + self.names["config_size"]
         self.parameters = list(parameters(texts[TABLE]))
         self.written, self.forms = Written(texts[WRITING]), re.findall(FORMS, texts[LAYOUT], re.M)
         self.forms += re.findall(STORED_FORMS, texts[STORED], re.M)
-        leaves = [Leaf(leaf.field.removeprefix("ends."), leaf.form) for leaf in self.written.octets("encodeOf", [""])]
+        leaves = [Leaf(leaf.field.removeprefix("ends."), leaf.form) for leaf in self.written.octets("encode_of", [""])]
         self.leaves = [*leaves, Leaf("end", "")]
         by_place = {int(place): conn for conn, place in re.findall(PLACES, texts[CONN])}
         self.conns = [f"connection {by_place[place]}" for place in range(self.names["places"])]
@@ -157,7 +164,7 @@ class Area:
 
     def at(self, field):
         """And in the area."""
-        return self.names["recordAt"] + self.place(field)
+        return self.names["record_at"] + self.place(field)
 
     def fields(self, within="", apart=()):
         """Fields with their lengths, in order; each part that is named apart is one of them."""
@@ -172,7 +179,7 @@ class Area:
         """The octets of the parameters, by place: where they start in the area, how many they are, the parameter, and whether
         they are its length, which stands before a value whose length varies."""
         for parameter in sorted(self.parameters, key=lambda parameter: parameter.at):
-            start = self.names["configAt"] + parameter.at
+            start = self.names["config_at"] + parameter.at
             if parameter.least != parameter.most:
                 yield start, 1, parameter, True
                 start += 1
@@ -180,11 +187,12 @@ class Area:
 
     def checksum(self):
         """Of all that the octets of an area mean."""
-        numbers = [f"{name} {self.names[name]}" for name in (*SIZES, *PARTS)]
-        octets = [f"{self.names['recordAt'] + i} {leaf.field} {leaf.form}" for i, leaf in enumerate(self.leaves)]
+        numbers = [f"{as_noted(name)} {self.names[name]}" for name in (*SIZES, *PARTS)]
+        octets = [f"{self.names['record_at'] + i} {leaf.field} {leaf.form}" for i, leaf in enumerate(self.leaves)]
         octets += [f"{at} {n} {p.id:02X} {p.name} {'length' if length else 'value'}" for at, n, p, length in self.config()]
         cases = [f"{name} {' '.join(octets)}" for case in CASES for name, octets in self.written.cases(case)]
-        return hashlib.sha256("\n".join(numbers + octets + cases + self.forms + self.conns).encode()).hexdigest()[:16]
+        forms = map(as_noted, self.forms)
+        return hashlib.sha256("\n".join([*numbers, *octets, *cases, *forms, *self.conns]).encode()).hexdigest()[:16]
 
 
 # ---- what is wrong with the definitions, and with the code beside them
@@ -204,16 +212,16 @@ def distances_differ(area):
         if found != area.names[name]:
             yield f"{name} is {area.names[name]}, and {end} is written {found} octets after {start or 'the start'}"
     pairs = len(area.fields("controller.pairs.list")) // 2
-    for name, number in {"selectedPart": area.names["rfPart"] + 1, "pairsRoom": pairs}.items():
+    for name, number in {"selected_part": area.names["rf_part"] + 1, "pairs_room": pairs}.items():
         if area.names[name] != number:
             yield f"{name} is {area.names[name]}, and by what is written {number}"
 
 
 def parameters_differ(area, texts):
     """A table that is not as long as it says, octets that do not follow one another, and rows that the code has otherwise."""
-    if len(area.parameters) != area.names["rowCount"]:
-        yield f"rowCount is {area.names['rowCount']}, and there are {len(area.parameters)} rows"
-    starts = [start for start, *_ in area.config()] + [area.names["configEnd"]]
+    if len(area.parameters) != area.names["row_count"]:
+        yield f"row_count is {area.names['row_count']}, and there are {len(area.parameters)} rows"
+    starts = [start for start, *_ in area.config()] + [area.names["config_end"]]
     for (start, length, parameter, _), following in zip(area.config(), starts[1:]):
         if start + length != following:
             yield f"{parameter.name} ends at {start + length}, and {following} is next"
@@ -225,23 +233,22 @@ def parameters_differ(area, texts):
 
 # names that the code has otherwise
 CODED = {
-    "AREA": "areaSize", "PAYLOAD": "payloadSize", "SLOT": "slotSize", "WIRE": "wireSlots", "STORE": "storeSlots",
-    "MESSAGE": "messageSize", "CONTROL": "controlSize", "END": "recordEnd", "ROWS": "rowCount",
+    "AREA": "area_size", "PAYLOAD": "payload_size", "SLOT": "slot_size", "WIRE": "wire_slots", "STORE": "store_slots",
+    "MESSAGE": "message_size", "CONTROL": "control_size", "END": "record_end", "ROWS": "row_count",
 }
 
 
 def definition_of(constant, names):
-    """The definition of a constant, by its name: a part of the record is without its Place in the code."""
-    first, *rest = constant.lower().split("_")
-    name = first + "".join(word.capitalize() for word in rest)
-    return CODED.get(constant) or (name if name in names else name + "Place")
+    """The definition of a constant, by its name: a part of the record is without its place in the code."""
+    name = constant.lower()
+    return CODED.get(constant) or (name if name in names else name + "_place")
 
 
 def code_differs(area, found):
     """Constants that are not as they are defined."""
     for constant, number in found.items():
         of_place = re.fullmatch(r"COUNTS_(\d)", constant)
-        name = "countsPart" if of_place else definition_of(constant, area.names)
+        name = "counts_part" if of_place else definition_of(constant, area.names)
         due = area.names.get(name)
         if of_place:
             number, due = [number], [due(int(of_place[1]))]

@@ -81,8 +81,8 @@ def due_constants(texts):
         kind = re.fullmatch(r"(\w+?)_(LENGTH|SIZE)", name)
         at = f"NCI_AT_{name}" if not kind or "PARAMS" in name else f"NCI_{kind[2]}_{kind[1]}"
         due[at] = int(said)
-    for name, said in re.findall(r"^mt(\w+) = (\d+)$", texts[TYPES], re.M):
-        if name != "Rfu":
+    for name, said in re.findall(r"^mt_(\w+) = (\d+)$", texts[TYPES], re.M):
+        if name != "rfu":
             due[f"NCI_MT_{name.upper()}"] = int(said)
     return due | {f"NCI_{name}": number for name, number, _ in parameters(texts)}
 
@@ -127,13 +127,13 @@ def constants_differ(texts):
 
 # the functions by the definitions of Word; the answer has the low eight bits
 UNITS = {
-    "dropped": "dropBit",
-    "handed_out": "handedBit",
-    "length": "lengthUnit",
-    "put_down": "downUnit",
-    "put_up": "upUnit",
-    "moves": "downUnit",
-    "rfu": "rfuUnit",
+    "dropped": "drop_bit",
+    "handed_out": "handed_bit",
+    "length": "length_unit",
+    "put_down": "down_unit",
+    "put_up": "up_unit",
+    "moves": "down_unit",
+    "rfu": "rfu_unit",
 }
 # the row that is another reading of bits, which others have too
 OF_RUN = "of nci_run"
@@ -148,12 +148,12 @@ def word_differs(texts):
         yield f"the table has bits {bits}"
     if sorted((first, last) for first, last, text in table if text != "0") != sorted(taken.values()):
         yield f"the table has {table}, the functions {taken}"
-    units = dict(re.findall(r"^(\w+(?:Bit|Unit)) = (\d+)$", texts[WORD], re.M))
+    units = dict(re.findall(r"^(\w+(?:_bit|_unit)) = (\d+)$", texts[WORD], re.M))
     for name in sorted(taken.keys() | UNITS.keys()):
         unit = 1 if name == "answer" else int(units.get(UNITS.get(name), 0))
         if name not in taken or 1 << taken[name][0] != unit:
             yield f"{name} starts at {taken.get(name)}, and is defined with {unit}"
-    read = re.search(r"^movesIn w = w / (\w+) % (\d+)$", texts[WORD], re.M)
+    read = re.search(r"^moves_in w = w / (\w+) % (\d+)$", texts[WORD], re.M)
     moves = taken.get("moves", (0, 0))
     if read is None or (read[1], int(read[2])) != (UNITS["moves"], 1 << moves[1] - moves[0] + 1):
         yield f"moves are read from bits {moves}, and defined as {read and read[0]}"

@@ -53,7 +53,7 @@ PROFILES = (5, 11)
 # CORE_SET_CONFIG_RSP and CORE_GET_CONFIG_RSP by the first octets of a packet, and the statuses of each
 CONFIGS = {b"\x40\x02": ("set", (0x00, 0x05, 0x06, 0x09)), b"\x40\x03": ("get", (0x00, 0x05, 0x06, 0x09, 0x0A))}
 # what crates/opinions/specs/Shown.antt lends to the statements
-SHOWN = ["line", "refusal", "done", "puts", "hands", "ran", "start", "lines", "calls", "runs", "strokeLines"]
+SHOWN = ["line", "refusal", "done", "puts", "hands", "ran", "start", "lines", "calls", "runs", "stroke_lines"]
 
 
 # ---- the papers
@@ -198,7 +198,7 @@ def list_lines(first, terms, last):
 
 
 def statement(paper):
-    lines, term = ("strokeLines", stroke_term) if paper.pressed else ("lines", call_term)
+    lines, term = ("stroke_lines", stroke_term) if paper.pressed else ("lines", call_term)
     return "\n".join(
         [
             *textwrap.wrap(paper.shows, WIDTH, initial_indent="-- ", subsequent_indent="-- "),
@@ -225,12 +225,12 @@ def statements(papers):
         "-- Papers that meet every call and every refusal, with the second implementation's answers.",
         "-- Made by tests/lists.py.",
         "-- Assumes nothing.",
-        "use mathlib.Core.Path.{_≡_, refl}",
+        "use mathlib.Core.Path.{◌≡◌, refl}",
         use("mathlib.Core.Bool", ["true", "false"], words),
-        "use mathlib.Core.List.{[], _∷_}",
-        "use Rattle·octets.specs.Hex.{hex}",
-        use("Rattle·model.specs.Effects", CALLS, words),
-        use("Rattle·opinions·specs.specs.Shown", SHOWN, words),
+        "use mathlib.Core.List.{[], ◌∷◌}",
+        "use Rattle.octets.specs.Hex.{hex}",
+        use("Rattle.model.specs.Effects", CALLS, words),
+        use("Rattle.opinions.specs.Shown", SHOWN, words),
     ]
     return "\n\n".join(["\n".join(heading), *made]) + "\n"
 

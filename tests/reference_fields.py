@@ -37,7 +37,7 @@ def header_differs(texts):
     bits = [int(answered["pkt"][:2], 16) >> 4 & 1 for answered in pushed]
     said = f"{bits[0]} if more segments follow"
     yield from differ([row[2:] for row in rows if row[:2] == ["0", "4"]], [[said, said]] if bits == [1, 0] else bits)
-    types = {name.lower(): int(said) for name, said in re.findall(r"^mt(\w+) = (\d+)$", texts[TYPES], re.M)}
+    types = {name.lower(): int(said) for name, said in re.findall(r"^mt_(\w+) = (\d+)$", texts[TYPES], re.M)}
     said = {words.split(":")[0].replace("reserved", "rfu"): number for number, words in table(texts, "message type")}
     yield from differ(said, {name: str(n) if name != "rfu" else f"{n} to 7" for name, n in types.items()})
     yield from differ(marking.TYPES, [name for name in types if name != "rfu"])
@@ -46,18 +46,18 @@ def header_differs(texts):
 KINDS = {"CMD": (1, "command"), "RSP": (2, "response"), "NTF": (3, "notification")}
 # the words of a message, its group and opcode among the definitions, its name in the standard, and its kinds here
 MESSAGES = {
-    "reset": ("gidCore", "oidReset", "CORE_RESET", "CMD RSP NTF"),
-    "init": ("gidCore", "oidInit", "CORE_INIT", "CMD RSP"),
-    "set configuration": ("gidCore", "oidSetConfig", "CORE_SET_CONFIG", "CMD RSP"),
-    "get configuration": ("gidCore", "oidGetConfig", "CORE_GET_CONFIG", "CMD RSP"),
-    "create": ("gidCore", "oidConnCreate", "CORE_CONN_CREATE", "CMD RSP"),
-    "close": ("gidCore", "oidConnClose", "CORE_CONN_CLOSE", "CMD RSP"),
-    "credits": ("gidCore", "oidConnCredits", "CORE_CONN_CREDITS", "NTF"),
-    "generic error": ("gidCore", "oidGenericError", "CORE_GENERIC_ERROR", "NTF"),
-    "discover": ("gidRf", "oidDiscover", "RF_DISCOVER", "CMD RSP NTF"),
-    "select": ("gidRf", "oidSelect", "RF_DISCOVER_SELECT", "CMD RSP"),
-    "activated": ("gidRf", "oidActivated", "RF_INTF_ACTIVATED", "NTF"),
-    "deactivate": ("gidRf", "oidDeactivate", "RF_DEACTIVATE", "CMD RSP NTF"),
+    "reset": ("gid_core", "oid_reset", "CORE_RESET", "CMD RSP NTF"),
+    "init": ("gid_core", "oid_init", "CORE_INIT", "CMD RSP"),
+    "set configuration": ("gid_core", "oid_set_config", "CORE_SET_CONFIG", "CMD RSP"),
+    "get configuration": ("gid_core", "oid_get_config", "CORE_GET_CONFIG", "CMD RSP"),
+    "create": ("gid_core", "oid_conn_create", "CORE_CONN_CREATE", "CMD RSP"),
+    "close": ("gid_core", "oid_conn_close", "CORE_CONN_CLOSE", "CMD RSP"),
+    "credits": ("gid_core", "oid_conn_credits", "CORE_CONN_CREDITS", "NTF"),
+    "generic error": ("gid_core", "oid_generic_error", "CORE_GENERIC_ERROR", "NTF"),
+    "discover": ("gid_rf", "oid_discover", "RF_DISCOVER", "CMD RSP NTF"),
+    "select": ("gid_rf", "oid_select", "RF_DISCOVER_SELECT", "CMD RSP"),
+    "activated": ("gid_rf", "oid_activated", "RF_INTF_ACTIVATED", "NTF"),
+    "deactivate": ("gid_rf", "oid_deactivate", "RF_DEACTIVATE", "CMD RSP NTF"),
 }
 
 
@@ -75,14 +75,14 @@ def messages_differ(texts):
 
 
 STATUSES = {
-    "statusOk": "OK",
+    "status_ok": "OK",
     "rejected": "rejected",
-    "syntaxError": "syntax error",
-    "semanticError": "semantic error",
-    "invalidParam": "invalid parameter",
-    "sizeExceeded": "message size exceeded",
-    "alreadyStarted": "discovery already started",
-    "activationFailed": "target activation failed",
+    "syntax_error": "syntax error",
+    "semantic_error": "semantic error",
+    "invalid_param": "invalid parameter",
+    "size_exceeded": "message size exceeded",
+    "already_started": "discovery already started",
+    "activation_failed": "target activation failed",
 }
 
 
@@ -96,13 +96,13 @@ def statuses_differ(texts):
 
 # the definition of each message whose octets are defined in a row; the rest is judged by its shortest length
 DEFINED = {
-    "Init response": "initRsp",
-    "Create response": "createRsp",
-    "Reset notification": "resetNtf",
-    "Generic error notification": "genericErrorNtf",
-    "Discover notification": "discoverNtf",
-    "Activated notification": "activatedNtf",
-    "Deactivate notification": "deactivateNtf",
+    "Init response": "init_rsp",
+    "Create response": "create_rsp",
+    "Reset notification": "reset_ntf",
+    "Generic error notification": "generic_error_ntf",
+    "Discover notification": "discover_ntf",
+    "Activated notification": "activated_ntf",
+    "Deactivate notification": "deactivate_ntf",
 }
 COMMANDS = {
     "Reset command": "Reset",
@@ -185,10 +185,10 @@ LENGTHS = {
 # lists of configuration parameters: what the heading says of the length, what the definition has for an entry, and how many octets
 # stand before the first
 LISTS = {
-    "Set configuration command": ("1 octet, and for each parameter 2 and its value", "paramAt m n + 2 + getD m", 1),
-    "Get configuration command": ("1 octet and 1 for each parameter", "askedIn m n = getD m (1 + n) 0", 1),
-    "Set configuration response": ("2 octets and 1 for each invalid parameter", "(idIn m n ∷ [])", 2),
-    "Get configuration response": ("2 octets, and for each parameter 2 and its value", "id ∷ length (valueIn b (rowOf id)) ∷", 2),
+    "Set configuration command": ("1 octet, and for each parameter 2 and its value", "param_at m n + 2 + get_or m", 1),
+    "Get configuration command": ("1 octet and 1 for each parameter", "asked_in m n = get_or m (1 + n) 0", 1),
+    "Set configuration response": ("2 octets and 1 for each invalid parameter", "(id_in m n ∷ [])", 2),
+    "Get configuration response": ("2 octets, and for each parameter 2 and its value", "id ∷ length (value_in b (row_of id)) ∷", 2),
 }
 LAYOUTS = {*DEFINED, *COMMANDS, *LISTS, "Credits notification"}
 # verdicts whose response has the status alone, by the command
@@ -261,7 +261,7 @@ def layout_differs(texts, name, length, rows):
         yield from differ(found, list(defined_octets(texts, DEFINED[name])), "octets")
         yield from differ(count, places(texts)[LENGTHS[name]], "length")
     if name in COMMANDS:
-        shortest = re.search(rf"^shortest {COMMANDS[name]} m = (\d+)( \+ 2 \* getD m 0 0)?$", texts[CONTROLLER], re.M)
+        shortest = re.search(rf"^shortest {COMMANDS[name]} m = (\d+)( \+ 2 \* get_or m 0 0)?$", texts[CONTROLLER], re.M)
         yield from differ(count, int(shortest[1]) + (2 if shortest[2] else 0), "length")
     yield from differ(length, length_words(texts, name, count), "length")
     at = {field: int(re.match(r"\d+", place)[0]) for place, field, _ in rows}
@@ -277,7 +277,7 @@ def layouts_differ(texts):
     known = {constant for placed in PLACED.values() for constant in placed.values()} | set(LENGTHS.values())
     yield from differ(known, set(places(texts)), "constants")
     alone = re.search(r"^The responses to (.*) have the status alone", texts[PAGE], re.M)[1]
-    due = [words for verdict, words in ALONE.items() if f"responseOf p b m ({verdict}) = statusOk ∷ []\n" in texts[LAYOUT]]
+    due = [words for verdict, words in ALONE.items() if f"response_of p b m ({verdict}) = status_ok ∷ []\n" in texts[LAYOUT]]
     yield from differ(re.split(", | and ", alone), due, "status alone")
 
 

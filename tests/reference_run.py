@@ -79,8 +79,8 @@ def names(lines):
 def defined(texts):
     """The numbers of the definition, in the order of the page's rows."""
     text = texts[EXACT]
-    loop, reply = re.search(r"^exactly es = (\d+) \* total .* \+ (\d+) \* speechLeft es$", text, re.M).groups()
-    return [loop, *re.search(r"^staticCost es = pick \(flows .*\) (\d+) (\d+)$", text, re.M).groups(), reply]
+    loop, reply = re.search(r"^exactly es = (\d+) \* total .* \+ (\d+) \* speech_left es$", text, re.M).groups()
+    return [loop, *re.search(r"^static_cost es = pick \(flows .*\) (\d+) (\d+)$", text, re.M).groups(), reply]
 
 
 def costs_differ(texts):

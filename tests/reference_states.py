@@ -10,15 +10,15 @@ from reference_page import AIR, HEADER, RADIO, WRITING, differ, names, table
 # the first three modes have no names among the definitions
 UNNAMED = [["00", "poll NFC-A"], ["01", "poll NFC-B"], ["02", "poll NFC-F"]]
 MODES = {
-    "pollActive": "poll active",
-    "pollV": "poll NFC-V",
-    "listenA": "listen NFC-A",
-    "listenB": "listen NFC-B",
-    "listenF": "listen NFC-F",
-    "listenActive": "listen active",
+    "poll_active": "poll active",
+    "poll_v": "poll NFC-V",
+    "listen_a": "listen NFC-A",
+    "listen_b": "listen NFC-B",
+    "listen_f": "listen NFC-F",
+    "listen_active": "listen active",
 }
-DEACTIVATIONS = {"toIdle": "to idle", "toSleep": "to sleep", "toSleepAf": "to sleep AF", "toDiscovery": "to discovery"}
-REASONS = {"hostRequest": "the host asked", "endpointRequest": "the endpoint asked", "linkLoss": "the link was lost"}
+DEACTIVATIONS = {"to_idle": "to idle", "to_sleep": "to sleep", "to_sleep_af": "to sleep AF", "to_discovery": "to discovery"}
+REASONS = {"host_request": "the host asked", "endpoint_request": "the endpoint asked", "link_loss": "the link was lost"}
 
 
 def rf_octets_differ(texts):
@@ -100,12 +100,12 @@ def defined_events(texts, state):
     def holds(name):
         return re.search(rf"^{name} \(?{state}\b[^=]*= true$", texts[RADIO], re.M) is not None
 
-    for kind, rule in enumerate(["foundBy", "pollBy", "listenBy", "failedBy"], 1):
+    for kind, rule in enumerate(["found_by", "poll_by", "listen_by", "failed_by"], 1):
         said = re.findall(rf"^{rule} \(?{state}\b[^=]*= (.*)$", texts[AIR], re.M)
         if any(rest != "Refused" for rest in said):
             yield kind
     for kind, name in enumerate(["Sleeps", "LinkLost", "Releases", "Endpoint"], 5):
-        tests = re.search(rf"^airedBy rf ps {name} = pick \((.*?)\) \(?[ES]", texts[AIR], re.M)[1]
+        tests = re.search(rf"^aired_by rf ps {name} = pick \((.*?)\) \(?[ES]", texts[AIR], re.M)[1]
         if any(holds(test.split()[0]) for test in tests.split(" || ")):
             yield kind
 
@@ -117,7 +117,7 @@ def takes(state, way):
 
 def states_differ(texts):
     """Numbers and names as the record has them, and the events that each takes: by the definitions, and played."""
-    found = re.findall(r"^rfOctets \(?(\w+).*? = (\d) ∷", texts[WRITING], re.M)
+    found = re.findall(r"^rf_octets \(?(\w+).*? = (\d) ∷", texts[WRITING], re.M)
     due = {number: (re.sub(r"(?<!^)(?=[A-Z])", "_", name).upper(), name) for name, number in found}
     rows = table(texts, "number", "state")
     yield from differ([row[:2] for row in rows], [[number, name] for number, (name, _) in due.items()])

@@ -99,20 +99,20 @@ def model_orders(texts):
     bench, outcome = texts["crates/model/specs/Bench.antt"], texts["crates/calls/specs/Outcome.antt"]
     orders = {}
     for call, body in re.findall(r"^rules \(?(\w+).*? s = (.*)$", bench, re.M):
-        if re.fullmatch(rf"{call}Rules .*", body):
-            body = definition(texts[f"{MODEL_CALLS}/{call.capitalize()}.antt"], f"{call}Rules")
+        if re.fullmatch(rf"{call}_rules .*", body):
+            body = definition(texts[f"{MODEL_CALLS}/{call.capitalize()}.antt"], f"{call}_rules")
         octets = texts[f"{OCTET_CALLS}/{call.capitalize()}.antt"]
-        begins = definition(octets, f"{call}Call").split()[0]
-        first = (outcome, "entryRules") if begins == "called" else (octets, "roomRules")
+        begins = definition(octets, f"{call}_call").split()[0]
+        first = (outcome, "entry_rules") if begins == "called" else (octets, "room_rules")
         orders[call] = rules_in(definition(*first)) + rules_in(body)
     packet, look, read, run = (texts[f"crates/calls/specs/{name}.antt"] for name in ("Packet", "Look", "Read", "Run"))
-    orders["packet"] = rules_in(definition(outcome, "entryRules")) + rules_in(definition(packet, "packetRules"))
+    orders["packet"] = rules_in(definition(outcome, "entry_rules")) + rules_in(definition(packet, "packet_rules"))
     for call, text in (("state", look), ("run", run)):
-        begins, rules = definition(text, f"{call}Call").split()[:2]
+        begins, rules = definition(text, f"{call}_call").split()[:2]
         if begins != "called":
             raise LookupError(f"{call} begins with {begins}")
-        orders[call] = rules_in(definition(outcome, "entryRules")) + rules_in(rules)
-    orders["read"] = [Refusal(int(n)) for n in re.findall(r"refused (\d+)", definition(read, "foundOf"))]
+        orders[call] = rules_in(definition(outcome, "entry_rules")) + rules_in(rules)
+    orders["read"] = [Refusal(int(n)) for n in re.findall(r"refused (\d+)", definition(read, "found_of"))]
     return {call: [once(numbers) for numbers in by_kind(refusals)] for call, refusals in orders.items()}
 
 
