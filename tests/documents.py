@@ -288,7 +288,7 @@ def unlogged(texts):
 
 def imported(text, texts):
     """The definition files that a file names. Kinds files only name declared types."""
-    for crate, module in re.findall(r"^(?:pub )?use Rattle·(\w+)(?:·specs)?\.specs\.([\w.]+)", text, re.M):
+    for crate, module in re.findall(r"^(?:pub )?use Rattle\.(\w+)\.specs\.([\w.]+)", text, re.M):
         parts = module.rstrip(".").split(".")
         for end in range(len(parts), 0, -1):
             path = "crates/%s/specs/%s.antt" % (crate, "/".join(parts[:end]))
