@@ -7,7 +7,7 @@
     documents.py --write     writes the lines, sums and counts of today into the documents first
 
 What is checked:
-- every name in backticks is found in the repository;
+- every name in backticks is found in the repository (of all pages but docs/PORT.md, which says what names were);
 - `crate/File` is a file of that crate, and a name with "in `crate/File`" is declared there;
 - `crate::module::function`, and `crate::function` of a lib.rt, is that function; in docs/DEMANDS.md and in the same tables of
   the notes on changes none is written shorter, elsewhere `module::function` is enough where one crate has it;
@@ -30,6 +30,8 @@ DEMANDS = "docs/DEMANDS.md"
 WRONG = "docs/WRONG-PROGRAMS.md"
 PROOFS = "docs/PROOFS.md"
 DOCUMENTS = {README, "examples/README.md", "second/README.md", "compare/README.md"}
+# the page of the port, which says what names were and what they are
+PORT = "docs/PORT.md"
 CLAIM = "crates/calls/specs/Demand.antt"
 SKIPPED = {".git", "target", "build", "out", "__pycache__"}
 # crates of programs: their functions have no contracts of their own, other scripts compare what they print
@@ -58,7 +60,8 @@ def has_sentences(document):
 
 
 def documents(texts):
-    return [p for p in sorted(texts) if p in DOCUMENTS or (p.startswith("docs/") and p.endswith(".md"))]
+    pages = {p for p in texts if p.startswith("docs/") and p.endswith(".md")} - {PORT}
+    return sorted(p for p in texts if p in DOCUMENTS | pages)
 
 
 def crates(texts):
