@@ -14,7 +14,8 @@ What is checked:
 - a definition or a statement in a table is declared in a file that its section names, a proof in the file named with it, and
   what stands as a statement is one;
 - no cell of a table holds more than three names;
-- every public function has its wrong programs, and every must-fail edit its one row;
+- every public function has its wrong programs, and every must-fail edit its one row; of the calls that C links the row is that
+  of the call of crate bench, whose clauses they have to the letter;
 - the README's list of what is to be read has every file that states what the README or docs/DEMANDS.md cites, with all that
   these files import, and no other; the lines of each file, the sums, and which groups the claim needs, are right;
 - the functions of each crate, and the must-fail edits, are as many as docs/PROOFS.md says."""
@@ -36,6 +37,8 @@ CLAIM = "crates/calls/specs/Demand.antt"
 SKIPPED = {".git", "target", "build", "out", "__pycache__"}
 # crates of programs: their functions have no contracts of their own, other scripts compare what they print
 PROGRAMS = {"vectors", "paper"}
+# the calls, and the same ones as C links them
+CALLS, LINKED = "crates/bench/src/exports.rt", "crates/bench_c/src/lib.rt"
 # columns whose names are definitions, in the files that the section or the cell names
 DEFINED = {"definition", "statement", "law", "rules", "effect", "on octets", "from octets or numbers", "to octets and effects"}
 MOST_NAMES = 3
@@ -254,7 +257,9 @@ def public_functions(texts):
         if parts[0] == "crates" and parts[2] == "src" and path.endswith(".rt") and parts[1] not in PROGRAMS:
             crate, module = parts[1], os.path.splitext(parts[-1])[0]
             for name in re.findall(r"^pub (?:extern \"C\" )?fn (\w+)", texts[path], re.M):
-                if module == "lib":
+                if path == LINKED:
+                    yield {"%s::%s" % (crate, name), name}
+                elif module == "lib":
                     yield {"%s::%s" % (crate, name)}
                 else:
                     short = name if module == "exports" else "%s::%s" % (module, name)
@@ -267,6 +272,20 @@ def unruled(texts):
     for names in public_functions(texts):
         if not names & firsts:
             yield "there is no row for %s" % max(names, key=len)
+
+
+def contracts(path, texts):
+    """The arguments, the result and the clauses of the public functions of a module, by name."""
+    found = re.findall(r'^pub (?:extern "C" )?fn (\w+)(.*?)\n\{$', texts.get(path, ""), re.M | re.S)
+    return {name: re.sub(r"(?<=\() |,? (?=\))", "", re.sub(r"\s+", " ", said)) for name, said in found}
+
+
+def otherwise_linked(texts):
+    """Calls that C links under other clauses, and calls that it cannot link."""
+    calls, linked = contracts(CALLS, texts), contracts(LINKED, texts)
+    for name in sorted(calls.keys() | linked.keys()):
+        if calls.get(name) != linked.get(name):
+            yield "%s is linked as %s, and is %s" % (name, linked.get(name), calls.get(name))
 
 
 def edits(texts):
@@ -410,7 +429,7 @@ def wrong_claim(texts):
 # ---- how many
 
 
-COUNTED = r"^\| (\w+) \| (\d+|-) \| (\d+ s) \|$"
+COUNTED = r"^\| (\w+) \| (\d+|-) \| (\d+ s|-) \|$"
 EDITED = r"the (\d+) edits"
 
 
@@ -488,6 +507,7 @@ def check(texts):
         suite.check(document + ", cells", list(overfull(document, texts)))
     suite.check("wrong programs, functions", list(unruled(texts)))
     suite.check("wrong programs, edits", list(unlogged(texts)))
+    suite.check("the calls that C links", list(otherwise_linked(texts)))
     suite.check("statements that are cited", list(unfounded(texts)))
     suite.check("the list of what is to be read, files", list(missing_reading(texts)))
     suite.check("the list of what is to be read, lines", list(wrong_lines(texts)))
