@@ -199,16 +199,17 @@ def list_lines(first, terms, last):
 
 def statement(paper):
     lines, term = ("stroke_lines", stroke_term) if paper.pressed else ("lines", call_term)
+    name = paper.name.replace("-", "_")
     return "\n".join(
         [
             *textwrap.wrap(paper.shows, WIDTH, initial_indent="-- ", subsequent_indent="-- "),
-            f"{paper.name} :",
+            f"{name} :",
             f"    {lines}",
             *list_lines("    (", map(term, paper.calls), ")"),
             "    start",
             *list_lines("    ≡ ", map(line_term, paper.calls), ""),
             f"unfolding {lines}",
-            f"{paper.name} = refl",
+            f"{name} = refl",
         ]
     )
 

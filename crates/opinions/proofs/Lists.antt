@@ -10,7 +10,7 @@ use Rattle.opinions.specs.Shown.{line, refusal, done, puts, hands, ran, start, l
 
 -- Payload 4 and two credits on connection 0: consume returns no packet there, so that a message of three packets waits
 -- for a notice; before and after it the five numbers of report come to the grant.
-last-credit :
+last_credit :
     lines
     (fresh (hex 5 0x2004020402) ∷ command 0 0 (hex 1 0x01) ∷ down ∷ up ∷ up ∷ command 0 1 (hex 2 0x0000) ∷ down ∷ up
     ∷ command 1 3 (hex 3 0x010001) ∷ down ∷ up ∷ air (hex 4 0x02010400) ∷ up ∷ report 0 ∷ credit ∷ push 0
@@ -29,10 +29,10 @@ last-credit :
     ∷ hands (hex 5 0x0000000200) ∷ puts (hex 6 0x600603010002) ∷ hands (hex 5 0x0000000002) ∷ done
     ∷ hands (hex 5 0x0200000000) ∷ refusal 8 ∷ refusal 8 ∷ []
 unfolding lines
-last-credit = refl
+last_credit = refl
 
 -- An empty message and one of exactly two packets, there and back.
-empty-message :
+empty_message :
     lines
     (fresh (hex 5 0x2004020401) ∷ command 0 0 (hex 1 0x01) ∷ down ∷ up ∷ up ∷ command 0 1 (hex 2 0x0000) ∷ down ∷ up
     ∷ command 0 4 (hex 2 0x0100) ∷ down ∷ up ∷ send 2 [] ∷ push 2 ∷ down ∷ consume 2 ∷ up
@@ -47,11 +47,11 @@ empty-message :
     ∷ line 0 false (hex 7 0x02010405060708) ((hex 8 0x0102030405060708) ∷ []) ∷ done ∷ hands (hex 8 0x0102030405060708)
     ∷ hands (hex 5 0x0200000000) ∷ []
 unfolding lines
-empty-message = refl
+empty_message = refl
 
 -- Payload 4 and two credits: a message of five packets goes to a loopback and comes back without a notice, since each
 -- packet that comes up carries the credit for itself.
-credits-in-data :
+credits_in_data :
     lines
     (fresh (hex 5 0x2004020401) ∷ command 0 0 (hex 1 0x01) ∷ down ∷ up ∷ up ∷ command 0 1 (hex 2 0x0000) ∷ down ∷ up
     ∷ command 0 4 (hex 2 0x0100) ∷ down ∷ up ∷ send 2 (hex 17 0x0102030405060708090A0B0C0D0E0F1011) ∷ push 2 ∷ push 2
@@ -70,11 +70,11 @@ credits-in-data :
     ∷ line 0 false (hex 4 0x02010111) ((hex 17 0x0102030405060708090A0B0C0D0E0F1011) ∷ []) ∷ hands (hex 5 0x0000000002)
     ∷ refusal 8 ∷ done ∷ hands (hex 17 0x0102030405060708090A0B0C0D0E0F1011) ∷ hands (hex 5 0x0200000000) ∷ []
 unfolding lines
-credits-in-data = refl
+credits_in_data = refl
 
 -- Five credits are owed on connection 0: the first reply carries three of them, the second the other two, the third
 -- none; the host holds them as it reads the replies.
-credits-in-replies :
+credits_in_replies :
     lines
     (fresh (hex 5 0x2004020105) ∷ command 0 0 (hex 1 0x01) ∷ down ∷ up ∷ up ∷ command 0 1 (hex 2 0x0000) ∷ down ∷ up
     ∷ command 1 3 (hex 3 0x010001) ∷ down ∷ up ∷ air (hex 4 0x02010400) ∷ up ∷ send 0 (hex 5 0x0102030405) ∷ push 0
@@ -93,10 +93,10 @@ credits-in-replies :
     ∷ hands (hex 5 0x0300000002) ∷ hands (hex 1 0xA2) ∷ hands (hex 5 0x0500000000) ∷ hands (hex 1 0xA3)
     ∷ hands (hex 5 0x0500000000) ∷ []
 unfolding lines
-credits-in-replies = refl
+credits_in_replies = refl
 
 -- Without flow control nothing but the store's eight places holds the host back.
-full-store :
+full_store :
     lines
     (fresh (hex 5 0x2001FF01FF) ∷ command 0 0 (hex 1 0x01) ∷ down ∷ up ∷ up ∷ command 0 1 (hex 2 0x0000) ∷ down ∷ up
     ∷ command 0 4 (hex 2 0x0100) ∷ down ∷ up ∷ report 2 ∷ send 2 (hex 10 0x01020304050607080910) ∷ push 2 ∷ down
@@ -112,10 +112,10 @@ full-store :
     ∷ hands (hex 5 0xFF01080000) ∷ puts (hex 4 0x12000101) ∷ done ∷ done ∷ puts (hex 4 0x02000110) ∷ refusal 12
     ∷ puts (hex 4 0x12000102) ∷ refusal 8 ∷ hands (hex 5 0xFF01070000) ∷ []
 unfolding lines
-full-store = refl
+full_store = refl
 
 -- Sixteen packets on the way down: neither a seventeenth nor a command has a slot.
-full-down-wire :
+full_down_wire :
     lines
     (fresh (hex 5 0x2001FF01FF) ∷ command 0 0 (hex 1 0x01) ∷ down ∷ up ∷ up ∷ command 0 1 (hex 2 0x0000) ∷ down ∷ up
     ∷ command 0 4 (hex 2 0x0100) ∷ down ∷ up ∷ send 2 (hex 17 0x0102030405060708090A0B0C0D0E0F1011) ∷ push 2 ∷ push 2
@@ -133,10 +133,10 @@ full-down-wire :
     ∷ hands (hex 5 0xFF10000000) ∷ done ∷ puts (hex 4 0x02000111) ∷ refusal 4 ∷ done ∷ puts (hex 4 0x200501FF)
     ∷ refusal 4 ∷ []
 unfolding lines
-full-down-wire = refl
+full_down_wire = refl
 
 -- Sixteen packets on the way up: what needs a slot there waits, and the last packet of a command needs two.
-full-up-wire :
+full_up_wire :
     lines
     (fresh (hex 5 0x2001FF01FF) ∷ command 0 0 (hex 1 0x01) ∷ down ∷ up ∷ up ∷ command 0 1 (hex 2 0x0000) ∷ down ∷ up
     ∷ command 0 4 (hex 2 0x0100) ∷ down ∷ up ∷ send 2 (hex 17 0x0102030405060708090A0B0C0D0E0F1011) ∷ push 2 ∷ down
@@ -164,7 +164,7 @@ full-up-wire :
     ∷ line 0 false (hex 4 0x02000111) ((hex 17 0x0102030405060708090A0B0C0D0E0F1011) ∷ []) ∷ refusal 4 ∷ done ∷ done
     ∷ puts (hex 7 0x4004040001FF03) ∷ done ∷ []
 unfolding lines
-full-up-wire = refl
+full_up_wire = refl
 
 -- Two tags are found; one is selected, fails, is selected again, activated, spoken with, put to sleep and released.
 tag :
@@ -241,7 +241,7 @@ close = refl
 
 -- A loopback closes with credits on their way: the host reads them with the packets that came before the response, and
 -- cannot spend them any more; the next connection starts with its own.
-credits-during-close :
+credits_during_close :
     lines
     (fresh (hex 5 0x2004020401) ∷ command 0 0 (hex 1 0x01) ∷ down ∷ up ∷ up ∷ command 0 1 (hex 2 0x0000) ∷ down ∷ up
     ∷ command 0 4 (hex 2 0x0100) ∷ down ∷ up ∷ send 2 (hex 9 0x010203040506070809) ∷ push 2 ∷ push 2 ∷ push 2 ∷ down
@@ -258,11 +258,11 @@ credits-during-close :
     ∷ refusal 6 ∷ refusal 8 ∷ puts (hex 5 0x2004020100) ∷ puts (hex 7 0x40040400040203) ∷ done
     ∷ hands (hex 5 0x0200000000) ∷ []
 unfolding lines
-credits-during-close = refl
+credits_during_close = refl
 
 -- While a close or a reset is under way every send is turned away, on any connection; what the response discards was in
 -- hand before the command.
-send-during-close :
+send_during_close :
     lines
     (fresh (hex 5 0x2004020401) ∷ command 0 0 (hex 1 0x01) ∷ down ∷ up ∷ up ∷ command 0 1 (hex 2 0x0000) ∷ down ∷ up
     ∷ command 0 4 (hex 2 0x0100) ∷ down ∷ up ∷ command 0 4 (hex 2 0x0100) ∷ down ∷ up
@@ -279,11 +279,11 @@ send-during-close :
     ∷ puts (hex 4 0x20000100) ∷ refusal 15 ∷ refusal 15 ∷ puts (hex 12 0x400001006000050200200000) ∷ refusal 15 ∷ done
     ∷ refusal 6 ∷ done ∷ []
 unfolding lines
-send-during-close = refl
+send_during_close = refl
 
 -- A close and a reset that are refused turn sends away too, until their answers are read, and discard nothing; another
 -- command turns none away.
-send-during-refused-close :
+send_during_refused_close :
     lines
     (fresh (hex 5 0x2004020401) ∷ command 0 0 (hex 1 0x01) ∷ down ∷ up ∷ up ∷ command 0 1 (hex 2 0x0000) ∷ down ∷ up
     ∷ command 0 4 (hex 2 0x0100) ∷ down ∷ up ∷ send 2 (hex 5 0x0102030405) ∷ push 2 ∷ command 0 5 (hex 1 0x05)
@@ -298,10 +298,10 @@ send-during-refused-close :
     ∷ puts (hex 4 0x02000105) ∷ done ∷ done ∷ puts (hex 4 0x20000107) ∷ refusal 15 ∷ puts (hex 4 0x40000105)
     ∷ refusal 15 ∷ done ∷ refusal 7 ∷ puts (hex 5 0x2001020000) ∷ refusal 7 ∷ refusal 6 ∷ []
 unfolding lines
-send-during-refused-close = refl
+send_during_refused_close = refl
 
 -- A reset in the middle of traffic, and the power key.
-reset-and-power :
+reset_and_power :
     lines
     (fresh (hex 5 0x2004020401) ∷ command 0 0 (hex 1 0x01) ∷ down ∷ up ∷ up ∷ command 0 1 (hex 2 0x0000) ∷ down ∷ up
     ∷ command 0 4 (hex 2 0x0100) ∷ down ∷ up ∷ send 2 (hex 5 0x0102030405) ∷ push 2 ∷ down ∷ command 0 0 (hex 1 0x00)
@@ -320,7 +320,7 @@ reset-and-power :
     ∷ done ∷ done ∷ puts (hex 5 0x2001020000) ∷ puts (hex 19 0x40011000000000000400002000000000010100) ∷ done
     ∷ refusal 6 ∷ puts (hex 5 0x2004020100) ∷ puts (hex 7 0x40040400040202) ∷ done ∷ hands (hex 5 0x0200000000) ∷ []
 unfolding lines
-reset-and-power = refl
+reset_and_power = refl
 
 -- Arguments outside their limits, and commands that are unknown, too short or too early.
 limits :
@@ -346,7 +346,7 @@ limits = refl
 
 -- Connection 2 has packets of one octet and one credit, connection 3 packets of 255 and eight credits: the one waits
 -- for every credit while the other goes on, and the five numbers of each come to its own grant.
-tight-and-loose :
+tight_and_loose :
     lines
     (fresh (hex 11 0x200101FF08040204020401) ∷ command 0 0 (hex 1 0x01) ∷ down ∷ up ∷ up ∷ command 0 1 (hex 2 0x0000)
     ∷ down ∷ up ∷ command 0 4 (hex 2 0x0100) ∷ down ∷ up ∷ report 2 ∷ command 0 4 (hex 2 0x0100) ∷ down ∷ up ∷ report 3
@@ -370,11 +370,11 @@ tight-and-loose :
     ∷ line 0 false (hex 4 0x02010102) ((hex 2 0x0102) ∷ []) ∷ hands (hex 2 0x0102) ∷ hands (hex 5 0x0100000000)
     ∷ refusal 8 ∷ []
 unfolding lines
-tight-and-loose = refl
+tight_and_loose = refl
 
 -- A profile is refused for a pair outside its limits, whichever ID it is for. Each of 2 to 5 opens with the pair of its
 -- own ID, and again with it when the ID is given again; the last pair is that of connection 0.
-own-pairs :
+own_pairs :
     lines
     (fresh (hex 11 0x2004000402040204020401) ∷ fresh (hex 11 0x2004020409040204020401)
     ∷ fresh (hex 11 0x2004020402000204020401) ∷ fresh (hex 11 0x2004020402040204FE0401)
@@ -396,11 +396,11 @@ own-pairs :
     ∷ hands (hex 5 0x0200000000) ∷ puts (hex 6 0x210303010001) ∷ puts (hex 4 0x41030100) ∷ done
     ∷ puts (hex 14 0x61050B0101040003030000000000) ∷ hands (hex 5 0x0000000003) ∷ done ∷ hands (hex 5 0x0300000000) ∷ []
 unfolding lines
-own-pairs = refl
+own_pairs = refl
 
 -- Sets and gets: before INIT, of every parameter, in two segments, with invalid, unknown and repeated ones, without
 -- octets, cut short and with octets to spare; a response that would pass 255 octets. The numbers of report stay.
-set-and-get :
+set_and_get :
     lines
     (fresh (hex 5 0x2004020401) ∷ command 0 2 (hex 3 0x010801) ∷ down ∷ up ∷ command 0 2 (hex 4 0x01080101) ∷ down ∷ up
     ∷ command 0 3 (hex 2 0x0108) ∷ down ∷ up ∷ command 0 0 (hex 1 0x01) ∷ down ∷ up ∷ up ∷ command 0 1 (hex 2 0x0000)
@@ -447,11 +447,11 @@ set-and-get :
     ∷ puts (hex 5 0x2003020120) ∷ puts (hex 22 0x4003130001200FA0A1A2A3A4A5A6A7A8A9AAABACADAE) ∷ done
     ∷ puts (hex 7 0x12010401020304) ∷ done ∷ hands (hex 5 0x0200000000) ∷ []
 unfolding lines
-set-and-get = refl
+set_and_get = refl
 
 -- A set that names a parameter is refused elsewhere than in IDLE, a get is not; a reset of type 0 keeps the values, one
 -- of type 1, power and fresh restore the defaults.
-values-kept :
+values_kept :
     lines
     (fresh (hex 5 0x2004020401) ∷ command 0 0 (hex 1 0x01) ∷ down ∷ up ∷ up ∷ command 0 1 (hex 2 0x0000) ∷ down ∷ up
     ∷ command 0 2 (hex 11 0x030901032002ABCD680120) ∷ down ∷ up ∷ command 0 3 (hex 4 0x03682009) ∷ down ∷ up
@@ -500,13 +500,13 @@ values-kept :
     ∷ done ∷ done ∷ puts (hex 5 0x2001020000) ∷ puts (hex 19 0x40011000000000000400002000000000010100) ∷ done
     ∷ puts (hex 5 0x2003020118) ∷ puts (hex 8 0x4003050001180101) ∷ done ∷ []
 unfolding lines
-values-kept = refl
+values_kept = refl
 
 -- Two credits on each connection, and presses of Run to rest: commands to their ends, messages there and back on two
 -- loopbacks and on connection 0, with a notice of credits there, and a reply that waits for what the host sends. A
 -- press ends with a message that is handed out, and some make no move; one drops what was under way when the field went
 -- off.
-run-to-rest :
+run_to_rest :
     stroke_lines
     (calls (fresh (hex 5 0x2004020402)) ∷ runs ∷ calls (command 0 0 (hex 1 0x01)) ∷ runs
     ∷ calls (command 0 1 (hex 2 0x0000)) ∷ runs ∷ calls (command 0 4 (hex 2 0x0100)) ∷ runs
@@ -533,12 +533,12 @@ run-to-rest :
     ∷ ran 1 false ((hex 1 0xF1) ∷ []) ∷ ran 0 false [] ∷ refusal 6 ∷ hands (hex 5 0x0200000000) ∷ done
     ∷ puts (hex 4 0x020001AB) ∷ puts (hex 4 0x20050102) ∷ ran 3 false [] ∷ ran 0 false [] ∷ done ∷ ran 0 false [] ∷ []
 unfolding stroke_lines
-run-to-rest = refl
+run_to_rest = refl
 
 -- Presses whose moves can be foretold, since nothing is under way: three segments on a loopback, three on connection 0
 -- and one of the endpoint take 12, 15 and 2 moves, 29 in four presses, and empty messages 4, 5 and 2. Without flow
 -- control three segments on connection 0 take 9, and of two on a loopback the one that is left takes 4.
-moves-foretold :
+moves_foretold :
     stroke_lines
     (calls (fresh (hex 5 0x2004020401)) ∷ calls (command 0 0 (hex 1 0x01)) ∷ runs ∷ calls (command 0 1 (hex 2 0x0000))
     ∷ runs ∷ calls (command 0 4 (hex 2 0x0100)) ∷ runs ∷ calls (command 1 3 (hex 3 0x010001)) ∷ runs
@@ -567,4 +567,4 @@ moves-foretold :
     ∷ refusal 6 ∷ refusal 6 ∷ ran 9 false ((hex 9 0xA1A2A3A4A5A6A7A8A9) ∷ []) ∷ ran 3 false ((hex 5 0xC1C2C3C4C5) ∷ [])
     ∷ ran 1 false ((hex 5 0xC1C2C3C4C5) ∷ []) ∷ ran 0 false [] ∷ []
 unfolding stroke_lines
-moves-foretold = refl
+moves_foretold = refl
