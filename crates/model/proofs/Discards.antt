@@ -275,7 +275,7 @@ call_marked up s aim l n t f m = up_marked s aim l n t f m
 call_marked (report c) s aim l n t f m = aside m (refl, λ d. refl)
 
 -- a refused call only has its place
-turned_marked : (s : State) (n : Diary) → MarkedIn s n → MarkedIn s (turned n)
+pub turned_marked : (s : State) (n : Diary) → MarkedIn s n → MarkedIn s (turned n)
 turned_marked s n m = aside m (refl, λ d. refl)
 
 pub refused_marked : (e : Event) (i : ℕ) → e.answer ≡ refused i → (s : State) (o : Account) (n : Diary) → Kept s o → MarkedIn s n → MarkedIn s (note e o n)
