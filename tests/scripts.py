@@ -31,6 +31,7 @@ mkdir $top/rt-at-work || { echo "rt: two at once"; exit 1; }
 echo "$1 ${PWD##*/}" >>$top/calls
 echo "rt: chose --jobs 2 for state"
 echo "a line of the prover"
+echo "library octets: modules loaded=51 checked=0"
 echo "logic=proved functions=1 native=nat,char,string"
 sleep "${RT_SECONDS:-0}"
 echo "rt: chose --jobs 2 for dh"
