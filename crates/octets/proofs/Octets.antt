@@ -7,6 +7,8 @@ use native.Mathlib.Nat.{le_of_suc-le-suc, not-suc-le-zero, zero-add, suc-add, su
 use native.Mathlib.Omega.{arith}
 use lib.ListN.{length, take, drop, set, get_or, length-append, length-take, length-drop, take-append-drop}
 use lib.Seq.{take_all, take-take, drop-drop, take-nil, take-add, get_or-take, get_or-drop, ext_get_or}
+use borrow.Rule.Slice.PartMut.{put_mid}
+use Rattle.std.specs.List.{copy_within}
 use Rattle.octets.specs.Octets.{Octets, cut, over, splice}
 
 -- ---- cut
@@ -168,6 +170,21 @@ unfolding cut
 splice_lent a w s k p h e =
     let j : s + k - s ≡ k = omega arith in
     (λ i. take s a ++ (e i ++ drop (j i) (drop s a))) ∙ back a s k p h
+
+-- `a[s..s + k].copy_from_slice(p)`, which leaves p in the part's place
+pub splice_part : (a w p : Octets) (s : ℕ) → s + length p ≤ length a → w ≡ p → put_mid s (s + length p - s) a w ≡ splice a s p
+splice_part a w p s h e =
+    splice_lent a w s (length p) p (omega arith) (e ∙ sym (splice_all (cut s (length p) a) p (length_cut s (length p) a h)))
+
+-- `copy_within(from..from + n, at)`: a part of the area written over the area
+pub splice_within : (a : Octets) (from at n : ℕ) → from + n ≤ length a → at + n ≤ length a → copy_within a from (from + n) at ≡ splice a at (cut from n a)
+splice_within a from at n h k =
+    let all : from + n - from ≡ at + n - at = omega arith in
+    let v = cut from n a in
+    let same = sym (splice_all (cut at n a) v (length_cut at n a k ∙ sym (length_cut from n a h))) in
+    append_assoc (take at a) (take (from + n - from) (drop from a)) (drop (at + (from + n - from)) a)
+    ∙ (λ i. take at a ++ (cut_part from n a i ++ (sym (drop-drop (from + n - from) at a) ∙ ap (λ (m : ℕ). drop m (drop at a)) all) i))
+    ∙ splice_lent a v at n v (cut_short from n a) same
 
 -- ---- splice: one after another
 

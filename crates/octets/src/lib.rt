@@ -1,5 +1,4 @@
 // Parts of octet slices: read as a part, written over, and copied inside an area. Nothing here knows of NCI.
-// These are the only functions of the project that loop over octets to copy them.
 #![tactic(auto)]
 
 ghost use Rattle.std.specs.Prelude.{◌≡◌, ◌+◌, ◌≤◌, length, get_or};
@@ -16,42 +15,31 @@ pub fn choose(test: bool, a: u8, b: u8) -> u8
 pub fn window<'a>(s: &'a [u8], at: usize, n: usize) -> &'a [u8]
     ensures { result.now ≡ cut at n s.now }
 {
-    if s.len() < at {
-        return &s[0..0];
-    }
-    if s.len() - at < n {
-        &s[at..]
-    } else {
-        &s[at..at + n]
-    }
+    let rest = &s[at.min(s.len())..];
+    &rest[..n.min(rest.len())]
 }
 
 // The octet of s at index i, and 0 past its end.
 pub fn octet_at(s: &[u8], i: usize) -> u8
     ensures { result ≡ get_or s.now i 0 }
 {
-    if i < s.len() { s[i] } else { 0 }
+    s.get(i).copied().unwrap_or(0)
 }
 
 // Writes src over dst from index at on.
+#[tactic(auto, using(crate::proofs::Octets::splice_part))]
 pub fn put(dst: &mut [u8], at: usize, src: &[u8])
     requires { at + length src.now ≤ length dst.old }
     ensures { dst.new ≡ splice dst.old at src.now }
 {
-    let mut i = 0;
-    while i < src.len() {
-        dst[at + i] = src[i];
-        i += 1;
-    }
+    dst[at..at + src.len()].copy_from_slice(src);
 }
 
-// Writes the n octets of the area from index from on over those from index to on. The two parts may share octets: they go
-// through a local array, since two parts of one slice cannot be borrowed at once.
+// Writes the n octets of the area from index from on over those from index to on. The two parts may share octets.
+#[tactic(auto, using(crate::proofs::Octets::splice_within))]
 pub fn copy_part(area: &mut [u8], from: usize, to: usize, n: usize)
-    requires { (n ≤ 1024) × (from + n ≤ length area.old) × (to + n ≤ length area.old) }
+    requires { (from + n ≤ length area.old) × (to + n ≤ length area.old) }
     ensures { area.new ≡ splice area.old to (cut from n area.old) }
 {
-    let mut between = [0u8; 1024];
-    put(&mut between, 0, &area[from..from + n]);
-    put(area, to, &between[0..n]);
+    area.copy_within(from..from + n, to);
 }

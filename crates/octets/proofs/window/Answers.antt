@@ -1,25 +1,17 @@
--- `octets::window` meets its contract: past the end there is nothing, near it what is left, and else the part itself.
-use Prim.Native.Nat.{◌-◌}
-use mathlib.Core.Path.{sym, ◌∙◌}
+-- `octets::window` meets its contract: both bounds are cut to what there is.
+use Prim.Native.Nat.{ℕ, ◌-◌}
+use mathlib.Core.Path.{ap, ◌∙◌}
 use native.Mathlib.Omega.{arith}
-use lib.ListN.{length, drop, drop_of_length-le, length-drop}
-use lib.Seq.{take-nil, take_all}
+use lib.ListN.{length, take, drop, length-drop}
+use lib.Seq.{take_all}
+use Rattle.std.proofs.lemmas.List.{take_min, drop_min}
 use Rattle.octets.specs.Octets.{cut}
-use Rattle.octets.proofs.Octets.{cut_part}
 use Rattle.octets.proofs.window.Goals as goal
 
-pub returns-then-s-at : goal.returns-then-s-at
+pub returns : goal.returns
 unfolding cut
-returns-then-s-at c =
-    let a = c.args in
-    rw (drop_of_length-le a.s.now {i = a.at} (omega arith)) (sym (take-nil a.n))
-
-pub returns-then-s-at-2 : goal.returns-then-s-at-2
-unfolding cut
-returns-then-s-at-2 c =
-    let a = c.args in
-    take_all (length a.s.now - a.at) (drop a.at a.s.now) (simp length-drop (omega arith))
-    ∙ sym (take_all a.n (drop a.at a.s.now) (simp length-drop (omega arith)))
-
-pub returns-else-s-at-2 : goal.returns-else-s-at-2
-returns-else-s-at-2 c = cut_part _ _ _
+returns c =
+    let s = c.args.s.now in
+    let i = c.min.result in
+    let rest = take_all (length s - i) (drop i s) (simp length-drop (omega arith)) ∙ ap (λ (k : ℕ). drop k s) c.min.ensures ∙ drop_min c.args.at s in
+    ap (λ (k : ℕ). take k (take (length s - i) (drop i s))) c.min-2.ensures ∙ take_min c.args.n _ ∙ ap (take c.args.n) rest
