@@ -2,18 +2,19 @@
 -- Assumes nothing.
 use Prim.Native.Nat.{ℕ, zero, suc, ◌+◌, ◌-◌, ◌*◌, ◌/◌, ◌%◌, ◌≤◌, ◌<◌}
 use mathlib.Core.Path.{◌≡◌, refl, sym, ap, ◌∙◌}
-use mathlib.Core.Bool.{true, ◌&&◌}
+use mathlib.Core.Bool.{Bool, true, ◌&&◌}
 use mathlib.Core.List.{[], ◌∷◌, ◌++◌}
 use native.Mathlib.Nat.{div-div-eq-div-mul}
 use native.Mathlib.Omega.{arith}
 use native.Mathlib.Decide.{dec_lt}
 use borrow.Author.Tests.{lt-ltb, le-ltb, ltb-true}
 use lib.ListN.{length, take, drop, get_or}
-use lib.Seq.{drop-cons}
 use lib.Dec.{ltb, eqb}
-use Rattle.octets.specs.Octets.{Octets}
+use Rattle.std.proofs.Common.{Some, None}
+use Rattle.std.specs.List.{list_all}
+use Rattle.octets.specs.Octets.{Octets, pick}
 use Rattle.octets.specs.Octal.{Octal, octal_nil, octal_cons}
-use Rattle.ascii.specs.Digits.{digit_of, value_of, hex_of, all_digits, is_hex, octets_in, figure_of, figures_of, leading_in, decimal_of, number_from}
+use Rattle.ascii.specs.Digits.{digit_of, value_of, digit_value, hex_of, all_digits, is_hex, octets_in, figure_of, figures_of, leading_in, decimal_of, number_from}
 use Rattle.ascii.proofs.Words.{Solid, solid_nil, solid_cons, both}
 
 -- ---- digit_of
@@ -59,6 +60,10 @@ module _ (c : ℕ) where
       let l : 65 ≤ c = omega arith in
       simp (le-ltb _ _ j, le-ltb _ _ k, le-ltb _ _ l, le-ltb _ _ h)
 
+  -- where it is a digit
+  value_there : value_of c < 16 → digit_value c ≡ Some (value_of c)
+  value_there h = ap (λ (t : Bool). pick t (Some (value_of c)) None) (lt-ltb _ _ h)
+
 -- the value of a number's digit is the number's low four bits
 pub value_digit : (n : ℕ) → value_of (digit_of n) ≡ n % 16
 value_digit n = go (dec_lt (n % 16) 10)
@@ -100,10 +105,11 @@ hex_solid (x ∷ l) = solid_cons (digit_solid (x / 16)) (solid_cons (digit_solid
 
 -- ---- all_digits, is_hex
 
--- one turn of a look at each character
-pub digits_turn : (l : Octets) (i : ℕ) → i < length l → all_digits (drop i l) ≡ (ltb (value_of (get_or l i 0)) 16 && all_digits (drop (suc i) l))
+-- `text.iter().all(..)`
+pub digits_all : (l : Octets) → list_all (λ x. ltb (value_of x) 16) l ≡ all_digits l
 unfolding all_digits
-digits_turn l i h = ap all_digits (drop-cons l i 0 h)
+digits_all [] = refl
+digits_all (c ∷ l) = ap (λ (t : Bool). ltb (value_of c) 16 && t) (digits_all l)
 
 digits_at : (l : Octets) → all_digits l ≡ true → (i : ℕ) → i < length l → value_of (get_or l i 0) < 16
 unfolding all_digits
@@ -115,6 +121,9 @@ module _ (l : Octets) (e : is_hex l ≡ true) where
   pub hex_at : (i : ℕ) → i < length l → value_of (get_or l i 0) < 16
   unfolding is_hex
   hex_at = digits_at l (both (eqb (length l % 2) 0) (all_digits l) e).1
+
+  pub digit_at : (i : ℕ) → i < length l → digit_value (get_or l i 0) ≡ Some (value_of (get_or l i 0))
+  digit_at i h = value_there (get_or l i 0) (hex_at i h)
 
 -- ---- octets_in
 

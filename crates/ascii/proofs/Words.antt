@@ -1,47 +1,25 @@
 -- The laws of `specs/Words.antt`, in the order of its definitions.
 -- Assumes nothing.
-use Prim.Native.Nat.{ℕ, suc, ◌≤◌, ◌<◌}
-use mathlib.Core.Path.{◌≡◌, refl, ap}
-use mathlib.Core.Bool.{Bool, true, false, ◌&&◌, false≢true}
+use Prim.Native.Nat.{ℕ, suc, ◌+◌, ◌≤◌, ◌<◌}
+use mathlib.Core.Path.{◌≡◌, refl, sym, ap, ◌∙◌}
+use mathlib.Core.Bool.{Bool, true, false, ◌&&◌, cond, not, false≢true}
 use mathlib.Core.List.{[], ◌∷◌, ◌++◌}
 use native.Mathlib.Omega.{arith}
-use borrow.Author.Tests.{eq-eqb, ne_eqb, eqb-true}
-use lib.ListN.{length, take, drop, get_or, drop_of_length-le}
-use lib.Seq.{drop-cons}
-use lib.Dec.{eqb}
+use borrow.Author.Tests.{eq-eqb, ne_eqb, eqb-true, ltb-false}
+use lib.ListN.{length, take, drop}
+use lib.Dec.{eqb, ltb}
+use lib.Pointwise.{pointwise}
+use Rattle.std.specs.List.{position_or_len, position}
+use Rattle.std.specs.Option.{unwrap_or}
+use Rattle.std.proofs.Common.{Some, None}
 use Rattle.octets.specs.Octets.{Octets, pick, cut}
-use Rattle.ascii.specs.Words.{same_as, up_to, ahead, words}
+use Rattle.ascii.specs.Words.{same_as, starts_with, up_to, ahead, words}
 
 pub both : (a b : Bool) → (a && b) ≡ true → (a ≡ true) × (b ≡ true)
 both true b e = (refl, e)
 both false b e = absurd (false≢true e)
 
 -- ---- same_as
-
-same_long : (a b : Octets) → same_as a b ≡ true → length a ≡ length b
-unfolding same_as
-same_long [] [] e = refl
-same_long [] (y ∷ b) e = absurd (false≢true e)
-same_long (x ∷ a) [] e = absurd (false≢true e)
-same_long (x ∷ a) (y ∷ b) e = ap suc (same_long a b (both (eqb x y) (same_as a b) e).1)
-
--- of another length
-pub same_short : (a b : Octets) → (length a ≡ length b → ⊥) → same_as a b ≡ false
-same_short a b n = go (same_as a b) refl
-  where
-    go : (t : Bool) → same_as a b ≡ t → t ≡ false
-    go true e = absurd (n (same_long a b e))
-    go false e = refl
-
--- one turn of a comparison
-pub same_turn : (a b : Octets) (i : ℕ) → i < length a → i < length b
-    → same_as (drop i a) (drop i b) ≡ (eqb (get_or a i 0) (get_or b i 0) && same_as (drop (suc i) a) (drop (suc i) b))
-unfolding same_as
-same_turn a b i h k = λ j. same_as (drop-cons a i 0 h j) (drop-cons b i 0 k j)
-
-pub same_end : (a b : Octets) (i : ℕ) → length a ≤ i → length b ≤ i → same_as (drop i a) (drop i b) ≡ true
-unfolding same_as
-same_end a b i h k = λ j. same_as (drop_of_length-le a h j) (drop_of_length-le b k j)
 
 pub same_true : (a b : Octets) → same_as a b ≡ true → a ≡ b
 unfolding same_as
@@ -52,17 +30,34 @@ same_true (x ∷ a) (y ∷ b) e =
     let t = both (eqb x y) (same_as a b) e in
     λ i. eqb-true x y t.0 i ∷ same_true a b t.1 i
 
+-- `a == b` of slices
+pub same_pointwise : (a b : Octets) → pointwise eqb a b ≡ same_as a b
+unfolding same_as
+same_pointwise [] [] = refl
+same_pointwise [] (y ∷ b) = refl
+same_pointwise (x ∷ a) [] = refl
+same_pointwise (x ∷ a) (y ∷ b) = ap (λ (t : Bool). eqb x y && t) (same_pointwise a b)
+
+eqb_turned : (x y : ℕ) → eqb y x ≡ eqb x y
+eqb_turned x y = go (eqb x y) refl
+  where
+    go : (t : Bool) → eqb x y ≡ t → eqb y x ≡ eqb x y
+    go true e = eq-eqb y x (sym (eqb-true x y e)) ∙ sym e
+    go false e = ne_eqb y x (λ k. false≢true (sym e ∙ eq-eqb x y (sym k))) ∙ sym e
+
+-- `text.starts_with(word)`
+turned_pointwise : (a b : Octets) → pointwise eqb b a ≡ same_as a b
+unfolding same_as
+turned_pointwise [] [] = refl
+turned_pointwise [] (y ∷ b) = refl
+turned_pointwise (x ∷ a) [] = refl
+turned_pointwise (x ∷ a) (y ∷ b) = λ i. eqb_turned x y i && turned_pointwise a b i
+
+pub starts_pointwise : (text word : Octets) → pointwise eqb word (take (length word) text) ≡ starts_with text word
+unfolding starts_with cut
+starts_pointwise text word = turned_pointwise (take (length word) text) word
+
 -- ---- up_to
-
--- one turn of a search
-pub up_to_turn : (c : ℕ) (l : Octets) (i : ℕ) → i < length l
-    → up_to c (drop i l) ≡ pick (eqb (get_or l i 0) c) [] (get_or l i 0 ∷ up_to c (drop (suc i) l))
-unfolding up_to
-up_to_turn c l i h = ap (up_to c) (drop-cons l i 0 h)
-
-pub up_to_end : (c : ℕ) (l : Octets) (i : ℕ) → length l ≤ i → up_to c (drop i l) ≡ []
-unfolding up_to
-up_to_end c l i h = ap (up_to c) (drop_of_length-le l h)
 
 pub up_to_short : (c : ℕ) (l : Octets) → length (up_to c l) ≤ length l
 unfolding up_to
@@ -72,6 +67,24 @@ up_to_short c (x ∷ l) = go (eqb x c) (up_to_short c l)
     go : (t : Bool) → length (up_to c l) ≤ length l → length (pick t [] (x ∷ up_to c l)) ≤ suc (length l)
     go true h = omega arith
     go false h = omega arith
+
+-- how many there are: `text.iter().position(..)`, or all
+up_to_place : (c : ℕ) (l : Octets) → position_or_len (λ x. eqb x c) l ≡ length (up_to c l)
+unfolding up_to
+up_to_place c [] = refl
+up_to_place c (x ∷ l) = go (eqb x c) (up_to_place c l)
+  where
+    go : (t : Bool) → position_or_len (λ y. eqb y c) l ≡ length (up_to c l) → cond (not t) (1 + position_or_len (λ y. eqb y c) l) 0 ≡ length (pick t [] (x ∷ up_to c l))
+    go true e = refl
+    go false e = omega arith
+
+pub up_to_position : (c : ℕ) (l : Octets) → unwrap_or (position (λ x. eqb x c) l) (length l) ≡ length (up_to c l)
+up_to_position c l = go (ltb (position_or_len (λ x. eqb x c) l) (length l)) refl ∙ up_to_place c l
+  where
+    go : (t : Bool) → ltb (position_or_len (λ x. eqb x c) l) (length l) ≡ t
+        → unwrap_or (cond t (Some (position_or_len (λ x. eqb x c) l)) None) (length l) ≡ position_or_len (λ x. eqb x c) l
+    go true e = refl
+    go false e = omega (arith, ltb-false _ _ e, up_to_place c l, up_to_short c l)
 
 -- it is the front of the text
 pub up_to_front : (c : ℕ) (l : Octets) → cut 0 (length (up_to c l)) l ≡ up_to c l

@@ -1,13 +1,13 @@
 -- Texts written one after another.
 -- Assumes nothing.
-use Prim.Native.Nat.{ℕ, zero, suc, ◌+◌, ◌-◌, ◌≤◌, ◌<◌, min}
+use Prim.Native.Nat.{ℕ, zero, suc, ◌+◌, ◌-◌, ◌≤◌, min}
 use mathlib.Core.Path.{◌≡◌, refl, sym, ap, subst, ◌∙◌}
 use mathlib.Core.List.{[], ◌∷◌, ◌++◌}
 use native.Mathlib.Nat.{le_of_suc-le-suc, not-suc-le-zero}
 use native.Mathlib.Omega.{arith}
 use native.Mathlib.Decide.{dec_le}
 use lib.ListN.{length, take, drop, length-append, take-append-drop}
-use lib.Seq.{length-take-le}
+use lib.Seq.{length-take-le, take_all}
 use Rattle.octets.specs.Octets.{Octets, over, splice}
 use Rattle.octets.proofs.Octets.{splice_nil, splice_next, length_splice}
 use Rattle.ascii.specs.Writing.{Wrote}
@@ -43,20 +43,21 @@ splice_full l zero a b h = over_full l a b (omega arith)
 splice_full [] (suc n) a b h = refl
 splice_full (x ∷ l) (suc n) a b h = ap (λ (t : Octets). x ∷ t) (splice_full l n a b (omega arith))
 
--- a text of which the front is written, as much as there is room for
-pub wrote_front : (l v m : Octets) (at : ℕ) → at ≤ length l → length l - at < length v
-    → m ≡ splice l at (take (length l - at - 0) (drop 0 v)) → Wrote l at v (length m) m
-wrote_front l v m at h k e =
-    let n = length l - at in
-    let none : length l - at - 0 ≡ length l - at = omega arith in
-    let long : length (take n v) ≡ n = length-take-le n v (omega arith) in
-    let same : length m ≡ length l = ap length e ∙ length_splice l at (take (n - 0) (drop 0 v)) in
+-- as much of a text as there is room for
+splice_fitting : (l v : Octets) (at n : ℕ) → n ≡ min (length v) (length l - at) → splice l at (take n v) ≡ splice l at v
+splice_fitting l v at n e = go (dec_le (length v) n)
+  where
+    go : Dec (length v ≤ n) → splice l at (take n v) ≡ splice l at v
+    go (yes h) = ap (splice l at) (take_all n v h)
+    go (no h) =
+        let long : length (take n v) ≡ n = length-take-le n v (omega arith) in
+        sym (splice_full l at (take n v) (drop n v) (omega arith)) ∙ ap (splice l at) (take-append-drop n v)
+
+pub wrote_fitting : (l v m : Octets) (at n : ℕ) → at ≤ length l → n ≡ min (length v) (length l - at) → m ≡ splice l at (take n v) → Wrote l at v (at + n) m
+wrote_fitting l v m at n h e k =
+    let same : length m ≡ length l = ap length k ∙ length_splice l at (take n v) in
     record {
-      octets =
-          e
-          ∙ (λ i. splice l at (take (none i) v))
-          ∙ sym (splice_full l at (take n v) (drop n v) (omega arith))
-          ∙ ap (splice l at) (take-append-drop n v);
+      octets = k ∙ splice_fitting l v at n e;
       next = omega arith;
       room = omega arith;
     }

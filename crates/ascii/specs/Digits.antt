@@ -1,6 +1,6 @@
 -- Octets and numbers as text, and the text read again.
 -- Assumes nothing.
-use Rattle.std.specs.Prelude.{ℕ, ◌+◌, ◌-◌, ◌*◌, ◌/◌, ◌%◌, Bool, true, ◌&&◌, [], ◌∷◌, length, drop, ltb, eqb}
+use Rattle.std.specs.Prelude.{ℕ, ◌+◌, ◌-◌, ◌*◌, ◌/◌, ◌%◌, Bool, true, ◌&&◌, Option, Some, None, [], ◌∷◌, length, drop, ltb, eqb}
 use Rattle.octets.specs.Octets.{Octets, pick}
 
 -- ---- capital hexadecimal digits
@@ -12,6 +12,10 @@ digit_of n = pick (ltb (n % 16) 10) (48 + n % 16) (55 + n % 16)
 -- the value of a digit; 16 for any other character
 unfoldable pub value_of : ℕ → ℕ
 value_of c = pick (ltb c 48) 16 (pick (ltb c 58) (c - 48) (pick (ltb c 65) 16 (pick (ltb c 71) (c - 55) 16)))
+
+-- the value of a digit, where it is one
+abbrev pub digit_value : ℕ → Option ℕ
+digit_value c = pick (ltb (value_of c) 16) (Some (value_of c)) None
 
 -- octets as pairs of digits
 unfoldable pub hex_of : Octets → Octets

@@ -25,26 +25,22 @@ pub fn has(line: &[u8], name: &[u8]) -> bool
     ensures { result ≡ has_field name.now line.now }
 {
     let field = first(line);
-    let named = starts(field, name);
-    let sign = octet_at(field, name.len());
-    named & (sign == b'=')
+    starts(field, name) && octet_at(field, name.len()) == b'='
 }
 
 // Whether the line is one field, and has a name.
 pub fn only(line: &[u8], name: &[u8]) -> bool
     ensures { result ≡ only_field name.now line.now }
 {
-    let named = has(line, name);
-    let end = before(line, b' ');
-    named & (end == line.len())
+    has(line, name) && before(line, b' ') == line.len()
 }
 
 // The value of the first field: nothing where it has another name.
 pub fn value<'a>(line: &'a [u8], name: &[u8]) -> &'a [u8]
     ensures { result.now ≡ value_in name.now line.now }
 {
-    if has(line, name) {
-        return window(first(line), name.len() + 1, line.len());
+    if !has(line, name) {
+        return b"";
     }
-    window(line, 0, 0)
+    window(first(line), name.len() + 1, line.len())
 }

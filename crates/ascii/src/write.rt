@@ -7,17 +7,14 @@ ghost use Rattle.ascii.specs.Writing.{Wrote};
 use crate::hex::digit;
 
 // A text as it is.
+#[tactic(auto, using(crate::proofs::Writing::wrote_fitting))]
 pub fn put(out: &mut [u8], at: usize, text: &[u8]) -> usize
     requires { at ≤ length out.old }
     ensures { Wrote out.old at text.now result out.new }
 {
-    let room = out.len() - at;
-    if room < text.len() {
-        octets::put(out, at, &text[0..room]);
-        return out.len();
-    }
-    octets::put(out, at, text);
-    at + text.len()
+    let n = text.len().min(out.len() - at);
+    octets::put(out, at, &text[..n]);
+    at + n
 }
 
 fn put_octet(out: &mut [u8], at: usize, octet: u8) -> usize
@@ -34,10 +31,8 @@ pub fn put_octets(out: &mut [u8], at: usize, octets: &[u8]) -> usize
     ensures { Wrote out.old at (hex_of octets.now) result out.new }
 {
     let mut n = at;
-    let mut i = 0;
-    while i < octets.len() {
-        n = put_octet(out, n, octets[i]);
-        i += 1;
+    for octet in octets {
+        n = put_octet(out, n, *octet);
     }
     n
 }
@@ -50,19 +45,16 @@ fn figure(n: u16) -> u8
 }
 
 // How many of a number's five digits are zeros in front.
+#[tactic(auto, unfolding(crate::specs::Digits::leading_in))]
 fn leading(n: u16) -> usize
     ensures { result ≡ leading_in n }
 {
-    if n < 10 {
-        4
-    } else if n < 100 {
-        3
-    } else if n < 1000 {
-        2
-    } else if n < 10000 {
-        1
-    } else {
-        0
+    match n {
+        0..=9 => 4,
+        10..=99 => 3,
+        100..=999 => 2,
+        1000..=9999 => 1,
+        _ => 0,
     }
 }
 
@@ -72,6 +64,7 @@ pub fn put_decimal(out: &mut [u8], at: usize, n: u16) -> usize
     ensures { Wrote out.old at (decimal_of n) result out.new }
 {
     let from = leading(n);
+    // As a map over the units it would ask for a proof that none of them is 0: the five places are plainer.
     let figures = [
         figure(n / 10000),
         figure(n / 1000),

@@ -1,5 +1,4 @@
 -- The loop of `ascii::hex::decode`.
-use Prim.Native.Nat.{◌-◌, ◌≤◌}
 use mathlib.Core.Path.{◌≡◌}
 use lib.ListN.{take}
 use Rattle.octets.specs.Octets.{splice}
@@ -7,7 +6,4 @@ use Rattle.ascii.specs.Digits.{octets_in}
 use Rattle.ascii.proofs.hex.decode.Given as goal
 
 abbrev pub invariant-loop-i : goal.invariant-loop-i
-invariant-loop-i l = (l.i ≤ l.n) × (l.buffer ≡ splice l.initial.buffer 0 (take l.i (octets_in l.text)))
-
-abbrev pub decreases-loop-i : goal.decreases-loop-i
-decreases-loop-i l = l.n - l.i
+invariant-loop-i l = l.buffer ≡ splice l.initial.buffer 0 (take l.i (octets_in l.text))

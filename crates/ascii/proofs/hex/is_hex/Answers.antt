@@ -1,50 +1,23 @@
--- `ascii::hex::is_hex` meets its contract. The characters that are left decide.
-use Prim.Native.Nat.{ℕ, suc, ◌≤◌, ◌<◌}
+-- `ascii::hex::is_hex` meets its contract.
 use mathlib.Core.Path.{sym, ap, ◌∙◌}
 use mathlib.Core.Bool.{Bool, ◌&&◌}
-use native.Mathlib.Omega.{arith}
-use native.Mathlib.Numerals.{add-one}
-use borrow.Author.Tests.{eq-eqb, ne_eqb, lt-ltb, le-ltb}
-use lib.ListN.{drop, get_or, drop_of_length-le}
+use lib.Dec.{ltb}
+use borrow.Author.Tests.{eq-eqb, ne_eqb}
+use Rattle.std.proofs.Common.{rules, tests}
+use Rattle.std.proofs.lemmas.Iterator.{YieldsList-from_slice}
+use Rattle.std.proofs.lemmas.Iterator.Search.{all_from_yields_List}
 use Rattle.ascii.specs.Digits.{value_of, all_digits, is_hex}
-use Rattle.ascii.proofs.Digits.{digits_turn}
+use Rattle.ascii.proofs.Digits.{digits_all}
 use Rattle.ascii.proofs.hex.is_hex.Goals as goal
 
-pub returns-then-text-ne0 : goal.returns-then-text-ne0
+pub returns-then-text-eq0 : goal.returns-then-text-eq0
 unfolding is_hex
-returns-then-text-ne0 c = ap (λ (t : Bool). t && all_digits c.args.text.now) (sym (ne_eqb _ _ c.if-text-ne0.true))
+returns-then-text-eq0 c =
+    let text = c.args.text.now in
+    all_from_yields_List (λ x. ltb (value_of x) 16) _ _ c.all.result c.all.ensures.ran (YieldsList-from_slice text c.iter.ensures.rest) (λ x b q k. search (rules, tests))
+    ∙ digits_all text
+    ∙ ap (λ (t : Bool). t && all_digits text) (sym (eq-eqb _ _ c.if-text-eq0.true))
 
-pub loop-i-init : goal.loop-i-init
+pub returns-else-text-eq0 : goal.returns-else-text-eq0
 unfolding is_hex
-loop-i-init c = (omega arith, ap (λ (t : Bool). t && all_digits c.args.text.now) (eq-eqb _ _ c.if-text-ne0.false))
-
-pub returns-then-value-gt15 : goal.returns-then-value-gt15
-returns-then-value-gt15 c =
-    let l = c.loop-i in
-    let text = c.args.text.now in
-    let i = l.i in
-    let over : 16 ≤ value_of (get_or text i 0) = omega (arith, c.value.ensures, c.if-value-gt15.true) in
-    sym
-    (l.invariant.1
-    ∙ digits_turn text i c.loop-i-test.true
-    ∙ ap (λ (t : Bool). t && all_digits (drop (suc i) text)) (le-ltb _ _ over))
-
-pub loop-i-preserved : goal.loop-i-preserved
-loop-i-preserved c =
-    let l = c.loop-i in
-    let text = c.args.text.now in
-    let i = l.i in
-    let small : value_of (get_or text i 0) < 16 = omega (arith, c.value.ensures, c.if-value-gt15.false) in (
-      omega arith,
-      l.invariant.1
-          ∙ digits_turn text i c.loop-i-test.true
-          ∙ ap (λ (t : Bool). t && all_digits (drop (suc i) text)) (lt-ltb _ _ small)
-          ∙ ap (λ (k : ℕ). all_digits (drop k text)) (sym (add-one i)),
-    )
-
-pub returns : goal.returns
-unfolding all_digits
-returns c =
-    let l = c.loop-i in
-    let text = c.args.text.now in
-    sym (l.invariant.1 ∙ ap all_digits (drop_of_length-le text c.loop-i-test.false))
+returns-else-text-eq0 c = rw (ne_eqb _ _ c.if-text-eq0.false)
