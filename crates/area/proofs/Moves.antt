@@ -13,7 +13,7 @@ use Rattle.octets.specs.Octal.{Octal}
 use Rattle.octets.proofs.Octets.{cut_part, length_cut, length_splice, splice_nil, splice_lent, drop_splice}
 use Rattle.octets.proofs.Octal.{octal_splice}
 use Rattle.packets.specs.declared.Header.{Header}
-use Rattle.packets.specs.declared.Reading.TheVariants.{Packet}
+use Rattle.std.specs.Prelude.{Some}
 use Rattle.packets.specs.Packet.{packet_of, read_of, payload_of, slot_after}
 use Rattle.packets.specs.Segments.{Segment, body, segments, segment_at, segment_packet, packets_of}
 use Rattle.packets.proofs.Packet.{length_packet, read_facts, slot_fits}
@@ -54,7 +54,7 @@ cut_short : (at : ℕ) (l : Octets) → length (cut at slot_size l) ≤ slot_siz
 unfolding cut
 cut_short at l = simp length-take (omega arith)
 
-pub payload_few : (a : Octets) (slot : ℕ) (h : Header) (n : ℕ) → read_of (cut slot slot_size a) ≡ Packet h n → n ≤ payload_size
+pub payload_few : (a : Octets) (slot : ℕ) (h : Header) (n : ℕ) → read_of (cut slot slot_size a) ≡ Some (h, n) → n ≤ payload_size
 payload_few a slot h n e =
     let f = read_facts (cut slot slot_size a) h n e in
     omega (arith, f.room, f.size, cut_short slot a)

@@ -11,12 +11,12 @@ ghost use Rattle.area.specs.Runs.{run_area};
 
 use crate::map::{AREA, MESSAGE, PAYLOAD, SLOT, WIRE};
 use crate::ring::{free_at, put_into};
-use packets::{Header, Reading};
+use packets::Header;
 use state::kinds::{Progress, Ring};
 use state::runs::fits;
 
 // Reads the packet that a slot starts with.
-pub fn read_slot(area: &[u8], slot: usize) -> Reading
+pub fn read_slot(area: &[u8], slot: usize) -> Option<(Header, usize)>
     ensures { result ≡ read_of (cut slot slot_size area.now) }
 {
     packets::read(octets::window(area, slot, SLOT))

@@ -3,13 +3,13 @@ ghost use Rattle.std.specs.Prelude.{◌≡◌};
 ghost use Rattle.calls.specs.Read.{found_in, found_word, read_call};
 
 use area::map;
-use packets::{Reading, Way};
+use packets::{Header, Way};
 
 // The word of what the reader found: the drop flag, or the reserved bits.
-fn found(got: Reading) -> u64
+fn found(got: Option<(Header, usize)>) -> u64
     ensures { result ≡ found_word (found_in got) }
 {
-    let Reading::Packet(h, _) = got else {
+    let Some((h, _)) = got else {
         return call_word::drops();
     };
     call_word::telling(packets::rfu(Way::Up, h), 0)

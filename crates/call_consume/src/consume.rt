@@ -15,7 +15,7 @@ ghost use Rattle.calls.specs.calls.Consume.{controller_side, oldest_at, oldest_r
 
 use area::{map, movers, ring};
 use octets::choose;
-use packets::Reading;
+use packets::Header;
 use record::write;
 use state::kinds::{ControllerSide, Progress, Record, Ring};
 use state::runs::Joined;
@@ -139,7 +139,7 @@ fn oldest_at(r: Record, conn: u8) -> usize
 }
 
 // What the reader finds there.
-fn read(area: &[u8], r: Record, conn: u8) -> Reading
+fn read(area: &[u8], r: Record, conn: u8) -> Option<(Header, usize)>
     requires { Consumable r conn }
     ensures { result ≡ oldest_read r conn area.now }
 {
@@ -241,7 +241,7 @@ fn take(area: &mut [u8], out: &mut [u8], r: Record, conn: u8, more: bool, n: usi
 // A packet that the reader dropped: nothing joins the run.
 fn discard(area: &mut [u8], r: Record, conn: u8) -> u64
     requires { (area_size ≤ length area.old) × Consumable r conn }
-    ensures { (result ≡ consumed_word conn (joined_by r conn Reading.Drop) 0) × (area.new ≡ saved (echoed_slot r conn area.old) (consumed_record r conn (controller_side r conn).run)) }
+    ensures { (result ≡ consumed_word conn (joined_by r conn None) 0) × (area.new ≡ saved (echoed_slot r conn area.old) (consumed_record r conn (controller_side r conn).run)) }
 {
     let side = side_of(r, conn);
     let run = side.run;
@@ -259,7 +259,7 @@ pub fn act(area: &mut [u8], out: &mut [u8], r: Record, conn: u8) -> u64
     ensures { outcome result area.new out.new ≡ consumed r conn area.old out.old }
 {
     let got = read(area, r, conn);
-    let Reading::Packet(h, n) = got else {
+    let Some((h, n)) = got else {
         return discard(area, r, conn);
     };
     take(area, out, r, conn, h.pbf, n)

@@ -19,7 +19,7 @@ use ends::command;
 use messages::layout::Note;
 use nfcc::effects;
 use octets::choose;
-use packets::{Header, Reading, Way};
+use packets::{Header, Way};
 use record::{parameters, write};
 use state::kinds::{ControlRun, Record, Ring};
 use state::verdict::Verdict;
@@ -51,7 +51,7 @@ pub fn refusal(area: &[u8], r: Record) -> u8
     }
     let slot = ring::first_at(map::DOWN_AT, down);
     let got = movers::read_slot(area, slot);
-    let Reading::Packet(h, _) = got else {
+    let Some((h, _)) = got else {
         return 0;
     };
     let full = store_full(r, h);
@@ -281,7 +281,7 @@ fn command_packet(area: &mut [u8], t: Record, slot: usize, h: Header, n: usize) 
 // The packet by its message type: commands and data aside, it is dropped.
 fn packet(area: &mut [u8], t: Record, slot: usize, h: Header, n: usize) -> u64
     requires { (area_size ≤ length area.old) × (slot + slot_size ≤ length area.old) × (n ≤ payload_size) × Arrivable t.ends.conns t.up h }
-    ensures { ComesTo result area.new (arrived t slot (Reading.Packet h n) area.old) }
+    ensures { ComesTo result area.new (arrived t slot (Some (h, n)) area.old) }
 {
     if h.mt == packets::DATA {
         return data_packet(area, t, slot, h);
@@ -301,7 +301,7 @@ pub fn act(area: &mut [u8], r: Record) -> u64
     let slot = ring::first_at(map::DOWN_AT, down);
     let t = took(r);
     let got = movers::read_slot(area, slot);
-    let Reading::Packet(h, n) = got else {
+    let Some((h, n)) = got else {
         return dropped(area, t);
     };
     let w = packet(area, t, slot, h, n);

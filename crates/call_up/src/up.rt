@@ -16,7 +16,7 @@ use area::{map, movers, ring};
 use dh::host;
 use ends::message;
 use octets::choose;
-use packets::{Header, Reading, Way};
+use packets::{Header, Way};
 use record::write;
 use state::kinds::{Ends, Record};
 use state::{conn, runs};
@@ -225,7 +225,7 @@ pub fn act(area: &mut [u8], out: &mut [u8], r: Record) -> u64
     let up = r.up;
     let slot = ring::first_at(map::UP_AT, up);
     let got = movers::read_slot(area, slot);
-    let Reading::Packet(h, n) = got else {
+    let Some((h, n)) = got else {
         return discard(area, r);
     };
     let w = take_packet(area, out, r, h, n);

@@ -21,7 +21,7 @@ use Rattle.packets.proofs.Segments.{flag_segment, body_segment}
 use Rattle.wires.specs.Meaning.{datum, control, meaning}
 use Rattle.wires.proofs.Slots.{first_slot, meaning_junk, meaning_packet}
 use Rattle.calls.specs.Kinds.{Header, Reading, Progress, Joined, Ring, Counts, Record}
-use Rattle.calls.specs.Kinds.reading.{Packet, Drop}
+use Rattle.std.specs.Prelude.{Some, None}
 use Rattle.state.specs.Conn.{place_of, closed_counts}
 use Rattle.state.specs.Runs.{joined_of, handed_on}
 use Rattle.state.proofs.Chains.{on}
@@ -70,7 +70,7 @@ module _ (a : Octets) (r : Record) (c : ℕ) where
   packet_is = sym (first_slot (store_at (place_of c)) a (controller_side r c).store.head)
 
   -- its segment, whatever its MT; one that the reader drops has none
-  packet_read : (h : Header) (n : ℕ) → oldest_read r c a ≡ Packet h n → segment_in (meaning packet) ≡ segment h.pbf (payload_of (oldest r c a) n) ∷ []
+  packet_read : (h : Header) (n : ℕ) → oldest_read r c a ≡ Some (h, n) → segment_in (meaning packet) ≡ segment h.pbf (payload_of (oldest r c a) n) ∷ []
   packet_read h n e =
       let x : Segment = segment h.pbf (payload_of (oldest r c a) n) in
       ap (λ (o : Octets). segment_in (meaning o)) (sym packet_is) ∙ ap segment_in (meaning_packet (oldest r c a) h n e) ∙ either (eqb h.mt 0) x
@@ -79,7 +79,7 @@ module _ (a : Octets) (r : Record) (c : ℕ) where
       either true x = refl
       either false x = refl
 
-  packet_dropped : oldest_read r c a ≡ Drop → segment_in (meaning packet) ≡ []
+  packet_dropped : oldest_read r c a ≡ None → segment_in (meaning packet) ≡ []
   packet_dropped e = ap (λ (o : Octets). segment_in (meaning o)) (sym packet_is) ∙ ap segment_in (meaning_junk (oldest r c a) e)
 
 -- ---- the connection after it
@@ -215,7 +215,7 @@ module _ (a out : Octets) (r : Record) (c : ℕ) (s : Sound a r) (small : Small 
         refl)
 
   -- of a packet that was read
-  module _ (h : Header) (n : ℕ) (e : oldest_read r c a ≡ Packet h n) where
+  module _ (h : Header) (n : ℕ) (e : oldest_read r c a ≡ Some (h, n)) where
     abbrev x : Segment
     x = segment h.pbf (payload_of (oldest r c a) n)
 
@@ -225,14 +225,14 @@ module _ (a out : Octets) (r : Record) (c : ℕ) (s : Sound a r) (small : Small 
     is_long : length (body x) ≡ n
     is_long = ap length is_body ∙ length_payload a (oldest_at r c) n (payload_few a (oldest_at r c) h n e) (omega (arith, s.room, p.place, p.store.head))
 
-    same : joined_of message_size (before a r c s p) (flag x) (length (body x)) ≡ joined_by r c (Packet h n)
+    same : joined_of message_size (before a r c s p) (flag x) (length (body x)) ≡ joined_by r c (Some (h, n))
     same i = joined_of message_size (before a r c s p) (flag_segment h.pbf (payload_of (oldest r c a) n) i) (is_long i)
 
     joins : RunJoined message_size (base a r c s p) a (before a r c s p) x (run_area message_size (base a r c s p) a (before a r c s p) (body x))
         (joined_of message_size (before a r c s p) (flag x) (length (body x)))
     joins = run_joined message_size (base a r c s p) a (before a r c s p) x p.run (omega (arith, s.room, p.place))
 
-    read_joins : Joins (x ∷ []) (joined_by r c (Packet h n)) ((before a r c s p).len + n) (consumed_run r c n a)
+    read_joins : Joins (x ∷ []) (joined_by r c (Some (h, n))) ((before a r c s p).len + n) (consumed_run r c n a)
     read_joins =
         record {
           meant = packet_read a r c h n e;
@@ -252,7 +252,7 @@ module _ (a out : Octets) (r : Record) (c : ℕ) (s : Sound a r) (small : Small 
         }
 
   -- of one that was dropped
-  dropped_joins : oldest_read r c a ≡ Drop → Joins [] (joined_by r c Drop) 0 a
+  dropped_joins : oldest_read r c a ≡ None → Joins [] (joined_by r c None) 0 a
   dropped_joins e =
       record {
         meant = packet_dropped a r c e;
@@ -268,9 +268,9 @@ module _ (a out : Octets) (r : Record) (c : ℕ) (s : Sound a r) (small : Small 
 
   by_reading : (q : Puts) → Follows q.down r.down → Follows q.up r.up → (g : Reading) → oldest_read r c a ≡ g
       → RefinesTo (consume c) q (consumed_by r c g a out) (judged taken (consume c) (view a r))
-  by_reading q down up (Packet h n) e =
-      done (x h n e ∷ []) (joined_by r c (Packet h n)) ((before a r c s p).len + n) (consumed_run r c n a) (read_joins h n e) q down up
-  by_reading q down up Drop e = done [] (joined_by r c Drop) 0 a (dropped_joins e) q down up
+  by_reading q down up (Some (h, n)) e =
+      done (x h n e ∷ []) (joined_by r c (Some (h, n))) ((before a r c s p).len + n) (consumed_run r c n a) (read_joins h n e) q down up
+  by_reading q down up None e = done [] (joined_by r c None) 0 a (dropped_joins e) q down up
 
 -- a consume on octets is the model's consume
 pub consume_refines : (c : ℕ) (q : Puts) (a out : Octets) → Good a → message_size ≤ length out → Along q a → Refines (consume c) q a (consume_call a out c)

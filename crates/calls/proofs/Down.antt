@@ -18,7 +18,7 @@ use Rattle.packets.specs.Segments.{Segment, segment}
 use Rattle.packets.proofs.Packet.{read_ranged}
 use Rattle.packets.proofs.Reserved.{rfu_octet}
 use Rattle.calls.specs.Kinds.{Header, Reading, Counts, Record}
-use Rattle.calls.specs.Kinds.reading.{Packet, Drop}
+use Rattle.std.specs.Prelude.{Some, None}
 use Rattle.calls.specs.Kinds.way as way
 use Rattle.state.specs.Conn.{place_of, counts_of, open_at}
 use Rattle.state.proofs.Conns.{open_place}
@@ -59,13 +59,13 @@ use Rattle.calls.proofs.DownCommand.{does_command}
 
 -- the last packet of a command, and fewer than two free slots up
 abbrev pub tight_by : Record → Reading → Bool
-tight_by r (Packet h n) = eqb h.mt 1 && not h.pbf && ltb 14 r.up.count
-tight_by r Drop = false
+tight_by r (Some (h, n)) = eqb h.mt 1 && not h.pbf && ltb 14 r.up.count
+tight_by r None = false
 
 -- data of an open connection whose store is full
 abbrev pub full_by : Record → Reading → Bool
-full_by r (Packet h n) = eqb h.mt 0 && open_at r.ends.conns h.id && leb store_slots (controller_side r h.id).store.count
-full_by r Drop = false
+full_by r (Some (h, n)) = eqb h.mt 0 && open_at r.ends.conns h.id && leb store_slots (controller_side r h.id).store.count
+full_by r None = false
 
 -- of an empty wire nothing is read
 abbrev pub down_tests : Record → Reading → List Rule
@@ -81,10 +81,10 @@ module _ (a : Octets) (r : Record) where
   abbrev pub packet : Octets
   packet = slot_packet down_at a r.down.head
 
-  pub packet_read : (h : Header) (n : ℕ) → down_read r a ≡ Packet h n → meaning packet ≡ meant h (segment h.pbf (payload_of (cut (down_slot r) slot_size a) n))
+  pub packet_read : (h : Header) (n : ℕ) → down_read r a ≡ Some (h, n) → meaning packet ≡ meant h (segment h.pbf (payload_of (cut (down_slot r) slot_size a) n))
   packet_read h n e = ap meaning (first_slot down_at a r.down.head) ∙ meaning_packet (cut (down_slot r) slot_size a) h n e
 
-  pub packet_dropped : down_read r a ≡ Drop → meaning packet ≡ junk
+  pub packet_dropped : down_read r a ≡ None → meaning packet ≡ junk
   packet_dropped e = ap meaning (first_slot down_at a r.down.head) ∙ meaning_junk (cut (down_slot r) slot_size a) e
 
   pub packet_rfu : rfu_by way.Down (read_of packet) ≡ rfu_by way.Down (down_read r a)
@@ -117,15 +117,15 @@ two_free n = go (ltb 14 n) refl
 
 module _ (a : Octets) (r : Record) where
   tight_is : (x : Reading) → down_read r a ≡ x → (needs_two (meaning (packet a r)) && full 2 (up_of a r)) ≡ tight_by r x
-  tight_is (Packet h n) e =
+  tight_is (Some (h, n)) e =
       let room : full 2 (up_of a r) ≡ ltb 14 r.up.count = up_full 2 a r ∙ two_free r.up.count in
       (λ i. needs_two (packet_read a r h n e i) && room i)
       ∙ (λ i. needs_two_law h (payload_of (cut (down_slot r) slot_size a) n) i && ltb 14 r.up.count)
-  tight_is Drop e = λ i. needs_two (packet_dropped a r e i) && full 2 (up_of a r)
+  tight_is None e = λ i. needs_two (packet_dropped a r e i) && full 2 (up_of a r)
 
   full_is : (x : Reading) → down_read r a ≡ x → store_full (view a r) (meaning (packet a r)) ≡ full_by r x
   unfolding open_at
-  full_is (Packet h n) e =
+  full_is (Some (h, n)) e =
       (λ i. store_full (view a r) (packet_read a r h n e i)) ∙ go (eqb h.mt 0)
     where
       x : Segment
@@ -135,7 +135,7 @@ module _ (a : Octets) (r : Record) where
           ≡ (b && (controller_side r h.id).opened && leb store_slots (controller_side r h.id).store.count)
       go true = λ i. (controller_side r h.id).opened && leb store_slots (length_packets (store_at (place_of h.id)) store_slots a (controller_side r h.id).store i)
       go false = refl
-  full_is Drop e = λ i. store_full (view a r) (packet_dropped a r e i)
+  full_is None e = λ i. store_full (view a r) (packet_dropped a r e i)
 
   pub down_tests_law : r.down.head < wire_slots → down_rules (view a r) ≡ down_tests r (down_read r a)
   down_tests_law low = go (eqb r.down.count 0) refl
@@ -315,7 +315,7 @@ module _ (a out : Octets) (r : Record) (s : Sound a r) (small : Small r) (o : Oc
   slot_room : down_slot r + slot_size ≤ length a
   slot_room = omega (arith, s.room, d.ring.head)
 
-  module _ (h : Header) (n : ℕ) (e : down_read r a ≡ Packet h n) where
+  module _ (h : Header) (n : ℕ) (e : down_read r a ≡ Some (h, n)) where
     abbrev x : Segment
     x = segment h.pbf (payload_of (cut (down_slot r) slot_size a) n)
 
@@ -340,7 +340,7 @@ module _ (a out : Octets) (r : Record) (s : Sound a r) (small : Small r) (o : Oc
             (pick b (quiet (bench.with_conns (bench.at h.id (λ k. connection.with_controller (connection.stored (packet a r) k.controller) k) (view a t).conns) (view a t))) (flagged_as true (view a t))))
             (sym w) drops
 
-    does_packet : Does (arrived t (down_slot r) (Packet h n) a out) (arriving (meant h x) (packet a r) (view a t))
+    does_packet : Does (arrived t (down_slot r) (Some (h, n)) a out) (arriving (meant h x) (packet a r) (view a t))
     unfolding arrived
     does_packet = go (eqb h.mt 0) refl
       where
@@ -361,9 +361,9 @@ module _ (a out : Octets) (r : Record) (s : Sound a r) (small : Small r) (o : Oc
 
   pub does_down : (y : Reading) → down_read r a ≡ y → Does (arrived t (down_slot r) y a out) (arriving (meaning (packet a r)) (packet a r) (view a t))
   unfolding arrived
-  does_down (Packet h n) e =
-      subst (λ (z : Meaning). Does (arrived t (down_slot r) (Packet h n) a out) (arriving z (packet a r) (view a t))) (sym (packet_read a r h n e)) (does_packet h n e)
-  does_down Drop e = subst (λ (z : Meaning). Does (down_dropped t a out) (arriving z (packet a r) (view a t))) (sym (packet_dropped a r e)) drops
+  does_down (Some (h, n)) e =
+      subst (λ (z : Meaning). Does (arrived t (down_slot r) (Some (h, n)) a out) (arriving z (packet a r) (view a t))) (sym (packet_read a r h n e)) (does_packet h n e)
+  does_down None e = subst (λ (z : Meaning). Does (down_dropped t a out) (arriving z (packet a r) (view a t))) (sym (packet_dropped a r e)) drops
 
   pub down_done : Does (downed r a out) (act down (view a r))
   down_done =

@@ -27,7 +27,7 @@ use Rattle.air.specs.Air.{event_of, air_message}
 use Rattle.air.proofs.Room.{message_short}
 use Rattle.air.proofs.Spoken.{spoken_short}
 use Rattle.calls.specs.Kinds.{Ring, Progress, Record, Reading, Verdict, Header}
-use Rattle.calls.specs.Kinds.reading.{Packet, Drop}
+use Rattle.std.specs.Prelude.{Some, None}
 use Rattle.state.proofs.Progress.{within_room}
 use Rattle.area.specs.Map.{area_size, record_at, slot_size, wire_slots, message_size, payload_size, control_size, up_at, down_at, hand_at, endpoint_at, asking_at, hearing_at}
 use Rattle.area.specs.Ring.{free_at, put_into}
@@ -202,7 +202,7 @@ telling {a} {out} n {o} l =
 
 pub down_leaves : (t : Record) (slot : ℕ) (x : Reading) (a out : Octets) → Leaves a out (arrived t slot x a out)
 unfolding arrived data_down command_down
-down_leaves t slot (Packet h n) a out =
+down_leaves t slot (Some (h, n)) a out =
     on (Leaves a out) (eqb h.mt 0)
     (λ _. on (Leaves a out) (open_at t.ends.conns h.id) (λ _. quiet out _ _ _ _ stored) (λ _. quiet out _ _ _ _ (reach_none a)))
     (λ _.
@@ -231,7 +231,7 @@ down_leaves t slot (Packet h n) a out =
         (reach_puts up_at (omega arith) _
         (answers_fit h.id h.oid t.ends.profile (config_octets x) m v (verdict_whole (asked_record t h n).ends h.id h.oid m (command_short t h n e x))) a _ joins _)
         config_at (config_by (config_octets x) m v) (omega (arith, config_few (config_octets x) m v (config_short x)))
-down_leaves t slot Drop a out = quiet out _ _ _ _ (reach_none a)
+down_leaves t slot None a out = quiet out _ _ _ _ (reach_none a)
 
 pub consume_leaves : (r : Record) (c : ℕ) (x : Reading) (a out : Octets) → Leaves a out (consumed_by r c x a out)
 consume_leaves r c x a out = go x
@@ -243,15 +243,15 @@ consume_leaves r c x a out = go x
         (λ _. w)
 
     go : (x : Reading) → Leaves a out (consumed_by r c x a out)
-    go (Packet h n) =
-        handing out _ (joined_by r c (Packet h n)).done ((controller_side r c).run.len + n) _ _ _
+    go (Some (h, n)) =
+        handing out _ (joined_by r c (Some (h, n))).done ((controller_side r c).run.len + n) _ _ _
         (done_room message_size (controller_side r c).run h.pbf n) (cut_short _ _ _)
         (echo (reach_run (reach_none a) message_size _ _ _ (omega (arith, place_few c))))
-    go Drop = quiet out _ _ _ _ (echo (reach_none a))
+    go None = quiet out _ _ _ _ (echo (reach_none a))
 
 pub up_leaves : (r : Record) (x : Reading) (a out : Octets) → Leaves a out (read_up r x a out)
 unfolding coming_up received_up
-up_leaves r (Packet h n) a out =
+up_leaves r (Some (h, n)) a out =
     on (Leaves a out) (eqb h.mt 0)
     (λ _.
     on (Leaves a out) (host_side r h.id).opened
@@ -262,7 +262,7 @@ up_leaves r (Packet h n) a out =
     (λ _.
     on (Leaves a out) (eqb h.mt 1) (λ _. quiet out _ _ _ _ (reach_none a))
     (λ _. quiet out _ _ _ _ (reach_run (reach_none a) control_size hearing_at _ _ (omega arith))))
-up_leaves r Drop a out = quiet out _ _ _ _ (reach_none a)
+up_leaves r None a out = quiet out _ _ _ _ (reach_none a)
 
 push_leaves : (r : Record) (c : ℕ) (a out : Octets) → (host_side r c).hand.len ≤ message_size → Leaves a out (pushed r c a out)
 push_leaves r c a out few =

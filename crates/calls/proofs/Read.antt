@@ -12,7 +12,7 @@ use Rattle.packets.specs.Reserved.{rfu_of, rfu_by}
 use Rattle.packets.proofs.Reserved.{rfu_octet}
 use Rattle.state.proofs.Chains.{on}
 use Rattle.calls.specs.Kinds.{Reading}
-use Rattle.calls.specs.Kinds.reading.{Packet, Drop}
+use Rattle.std.specs.Prelude.{Some, None}
 use Rattle.calls.specs.Kinds.way.{Up}
 use Rattle.area.specs.Map.{slot_size}
 use Rattle.model.specs.Effects.{taken, refused}
@@ -39,8 +39,8 @@ taken_says d n small =
     }
 
 found_says : (r : Reading) → rfu_by Up r < 256 → Says (found_word (found_in r)) (found_in r)
-found_says (Packet h n) small = taken_says false (rfu_of Up h) small
-found_says Drop small = taken_says true 0 small
+found_says (Some (h, n)) small = taken_says false (rfu_of Up h) small
+found_says None small = taken_says true 0 small
 
 pub read_says : ReadSays
 unfolding found_of

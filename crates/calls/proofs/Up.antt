@@ -12,7 +12,7 @@ use Rattle.octets.proofs.Octal.{octal_cut}
 use Rattle.packets.specs.Segments.{Segment}
 use Rattle.packets.proofs.Reserved.{rfu_octet}
 use Rattle.calls.specs.Kinds.{Header, Reading, Record}
-use Rattle.calls.specs.Kinds.reading.{Packet, Drop}
+use Rattle.std.specs.Prelude.{Some, None}
 use Rattle.calls.specs.Kinds.way as way
 use Rattle.state.specs.Conn.{held_open}
 use Rattle.state.proofs.Conns.{held_place}
@@ -58,7 +58,7 @@ module _ (a out : Octets) (r : Record) (s : Sound a r) (small : Small r) (o : Oc
 
   -- ---- a packet
 
-  module _ (h : Header) (n : ℕ) (e : up_read r a ≡ Packet h n) where
+  module _ (h : Header) (n : ℕ) (e : up_read r a ≡ Some (h, n)) where
     abbrev x : Segment
     x = up_segment a r s h n e
 
@@ -88,8 +88,8 @@ module _ (a out : Octets) (r : Record) (s : Sound a r) (small : Small r) (o : Oc
   -- ---- whatever is in the slot
 
   read_does : (z : Reading) → up_read r a ≡ z → Does (read_up r z a out) (coming (meaning (up_packet a r)) (view a took))
-  read_does Drop e = subst (λ (k : Meaning). Does (dropped_up r a out) (coming k (view a took))) (sym (packet_dropped a r e)) drops
-  read_does (Packet h n) e =
+  read_does None e = subst (λ (k : Meaning). Does (dropped_up r a out) (coming k (view a took))) (sym (packet_dropped a r e)) drops
+  read_does (Some (h, n)) e =
       subst (λ (k : Meaning). Does (coming_up r h n a out) (coming k (view a took))) (sym (packet_read a r h n e)) (packet_does h n e)
 
 -- up on octets is the model's up

@@ -12,7 +12,7 @@ use Rattle.octets.proofs.Octal.{octal_cut}
 use Rattle.packets.specs.Segments.{Segment}
 use Rattle.packets.proofs.Packet.{read_ranged}
 use Rattle.calls.specs.Kinds.{Header, Ends, Record, Heard}
-use Rattle.calls.specs.Kinds.reading.{Packet}
+use Rattle.std.specs.Prelude.{Some}
 use Rattle.state.specs.Conn.{held_open}
 use Rattle.state.specs.Runs.{handed_on, run_for, control_joined}
 use Rattle.state.proofs.Progress.{control_fits}
@@ -47,7 +47,7 @@ use Rattle.calls.proofs.Quiet.{quiet_refines}
 use Rattle.calls.proofs.UpHeard.{heard_conns_law, heard_fits, heard_small, heard_own, heard_octal}
 use Rattle.calls.proofs.UpPacket.{up_segment, is_flag, is_body, is_long, heard_whole, heard_flag, up_fit, up_small, up_shape, took_sound}
 
-module _ (a : Octets) (r : Record) (s : Sound a r) (small : Small r) (o : Octal a) (h : Header) (n : ℕ) (e : up_read r a ≡ Packet h n) where
+module _ (a : Octets) (r : Record) (s : Sound a r) (small : Small r) (o : Octal a) (h : Header) (n : ℕ) (e : up_read r a ≡ Some (h, n)) where
   abbrev x : Segment
   x = up_segment a r s h n e
 

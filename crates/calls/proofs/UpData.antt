@@ -14,7 +14,7 @@ use Rattle.octets.proofs.Octal.{octal_cut}
 use Rattle.packets.specs.Segments.{Segment, body, flag}
 use Rattle.packets.specs.Reassembly.{finished, flagged}
 use Rattle.calls.specs.Kinds.{Header, Counts, Record, Joined, Progress}
-use Rattle.calls.specs.Kinds.reading.{Packet}
+use Rattle.std.specs.Prelude.{Some}
 use Rattle.state.specs.Conn.{place_of, counts_of, closed_counts}
 use Rattle.state.specs.Runs.{joined_of, handed_on}
 use Rattle.state.proofs.Chains.{on}
@@ -57,7 +57,7 @@ received_by c n x s =
       next = bench.with_conns (bench.at c (λ k. connection.with_host (heard_data x (connection.credited n k.host)) k) s.conns) s;
     }
 
-module _ (a : Octets) (r : Record) (s : Sound a r) (h : Header) (n : ℕ) (e : up_read r a ≡ Packet h n) (l : place_of h.id < places) where
+module _ (a : Octets) (r : Record) (s : Sound a r) (h : Header) (n : ℕ) (e : up_read r a ≡ Some (h, n)) (l : place_of h.id < places) where
   abbrev x : Segment
   x = up_segment a r s h n e
 

@@ -13,7 +13,7 @@ use Rattle.packets.specs.Reserved.{rfu_by}
 use Rattle.packets.specs.Segments.{Segment, segment, body, flag}
 use Rattle.packets.proofs.Segments.{flag_segment, body_segment}
 use Rattle.calls.specs.Kinds.{Header, Ends, Record}
-use Rattle.calls.specs.Kinds.reading.{Packet, Drop}
+use Rattle.std.specs.Prelude.{Some, None}
 use Rattle.calls.specs.Kinds.way as way
 use Rattle.state.specs.Runs.{handed_on, run_for, control_joined}
 use Rattle.area.specs.Map.{payload_size, slot_size, wire_slots, control_size, places, up_at, hearing_at}
@@ -45,10 +45,10 @@ module _ (a : Octets) (r : Record) where
   abbrev pub up_packet : Octets
   up_packet = slot_packet up_at a r.up.head
 
-  pub packet_read : (h : Header) (n : ℕ) → up_read r a ≡ Packet h n → meaning up_packet ≡ meant h (segment h.pbf (up_payload r n a))
+  pub packet_read : (h : Header) (n : ℕ) → up_read r a ≡ Some (h, n) → meaning up_packet ≡ meant h (segment h.pbf (up_payload r n a))
   packet_read h n e = ap meaning (first_slot up_at a r.up.head) ∙ meaning_packet (cut (up_slot r) slot_size a) h n e
 
-  pub packet_dropped : up_read r a ≡ Drop → meaning up_packet ≡ junk
+  pub packet_dropped : up_read r a ≡ None → meaning up_packet ≡ junk
   packet_dropped e = ap meaning (first_slot up_at a r.up.head) ∙ meaning_junk (cut (up_slot r) slot_size a) e
 
   pub packet_rfu : rfu_by way.Up (read_of up_packet) ≡ rfu_by way.Up (up_read r a)
@@ -60,7 +60,7 @@ module _ (a : Octets) (r : Record) where
 
 -- ---- a packet that was read, as a segment
 
-module _ (a : Octets) (r : Record) (s : Sound a r) (h : Header) (n : ℕ) (e : up_read r a ≡ Packet h n) where
+module _ (a : Octets) (r : Record) (s : Sound a r) (h : Header) (n : ℕ) (e : up_read r a ≡ Some (h, n)) where
   abbrev pub up_segment : Segment
   up_segment = segment h.pbf (up_payload r n a)
 

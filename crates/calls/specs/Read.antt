@@ -1,13 +1,12 @@
 -- A packet that is read and nothing else, as going up, for lecturers who show its reserved bits: its octets are given, and no area and no
 -- buffer. It is none of the twelve calls, and knows no ends: a command is read like any other packet.
 -- Assumes nothing.
-use Rattle.std.specs.Prelude.{ℕ, ◌≡◌, Bool, true, false, length, ltb}
+use Rattle.std.specs.Prelude.{ℕ, ◌≡◌, Bool, true, false, length, ltb, Some, None}
 use Rattle.octets.specs.Octets.{Octets, pick}
 use Rattle.octets.specs.Octal.{Octal}
 use Rattle.packets.specs.Packet.{read_of}
 use Rattle.packets.specs.Reserved.{rfu_of}
 use Rattle.calls.specs.Kinds.{Reading}
-use Rattle.calls.specs.Kinds.reading.{Packet, Drop}
 use Rattle.calls.specs.Kinds.way.{Up}
 use Rattle.area.specs.Map.{slot_size}
 use Rattle.model.specs.Effects.{Result, taken, refused}
@@ -20,8 +19,8 @@ pub record Found : Type 0 where
   pub rfu : ℕ
 
 abbrev pub found_in : Reading → Found
-found_in (Packet h n) = record { answer = taken; dropped = false; rfu = rfu_of Up h }
-found_in Drop = record { answer = taken; dropped = true; rfu = 0 }
+found_in (Some (h, n)) = record { answer = taken; dropped = false; rfu = rfu_of Up h }
+found_in None = record { answer = taken; dropped = true; rfu = 0 }
 
 -- no packet is longer than a slot: more octets are outside the limit
 unfoldable pub found_of : Octets → Found

@@ -10,7 +10,7 @@ use lib.ListN.{length, get_or, length-append}
 use borrow.Author.Tests.{eqb-true, eq-eqb}
 use Rattle.octets.specs.Octets.{Octets, pick}
 use Rattle.model.specs.Kinds.{Header, Asked, Pending, Command, Heard}
-use Rattle.model.specs.Kinds.reading.{Packet}
+use Rattle.std.specs.Prelude.{Some}
 use Rattle.packets.specs.Packet.{packet_of, read_of, payload_of, Writable}
 use Rattle.packets.specs.Segments.{Segment, more, last, segment, body, flag, marked, segments, segment_packet, packets_of}
 use Rattle.packets.proofs.RoundTrip.{read_written, payload_written}
@@ -35,7 +35,7 @@ use Rattle.model.proofs.Items.{up_credits_append}
 pub meaning_packet : (h : Header) (m : Octets) → Writable h → meaning (packet_of h m) ≡ meant h (segment h.pbf m)
 unfolding meaning
 meaning_packet h m w =
-    let read : read_of (packet_of h m) ≡ Packet h (length m) = rw append-nil at (read_written h m [] w) in
+    let read : read_of (packet_of h m) ≡ Some (h, length m) = rw append-nil at (read_written h m [] w) in
     let load : payload_of (packet_of h m) (length m) ≡ m = rw append-nil at (payload_written h m [] w) in
     rw (read, load)
 

@@ -11,7 +11,7 @@ use lib.ListN.{length, drop, length-append, length-take, length-drop}
 use borrow.Author.Tests.{ltb-false, eqb-false}
 use Rattle.octets.specs.Octets.{Octets, pick}
 use Rattle.model.specs.Kinds.{Header, Reading, Profile, Verdict, Event}
-use Rattle.model.specs.Kinds.reading.{Packet}
+use Rattle.std.specs.Prelude.{Some}
 use Rattle.model.specs.Kinds.way as way
 use Rattle.packets.specs.Packet.{packet_of, read_of, payload_of, carrying, credited, Writable}
 use Rattle.packets.specs.Reserved.{rfu_by}
@@ -53,7 +53,7 @@ formed_long : (p : Octets) (f : Formed p) → length p ≡ 3 + length f.payload
 unfolding packet_of
 formed_long p f = let long : length p ≡ suc (suc (suc (length f.payload))) = ap length f.same in omega arith
 
-formed_reads : (p : Octets) (f : Formed p) → read_of p ≡ Packet f.header (length f.payload)
+formed_reads : (p : Octets) (f : Formed p) → read_of p ≡ Some (f.header, length f.payload)
 formed_reads p f = ap read_of f.same ∙ (rw append-nil at (read_written f.header f.payload [] f.writable))
 
 pub formed_well : (p : Octets) → Formed p → WellFormed p

@@ -2,8 +2,7 @@
 -- name in small letters, as `rf.Idle`.
 -- Assumes nothing.
 pub use Rattle.packets.specs.declared.Header.{Header}
-pub use Rattle.packets.specs.declared.Reading.{Reading}
-pub use Rattle.packets.specs.declared.Reading.TheVariants as reading
+pub use Rattle.packets.specs.Packet.{Reading}
 pub use Rattle.packets.specs.declared.Way.{Way}
 pub use Rattle.packets.specs.declared.Way.TheVariants as way
 pub use Rattle.state.specs.declared.commands.Command.{Command}

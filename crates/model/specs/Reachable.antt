@@ -1,9 +1,8 @@
 -- What holds of every bench that a list of calls from a fresh one makes.
 -- Assumes nothing.
-use Rattle.std.specs.Prelude.{ℕ, ◌+◌, ◌≤◌, ◌≡◌, ◌⊎◌, Bool, true, false, ◌||◌, List, [], ◌∷◌, ◌++◌, length}
+use Rattle.std.specs.Prelude.{ℕ, ◌+◌, ◌≤◌, ◌≡◌, ◌⊎◌, Bool, true, false, ◌||◌, List, [], ◌∷◌, ◌++◌, length, Some}
 use Rattle.octets.specs.Octets.{Octets}
 use Rattle.model.specs.Kinds.{Header}
-use Rattle.model.specs.Kinds.reading.{Packet}
 use Rattle.model.specs.Kinds.way as way
 use Rattle.packets.specs.Packet.{read_of}
 use Rattle.packets.specs.Reserved.{rfu_by}
@@ -101,7 +100,7 @@ pub record Sizes (s : State) : Type 0 where
 pub record WellFormed (p : Octets) : Type 0 where
   pub header : Header
   pub size : ℕ
-  pub reads : read_of p ≡ Packet header size
+  pub reads : read_of p ≡ Some (header, size)
   pub whole : length p ≡ 3 + size
   pub most : length p ≤ 258
 

@@ -15,7 +15,7 @@ use Rattle.octets.specs.Octal.{Octal, octal_cons}
 use Rattle.octets.proofs.Octets.{splice_front}
 use Rattle.packets.specs.Types.{mt_data}
 use Rattle.packets.specs.declared.Header.{Header}
-use Rattle.packets.specs.declared.Reading.TheVariants.{Packet, Drop}
+use Rattle.std.specs.Prelude.{Some, None}
 use Rattle.packets.specs.Packet.{octet0, octet1, packet_of, oid_of, carried_of, spare_of, header_of, read_of, payload_of, carrying, credited, slot_after, size_after}
 
 -- ---- packet_of
@@ -45,20 +45,20 @@ octal_packet h payload n k = octal_cons (octet0_small h.mt h.pbf h.id) (octal_co
 -- ---- read_of
 
 module _ (p : Octets) where
-  pub read_short : length p < 3 → read_of p ≡ Drop
+  pub read_short : length p < 3 → read_of p ≡ None
   unfolding read_of
   read_short h = simp (lt-ltb _ _ h)
 
-  pub read_rfu : 3 ≤ length p → 4 ≤ get_or p 0 0 / 32 → read_of p ≡ Drop
+  pub read_rfu : 3 ≤ length p → 4 ≤ get_or p 0 0 / 32 → read_of p ≡ None
   unfolding read_of
   read_rfu h i = simp (le-ltb _ _ h, le-leb _ _ i)
 
-  pub read_cut : 3 ≤ length p → get_or p 0 0 / 32 < 4 → length p - 3 < get_or p 2 0 → read_of p ≡ Drop
+  pub read_cut : 3 ≤ length p → get_or p 0 0 / 32 < 4 → length p - 3 < get_or p 2 0 → read_of p ≡ None
   unfolding read_of
   read_cut h i j = simp (le-ltb _ _ h, lt-leb _ _ i, lt-ltb _ _ j)
 
   pub read_whole : 3 ≤ length p → get_or p 0 0 / 32 < 4 → get_or p 2 0 ≤ length p - 3
-      → read_of p ≡ Packet (header_of (get_or p 0 0) (get_or p 1 0)) (get_or p 2 0)
+      → read_of p ≡ Some (header_of (get_or p 0 0) (get_or p 1 0), get_or p 2 0)
   unfolding read_of
   read_whole h i j = simp (le-ltb _ _ h, lt-leb _ _ i, le-ltb _ _ j)
 
@@ -70,10 +70,10 @@ read_same p q l o =
     let o1 = o 1 (omega arith) in
     let o2 = o 2 (omega arith) in
     λ i.
-    pick (ltb (l i) 3) Drop
-    (pick (leb 4 (o0 i / 32)) Drop
-    (pick (ltb (l i - 3) (o2 i)) Drop
-    (Packet (header_of (o0 i) (o1 i)) (o2 i))))
+    pick (ltb (l i) 3) None
+    (pick (leb 4 (o0 i / 32)) None
+    (pick (ltb (l i - 3) (o2 i)) None
+    (Some (header_of (o0 i) (o1 i), o2 i))))
 
 -- what is known of a packet that was read
 pub record Whole (p : Octets) (h : Header) (n : ℕ) : Type 0 where
@@ -84,10 +84,10 @@ pub record Whole (p : Octets) (h : Header) (n : ℕ) : Type 0 where
   pub size : n ≡ get_or p 2 0
 
 module _ (p : Octets) (h : Header) (n : ℕ) where
-  dropped : read_of p ≡ Drop → read_of p ≡ Packet h n → ⊥
+  dropped : read_of p ≡ None → read_of p ≡ Some (h, n) → ⊥
   dropped d e = let z : ◌≡◌ {A = ℕ} 0 1 = cc in omega arith
 
-  pub read_facts : read_of p ≡ Packet h n → Whole p h n
+  pub read_facts : read_of p ≡ Some (h, n) → Whole p h n
   read_facts e = go (dec_le 3 (length p)) (dec_le 4 (get_or p 0 0 / 32)) (dec_le (get_or p 2 0) (length p - 3))
     where
       go : Dec (3 ≤ length p) → Dec (4 ≤ get_or p 0 0 / 32) → Dec (get_or p 2 0 ≤ length p - 3) → Whole p h n
@@ -96,7 +96,8 @@ module _ (p : Octets) (h : Header) (n : ℕ) where
       go (yes a) (no b) (no c) = absurd (dropped (read_cut p a (omega arith) (omega arith)) e)
       go (yes a) (no b) (yes c) =
           let whole = read_whole p a (omega arith) c in
-          record { long = a; known = omega arith; room = c; header = cc; size = cc }
+          let found : ◌≡◌ {A = Header × ℕ} (h, n) (header_of (get_or p 0 0) (get_or p 1 0), get_or p 2 0) = cc in
+          record { long = a; known = omega arith; room = c; header = λ i. (found i).0; size = λ i. (found i).1 }
 
 -- the fields of a header that was read are in their ranges
 pub record Ranged (h : Header) : Type 0 where
@@ -121,7 +122,7 @@ carried_small mt second = go (eqb mt 0)
     go true = omega arith
     go false = omega arith
 
-pub read_ranged : (p : Octets) (h : Header) (n : ℕ) → read_of p ≡ Packet h n → Ranged h
+pub read_ranged : (p : Octets) (h : Header) (n : ℕ) → read_of p ≡ Some (h, n) → Ranged h
 unfolding header_of
 read_ranged p h n e =
     let f = read_facts p h n e in
@@ -176,8 +177,8 @@ header_carrying first second n e =
     high = omega arith
 
 -- a data packet is read back with its new credits
-pub read_carrying : (n : ℕ) (p : Octets) (h : Header) (len : ℕ) → read_of p ≡ Packet h len → h.mt ≡ mt_data
-    → read_of (carrying n p) ≡ Packet (credited h n) len
+pub read_carrying : (n : ℕ) (p : Octets) (h : Header) (len : ℕ) → read_of p ≡ Some (h, len) → h.mt ≡ mt_data
+    → read_of (carrying n p) ≡ Some (credited h n, len)
 unfolding carrying header_of
 read_carrying n [] h len e d = absurd (not-suc-le-zero (read_facts [] h len e).long)
 read_carrying n (x ∷ []) h len e d = absurd (not-suc-le-zero (le_of_suc-le-suc (read_facts (x ∷ []) h len e).long))
@@ -185,7 +186,7 @@ read_carrying n (x ∷ y ∷ p) h len e d =
     let w = read_facts (x ∷ y ∷ p) h len e in
     let top : x / 32 ≡ 0 = sym (ap (λ (k : Header). k.mt) w.header) ∙ d in
     read_whole (x ∷ (y / 4 * 4 + n % 4) ∷ p) w.long w.known w.room
-    ∙ (λ i. Packet ((header_carrying x y n top ∙ ap (λ (k : Header). credited k n) (sym w.header)) i) (sym w.size i))
+    ∙ (λ i. Some ((header_carrying x y n top ∙ ap (λ (k : Header). credited k n) (sym w.header)) i, sym w.size i))
 
 -- ---- slot_after, size_after
 

@@ -13,11 +13,10 @@ use Rattle.octets.specs.Octal.{Octal}
 use Rattle.octets.proofs.Octal.{octal_at}
 use Rattle.packets.specs.Types.{mt_data}
 use Rattle.packets.specs.declared.Header.{Header}
-use Rattle.packets.specs.declared.Reading.{Reading}
-use Rattle.packets.specs.declared.Reading.TheVariants.{Packet, Drop}
+use Rattle.std.specs.Prelude.{Some, None}
 use Rattle.packets.specs.declared.Way.{Way}
 use Rattle.packets.specs.declared.Way.TheVariants.{Down, Up}
-use Rattle.packets.specs.Packet.{octet0, octet1, oid_of, carried_of, spare_of, header_of, read_of, Writable}
+use Rattle.packets.specs.Packet.{Reading, octet0, octet1, oid_of, carried_of, spare_of, header_of, read_of, Writable}
 use Rattle.packets.specs.Reserved.{data_mask, rfu_mask, rfu_of, rfu_by, bit_value, bit_at, credits_going, packet_with, RfuRead, RfuWritten, Rfu}
 use Rattle.packets.proofs.Packet.{read_whole, read_facts}
 use Rattle.packets.proofs.RoundTrip.{octet0_mt, octet0_pbf, octet0_id, written_again}
@@ -76,7 +75,7 @@ told_octet way first second h = subst (λ (n : ℕ). n < 256) (sym (told_is way 
     go Up true = omega arith
     go w false = omega arith
 
-rfu_read : (way : Way) (p : Octets) (h : Header) (n : ℕ) → Octal p → read_of p ≡ Packet h n → RfuRead way p h n
+rfu_read : (way : Way) (p : Octets) (h : Header) (n : ℕ) → Octal p → read_of p ≡ Some (h, n) → RfuRead way p h n
 unfolding header_of
 rfu_read way p h n o e =
     let w = read_facts p h n e in
@@ -95,8 +94,8 @@ pub rfu_octet : (way : Way) (p : Octets) → Octal p → rfu_by way (read_of p) 
 rfu_octet way p o = go (read_of p) refl
   where
     go : (r : Reading) → read_of p ≡ r → rfu_by way r < 256
-    go (Packet h n) e = (rfu_read way p h n o e).octet
-    go Drop e = omega arith
+    go (Some (h, n)) e = (rfu_read way p h n o e).octet
+    go None e = omega arith
 
 -- ---- fields to octets
 

@@ -14,7 +14,7 @@ use borrow.Author.Tests.{eq-eqb, ne_eqb}
 use Rattle.octets.specs.Octets.{Octets, pick, cut}
 use Rattle.packets.specs.Types.{mt_data}
 use Rattle.packets.specs.declared.Header.{Header}
-use Rattle.packets.specs.declared.Reading.TheVariants.{Packet}
+use Rattle.std.specs.Prelude.{Some}
 use Rattle.packets.specs.declared.Way.{Way}
 use Rattle.packets.specs.declared.Way.TheVariants.{Down, Up}
 use Rattle.packets.specs.Packet.{octet0, octet1, oid_of, carried_of, spare_of, packet_of, header_of, read_of, payload_of, carrying, credited, Writable}
@@ -83,12 +83,12 @@ module _ (h : Header) (payload rest : Octets) (w : Writable h) where
         ← w.spare,
       )
 
-  pub read_written : read_of (packet_of h payload ++ rest) ≡ Packet h (length payload)
+  pub read_written : read_of (packet_of h payload ++ rest) ≡ Some (h, length payload)
   unfolding packet_of
   read_written =
       let p = packet_of h payload ++ rest in
       read_whole p (omega arith) (rw (octet0_mt h.mt h.id h.pbf w.mt) w.mt) (omega (arith, length-append payload rest))
-      ∙ ap (λ (k : Header). Packet k (length payload)) header_written
+      ∙ ap (λ (k : Header). Some (k, length payload)) header_written
 
   pub payload_written : payload_of (packet_of h payload ++ rest) (length payload) ≡ payload
   unfolding packet_of cut
@@ -166,7 +166,7 @@ module _ (p : Octets) (octets : (i : ℕ) → get_or p i 0 < 256) where
       let n : 3 + get_or p 2 0 ≡ suc (suc (suc (get_or p 2 0))) = omega arith in
       (λ i. first i ∷ second i ∷ third i ∷ take (get_or p 2 0) (drop 3 p)) ∙ sym (λ i. take (n i) (three p long i))
 
-  pub written_again : (way : Way) (h : Header) (n : ℕ) → read_of p ≡ Packet h n → packet_with way (rfu_of way h) h (payload_of p n) ≡ take (3 + n) p
+  pub written_again : (way : Way) (h : Header) (n : ℕ) → read_of p ≡ Some (h, n) → packet_with way (rfu_of way h) h (payload_of p n) ≡ take (3 + n) p
   written_again way h n e =
       let w = read_facts p h n e in
       (λ i. packet_with way (rfu_of way (w.header i)) (w.header i) (payload_of p (w.size i)))
@@ -174,7 +174,7 @@ module _ (p : Octets) (octets : (i : ℕ) → get_or p i 0 < 256) where
       ∙ ap (λ (k : ℕ). take (3 + k) p) (sym w.size)
 
   -- where no spare bit of it is set, as a writer writes it
-  pub written_read : (h : Header) (n : ℕ) → read_of p ≡ Packet h n → h.spare ≡ 0 → packet_of h (payload_of p n) ≡ take (3 + n) p
+  pub written_read : (h : Header) (n : ℕ) → read_of p ≡ Some (h, n) → h.spare ≡ 0 → packet_of h (payload_of p n) ≡ take (3 + n) p
   unfolding packet_of packet_with
   written_read h n e z =
       let bare : octet1 h.mt h.oid h.credits ≡ octet1 h.mt h.oid h.credits + h.spare = omega (arith, z) in

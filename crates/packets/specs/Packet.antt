@@ -1,11 +1,9 @@
 -- The packets of NCI 2.0 (003, 3.4; document 01, "Packets"): three octets of header and the payload.
 -- Assumes nothing.
-use Rattle.std.specs.Prelude.{ℕ, ◌+◌, ◌*◌, ◌-◌, ◌/◌, ◌%◌, ◌<◌, ◌≡◌, Bool, true, false, [], ◌∷◌, length, get_or, ltb, leb, eqb}
+use Rattle.std.specs.Prelude.{ℕ, ◌+◌, ◌*◌, ◌-◌, ◌/◌, ◌%◌, ◌<◌, ◌≡◌, Bool, true, false, [], ◌∷◌, length, get_or, ltb, leb, eqb, Option, Some, None}
 use Rattle.octets.specs.Octets.{Octets, pick, cut, splice}
 use Rattle.packets.specs.Types.{mt_data, mt_rfu}
 use Rattle.packets.specs.declared.Header.{Header}
-use Rattle.packets.specs.declared.Reading.{Reading}
-use Rattle.packets.specs.declared.Reading.TheVariants.{Packet, Drop}
 
 -- ---- fields to octets
 
@@ -48,13 +46,17 @@ header_of first second =
       spare = spare_of (first / 32) second;
     }
 
+-- what reading finds: the header and the length of the payload, or a packet to drop
+abbrev pub Reading : Type 0
+Reading = Option (Header × ℕ)
+
 -- a packet short of its header or of its stated length, or of an RFU message type, is dropped; octets past its length are ignored
 unfoldable pub read_of : Octets → Reading
 read_of p =
-    pick (ltb (length p) 3) Drop
-    (pick (leb mt_rfu (get_or p 0 0 / 32)) Drop
-    (pick (ltb (length p - 3) (get_or p 2 0)) Drop
-    (Packet (header_of (get_or p 0 0) (get_or p 1 0)) (get_or p 2 0))))
+    pick (ltb (length p) 3) None
+    (pick (leb mt_rfu (get_or p 0 0 / 32)) None
+    (pick (ltb (length p - 3) (get_or p 2 0)) None
+    (Some (header_of (get_or p 0 0) (get_or p 1 0), get_or p 2 0))))
 
 -- the payload of a packet, of the length that reading found
 abbrev pub payload_of : Octets → ℕ → Octets

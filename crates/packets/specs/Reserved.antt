@@ -1,16 +1,14 @@
 -- The reserved bits (RFU) of octet 1 that a sender left at 1 (003, 3.4.2 and 3.4.3): senders write 0 there (L828), receivers ignore them (L829),
 -- and reading shows them.
 -- Assumes nothing.
-use Rattle.std.specs.Prelude.{ℕ, zero, suc, ◌+◌, ◌*◌, ◌-◌, ◌/◌, ◌%◌, ◌<◌, ◌≡◌, ◌∷◌, ◌++◌, length, get_or, take, eqb}
+use Rattle.std.specs.Prelude.{ℕ, zero, suc, ◌+◌, ◌*◌, ◌-◌, ◌/◌, ◌%◌, ◌<◌, ◌≡◌, ◌∷◌, ◌++◌, length, get_or, take, eqb, Some, None}
 use Rattle.octets.specs.Octets.{Octets, pick}
 use Rattle.octets.specs.Octal.{Octal}
 use Rattle.packets.specs.Types.{mt_data}
 use Rattle.packets.specs.declared.Header.{Header}
-use Rattle.packets.specs.declared.Reading.{Reading}
-use Rattle.packets.specs.declared.Reading.TheVariants.{Packet, Drop}
 use Rattle.packets.specs.declared.Way.{Way}
 use Rattle.packets.specs.declared.Way.TheVariants.{Down, Up}
-use Rattle.packets.specs.Packet.{octet0, octet1, read_of, payload_of, Writable}
+use Rattle.packets.specs.Packet.{Reading, octet0, octet1, read_of, payload_of, Writable}
 
 -- ---- which bits they are
 
@@ -32,8 +30,8 @@ rfu_of Up h = h.spare
 
 -- a packet that is dropped shows none
 abbrev pub rfu_by : Way → Reading → ℕ
-rfu_by way (Packet h n) = rfu_of way h
-rfu_by way Drop = 0
+rfu_by way (Some (h, n)) = rfu_of way h
+rfu_by way None = 0
 
 -- ---- what is proved of it
 
@@ -68,7 +66,7 @@ pub record RfuRead (way : Way) (p : Octets) (h : Header) (n : ℕ) : Type 0 wher
 -- shows two of them in the place of the credits
 pub record RfuWritten (way : Way) (rfu : ℕ) (h : Header) (payload rest : Octets) : Type 0 where
   pub header : Header
-  pub reads : read_of (packet_with way rfu h payload ++ rest) ≡ Packet header (length payload)
+  pub reads : read_of (packet_with way rfu h payload ++ rest) ≡ Some (header, length payload)
   pub told : rfu_of way header ≡ rfu
   pub mt : header.mt ≡ h.mt
   pub pbf : header.pbf ≡ h.pbf
@@ -77,7 +75,7 @@ pub record RfuWritten (way : Way) (rfu : ℕ) (h : Header) (payload rest : Octet
   pub credits : credits_going way header.credits ≡ credits_going way h.credits
 
 pub record Rfu : Type 0 where
-  pub read : (way : Way) (p : Octets) (h : Header) (n : ℕ) → Octal p → read_of p ≡ Packet h n → RfuRead way p h n
+  pub read : (way : Way) (p : Octets) (h : Header) (n : ℕ) → Octal p → read_of p ≡ Some (h, n) → RfuRead way p h n
   -- bits of the mask alone: a multiple of its lowest
   pub written : (way : Way) (rfu : ℕ) (h : Header) (payload rest : Octets) → Writable h → rfu < 256 → rfu % (256 - rfu_mask way h.mt) ≡ 0
       → RfuWritten way rfu h payload rest

@@ -36,13 +36,6 @@ pub enum Way {
     Up,
 }
 
-// What reading finds: a packet's header and the length of its payload, or a packet to drop.
-#[derive(Clone, Copy)]
-pub enum Reading {
-    Packet(Header, usize),
-    Drop,
-}
-
 // The OID that octet 1 holds for a message type.
 fn oid_of(mt: u8, second: u8) -> u8
     ensures { result ≡ oid_of mt second }
@@ -68,38 +61,36 @@ fn spare_of(mt: u8, second: u8) -> u8
     }
 }
 
-// Reads a packet. Too short for its header or its stated length, or of an RFU message type, it is a drop; octets past its
-// length are ignored.
-pub fn read(p: &[u8]) -> Reading
+// Reads a packet: its header and the length of its payload. Too short for its header or its stated length, or of an RFU
+// message type, it is to be dropped; octets past its length are ignored.
+pub fn read(p: &[u8]) -> Option<(Header, usize)>
     ensures { result ≡ read_of p.now }
 {
     if p.len() < 3 {
-        return Reading::Drop;
+        return None;
     }
     let first = p[0];
     let mt = first / 32;
     if 4 <= mt {
-        return Reading::Drop;
+        return None;
     }
     let len = p[2] as usize;
     if p.len() - 3 < len {
-        return Reading::Drop;
+        return None;
     }
     let second = p[1];
     let oid = oid_of(mt, second);
     let credits = carried_of(mt, second);
     let spare = spare_of(mt, second);
-    Reading::Packet(
-        Header {
-            mt: mt,
-            pbf: first / 16 % 2 == 1,
-            id: first % 16,
-            oid: oid,
-            credits: credits,
-            spare: spare,
-        },
-        len,
-    )
+    let h = Header {
+        mt,
+        pbf: first / 16 % 2 == 1,
+        id: first % 16,
+        oid,
+        credits,
+        spare,
+    };
+    Some((h, len))
 }
 
 // The payload of a packet, as a part of the packet itself; len is what reading found.

@@ -20,7 +20,7 @@ use Rattle.record.specs.Reading.{decode_of}
 use Rattle.model.specs.Effects.{Call, fresh, power, command, send, push, down, consume, credit, air, reply, up, report}
 use Rattle.model.proofs.Needs.{need}
 use Rattle.calls.specs.Kinds.{Reading}
-use Rattle.calls.specs.Kinds.reading.{Packet, Drop}
+use Rattle.std.specs.Prelude.{Some, None}
 use Rattle.calls.specs.Word.{handed_bit, word_of, word_telling, number_of, answer_in, dropped_in, handed_in, length_in, down_in, up_in, rfu_in, moves_in}
 use Rattle.calls.specs.Outcome.{Outcome, outcome, entry_rules}
 use Rattle.calls.specs.Packet.{wire_ring, packet_back, packet_rules, shown_packet, packet_call, handed_by, last_packets}
@@ -130,8 +130,8 @@ telling_modest : (n w : ℕ) → length_in w ≤ message_size → length_in (wor
 telling_modest n w h = omega (arith, told_length n w)
 
 read_modest : (x : Reading) → length_in (found_word (found_in x)) ≤ message_size
-read_modest (Packet h n) = telling_modest _ _ (quietly _ _ _)
-read_modest Drop = telling_modest _ _ (quietly _ _ _)
+read_modest (Some (h, n)) = telling_modest _ _ (quietly _ _ _)
+read_modest None = telling_modest _ _ (quietly _ _ _)
 
 -- what a call leaves alone
 pub kept : (c : Call) (a out : Octets) → Within a out (perform c a out)

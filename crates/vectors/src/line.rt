@@ -62,7 +62,7 @@ fn put_packet(out: &mut [u8], at: usize, p: &[u8]) -> usize
     requires { at ≤ length out.old }
     ensures { result ≤ length out.new }
 {
-    let packets::Reading::Packet(h, len) = packets::read(p) else {
+    let Some((h, len)) = packets::read(p) else {
         return put(out, at, b" read=drop");
     };
     let payload = packets::payload(p, len);

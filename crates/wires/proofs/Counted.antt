@@ -7,9 +7,8 @@ use lib.Dec.{eqb}
 use borrow.Author.Tests.{eq-eqb, ne_eqb}
 use Rattle.octets.specs.Octets.{Octets, pick}
 use Rattle.packets.specs.declared.Header.{Header}
-use Rattle.packets.specs.declared.Reading.{Reading}
-use Rattle.packets.specs.declared.Reading.TheVariants.{Packet, Drop}
-use Rattle.packets.specs.Packet.{read_of, payload_of}
+use Rattle.std.specs.Prelude.{Some, None}
+use Rattle.packets.specs.Packet.{Reading, read_of, payload_of}
 use Rattle.packets.specs.Segments.{Segment}
 use Rattle.area.specs.Ring.{trim}
 use Rattle.wires.specs.declared.up.Inside.{Inside}
@@ -36,15 +35,15 @@ module _ (c : ℕ) (s : Octets) where
   counted_trim = ap (counted_in c (trim s)) (read_trim s) ∙ go (read_of s) refl
     where
       go : (r : Reading) → read_of s ≡ r → counted_in c (trim s) r ≡ counted_in c s r
-      go (Packet h n) e =
+      go (Some (h, n)) e =
           ap (λ (m : Octets). pick (eqb h.mt 0) (pick (eqb h.id c) h.credits 0) (credits_inside c m (inside_of h n))) (payload_trim s h n e)
-      go Drop e = refl
+      go None e = refl
 
-  pub counted_none : read_of s ≡ Drop → 0 ≡ counted_on c (trim s)
+  pub counted_none : read_of s ≡ None → 0 ≡ counted_on c (trim s)
   counted_none e = sym (counted_trim ∙ ap (counted_in c s) e)
 
-  module _ (h : Header) (n : ℕ) (e : read_of s ≡ Packet h n) where
-    read_so : counted_on c (trim s) ≡ counted_in c s (Packet h n)
+  module _ (h : Header) (n : ℕ) (e : read_of s ≡ Some (h, n)) where
+    read_so : counted_on c (trim s) ≡ counted_in c s (Some (h, n))
     read_so = counted_trim ∙ ap (counted_in c s) e
 
     pub counted_data : h.mt ≡ 0 → pick (eqb h.id c) h.credits 0 ≡ counted_on c (trim s)
@@ -57,8 +56,8 @@ module _ (c : ℕ) (s : Octets) where
 
 module _ (c : ℕ) (p q : Octets) (same : read_of p ≡ read_of q) where
   data_read : (r : Reading) → is_data_for c (meaning_in p r) ≡ is_data_for c (meaning_in q r)
-  data_read (Packet h n) = sym (data_meant c h _) ∙ data_meant c h _
-  data_read Drop = refl
+  data_read (Some (h, n)) = sym (data_meant c h _) ∙ data_meant c h _
+  data_read None = refl
 
   pub data_same : data_one c p ≡ data_one c q
   unfolding meaning
@@ -69,7 +68,7 @@ module _ (c : ℕ) (p q : Octets) (same : read_of p ≡ read_of q) where
   counted_same other = go (read_of p) other ∙ ap (counted_in c q) same
     where
       go : (r : Reading) → inside_in r ≡ Other → counted_in c p r ≡ counted_in c q r
-      go (Packet h n) e =
+      go (Some (h, n)) e =
           let headed : Octets → Inside → ℕ = λ m x. pick (eqb h.mt 0) (pick (eqb h.id c) h.credits 0) (credits_inside c m x) in
           ap (headed (payload_of p n)) e ∙ sym (ap (headed (payload_of q n)) e)
-      go Drop e = refl
+      go None e = refl

@@ -11,9 +11,8 @@ use lib.Dec.{eqb, ltb, leb}
 use lib.ListN.{length, get_or}
 use borrow.Author.Tests.{eqb-true, ltb-true, leb-true, eq-eqb}
 use Rattle.octets.specs.Octets.{Octets, pick}
-use Rattle.packets.specs.declared.Reading.{Reading}
-use Rattle.packets.specs.declared.Reading.TheVariants.{Packet, Drop}
-use Rattle.packets.specs.Packet.{read_of, payload_of}
+use Rattle.std.specs.Prelude.{Some, None}
+use Rattle.packets.specs.Packet.{Reading, read_of, payload_of}
 use Rattle.packets.proofs.Packet.{read_ranged}
 use Rattle.state.specs.Conn.{place_of, metered}
 use Rattle.state.specs.Profile.{credits_ok}
@@ -104,11 +103,11 @@ packet_few : (c : ℕ) (p : Octets) → counted_on c p ≤ 8
 packet_few c p = go (read_of p) refl
   where
     go : (r : Reading) → read_of p ≡ r → counted_in c p r ≤ 8
-    go (Packet h n) e =
+    go (Some (h, n)) e =
         on (λ (k : ℕ). k ≤ 8) (eqb h.mt 0)
         (λ z. on (λ (k : ℕ). k ≤ 8) (eqb h.id c) (λ y. omega (arith, (read_ranged p h n e).credits)) (λ y. omega arith))
         (λ z. inside_few (payload_of p n) c (inside_of h n))
-    go Drop e = omega arith
+    go None e = omega arith
 
 pub counted_up_few : (c : ℕ) (w : List Octets) → counted_up c w ≤ 8 * length w
 unfolding counted_up

@@ -11,9 +11,8 @@ use borrow.Author.Tests.{eqb-true, eq-eqb}
 use Rattle.octets.specs.Octets.{Octets, pick}
 use Rattle.octets.proofs.Octets.{length_cut}
 use Rattle.packets.specs.declared.Header.{Header}
-use Rattle.packets.specs.declared.Reading.{Reading}
-use Rattle.packets.specs.declared.Reading.TheVariants.{Packet, Drop}
-use Rattle.packets.specs.Packet.{read_of, payload_of}
+use Rattle.std.specs.Prelude.{Some, None}
+use Rattle.packets.specs.Packet.{Reading, read_of, payload_of}
 use Rattle.packets.specs.Segments.{segment}
 use Rattle.packets.proofs.Packet.{read_facts, read_ranged}
 use Rattle.state.specs.declared.commands.Command.{Command}
@@ -193,7 +192,7 @@ pub same_count : (c : ℕ) (p : Octets) → counted_on c p ≡ credits_on c p
 unfolding meaning inside_of
 same_count c p = go (read_of p) refl
   where
-    headed : (h : Header) (n : ℕ) → read_of p ≡ Packet h n → (b : Bool) → eqb h.mt 0 ≡ b
+    headed : (h : Header) (n : ℕ) → read_of p ≡ Some (h, n) → (b : Bool) → eqb h.mt 0 ≡ b
         → pick b (pick (eqb h.id c) h.credits 0) (credits_inside c (payload_of p n) (inside_of h n))
         ≡ credits_meant c (pick b (datum h.id h.credits (segment h.pbf (payload_of p n))) (control h.mt h.id h.oid (segment h.pbf (payload_of p n))))
     headed h n e true z = refl
@@ -213,8 +212,8 @@ same_count c p = go (read_of p) refl
         segmented false = whole_same c (payload_of p n) h.mt h.id h.oid n long (read_ranged p h n e).mt z
 
     go : (r : Reading) → read_of p ≡ r → counted_in c p r ≡ credits_meant c (meaning_in p r)
-    go (Packet h n) e = headed h n e (eqb h.mt 0) refl
-    go Drop e = refl
+    go (Some (h, n)) e = headed h n e (eqb h.mt 0) refl
+    go None e = refl
 
 pub same_up : (c : ℕ) (w : List Octets) → counted_up c w ≡ credits_up c w
 unfolding counted_up credits_up

@@ -12,9 +12,8 @@ use borrow.Author.Tests.{eqb-true, eq-eqb}
 use Rattle.octets.specs.Octets.{Octets, pick, cut}
 use Rattle.octets.proofs.Octets.{cut_cut}
 use Rattle.packets.specs.declared.Header.{Header}
-use Rattle.packets.specs.declared.Reading.{Reading}
-use Rattle.packets.specs.declared.Reading.TheVariants.{Packet, Drop}
-use Rattle.packets.specs.Packet.{read_of, header_of, payload_of, carrying, credited}
+use Rattle.std.specs.Prelude.{Some, None}
+use Rattle.packets.specs.Packet.{Reading, read_of, header_of, payload_of, carrying, credited}
 use Rattle.packets.specs.Segments.{Segment, segment}
 use Rattle.packets.proofs.Packet.{read_rfu, read_whole, read_facts, read_carrying, payload_carrying}
 use Rattle.area.specs.Map.{slot_size}
@@ -62,10 +61,10 @@ module _ (s : Octets) where
           let o1 = octet_trim 1 (omega arith) in
           let o2 = octet_trim 2 (omega arith) in
           read_whole (trim s) (omega arith) (rw o0 (omega arith)) (omega arith)
-          ∙ (λ i. Packet (header_of (o0 i) (o1 i)) (o2 i))
+          ∙ (λ i. Some (header_of (o0 i) (o1 i), o2 i))
           ∙ sym (read_whole s (omega arith) (omega arith) (omega arith))
 
-  pub payload_trim : (h : Header) (n : ℕ) → read_of s ≡ Packet h n → payload_of (trim s) n ≡ payload_of s n
+  pub payload_trim : (h : Header) (n : ℕ) → read_of s ≡ Some (h, n) → payload_of (trim s) n ≡ payload_of s n
   unfolding trim cut
   payload_trim h n e = let f = read_facts s h n e in cut_cut 3 n 0 (3 + get_or s 2 0) s (omega arith)
 
@@ -76,14 +75,14 @@ module _ (s : Octets) where
   meaning_trim = ap (meaning_in (trim s)) read_trim ∙ go (read_of s) refl
     where
       go : (r : Reading) → read_of s ≡ r → meaning_in (trim s) r ≡ meaning_in s r
-      go (Packet h n) e = ap (λ (m : Octets). meant h (segment h.pbf m)) (payload_trim h n e)
-      go Drop e = refl
+      go (Some (h, n)) e = ap (λ (m : Octets). meant h (segment h.pbf m)) (payload_trim h n e)
+      go None e = refl
 
-  pub meaning_junk : read_of s ≡ Drop → meaning (trim s) ≡ junk
+  pub meaning_junk : read_of s ≡ None → meaning (trim s) ≡ junk
   unfolding meaning
   meaning_junk e = meaning_trim ∙ ap (meaning_in s) e
 
-  pub meaning_packet : (h : Header) (n : ℕ) → read_of s ≡ Packet h n → meaning (trim s) ≡ meant h (segment h.pbf (payload_of s n))
+  pub meaning_packet : (h : Header) (n : ℕ) → read_of s ≡ Some (h, n) → meaning (trim s) ≡ meant h (segment h.pbf (payload_of s n))
   unfolding meaning
   meaning_packet h n e = meaning_trim ∙ ap (meaning_in s) e
 
@@ -113,9 +112,9 @@ unfolding meaning
 meaning_carrying n p c m x = go (read_of p) refl
   where
     go : (r : Reading) → read_of p ≡ r → meaning_in p r ≡ datum c m x → meaning_in (carrying n p) (read_of (carrying n p)) ≡ datum c (n % 4) x
-    go (Packet h k) e means =
+    go (Some (h, k)) e means =
         let zero = meant_data h (segment h.pbf (payload_of p k)) c m x means in
         ap (meaning_in (carrying n p)) (read_carrying n p h k e zero)
         ∙ ap (λ (o : Octets). meant (credited h n) (segment h.pbf o)) (payload_carrying n p k)
         ∙ rw (eq-eqb _ _ zero) (ap (renewed (n % 4)) (rw (eq-eqb _ _ zero) at means))
-    go Drop e means = let z : ◌≡◌ {A = ℕ} 0 1 = cc in absurd (omega arith)
+    go None e means = let z : ◌≡◌ {A = ℕ} 0 1 = cc in absurd (omega arith)

@@ -1,13 +1,11 @@
 -- The credits on the up wire as report counts them: by the header of every packet, looking into three messages alone. `Tally` says what they
 -- are by what every message says; both are the same of any packets.
 -- Assumes nothing.
-use Rattle.std.specs.Prelude.{ℕ, ◌+◌, Bool, ◌&&◌, List, [], ◌∷◌, eqb}
+use Rattle.std.specs.Prelude.{ℕ, ◌+◌, Bool, ◌&&◌, List, [], ◌∷◌, eqb, Some, None}
 use Rattle.octets.specs.Octets.{Octets, pick}
 use Rattle.packets.specs.Types.{mt_data, mt_response, mt_notification}
 use Rattle.packets.specs.declared.Header.{Header}
-use Rattle.packets.specs.declared.Reading.{Reading}
-use Rattle.packets.specs.declared.Reading.TheVariants.{Packet, Drop}
-use Rattle.packets.specs.Packet.{read_of, payload_of}
+use Rattle.packets.specs.Packet.{Reading, read_of, payload_of}
 use Rattle.state.specs.Names.{gid_core, gid_rf, oid_conn_create, oid_conn_credits, oid_activated}
 use Rattle.state.specs.declared.commands.Command.TheVariants as command
 use Rattle.dh.specs.declared.contents.Notice.TheVariants as notice
@@ -35,8 +33,8 @@ inside_of h n =
 
 -- a packet that is dropped has nothing inside
 abbrev pub inside_in : Reading → Inside
-inside_in (Packet h n) = inside_of h n
-inside_in Drop = Other
+inside_in (Some (h, n)) = inside_of h n
+inside_in None = Other
 
 -- ---- the credits inside
 
@@ -51,9 +49,9 @@ credits_inside c m Other = 0
 
 -- data has them in its header
 abbrev pub counted_in : ℕ → Octets → Reading → ℕ
-counted_in c p (Packet h n) =
+counted_in c p (Some (h, n)) =
     pick (eqb h.mt mt_data) (pick (eqb h.id c) h.credits 0) (credits_inside c (payload_of p n) (inside_of h n))
-counted_in c p Drop = 0
+counted_in c p None = 0
 
 abbrev pub counted_on : ℕ → Octets → ℕ
 counted_on c p = counted_in c p (read_of p)

@@ -7,14 +7,13 @@ ghost use Rattle.wires.specs.Meaning.{meaning};
 ghost use Rattle.wires.specs.Tally.{is_data_for, data_count};
 
 use area::map;
-use packets::Reading;
 
 // Whether the packet that a slot starts with holds data of the connection.
 pub fn is_data_for(slot: &[u8], conn: u8) -> bool
     ensures { result ≡ is_data_for conn (meaning (trim slot.now)) }
 {
     let got = packets::read(slot);
-    let Reading::Packet(h, _) = got else {
+    let Some((h, _)) = got else {
         return false;
     };
     (h.mt == packets::DATA) & (h.id == conn)

@@ -10,7 +10,7 @@ ghost use Rattle.wires.specs.Counted.{is_named, inside_of, credits_inside, count
 use area::map;
 use dh::{contents, host};
 use octets::choose;
-use packets::{Header, Reading};
+use packets::Header;
 use state::names::{GID_CORE, GID_RF, OID_ACTIVATED, OID_CONN_CREATE, OID_CONN_CREDITS};
 use state::{conn, fields};
 
@@ -120,7 +120,7 @@ pub fn credits_on(slot: &[u8], conn: u8) -> u8
     ensures { result ≡ counted_on conn (trim slot.now) }
 {
     let got = packets::read(slot);
-    let Reading::Packet(h, n) = got else {
+    let Some((h, n)) = got else {
         return 0;
     };
     if h.mt == packets::DATA {

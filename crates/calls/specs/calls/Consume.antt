@@ -2,11 +2,10 @@
 -- message that it finishes is handed out. A credit is owed if flow-controlled; on a loopback the packet also goes up, unchanged but for
 -- the credits that it carries.
 -- Assumes nothing.
-use Rattle.std.specs.Prelude.{ℕ, ◌+◌, ◌≤◌, ◌<◌, ◌≡◌, Bool, true, false}
+use Rattle.std.specs.Prelude.{ℕ, ◌+◌, ◌≤◌, ◌<◌, ◌≡◌, Bool, true, false, Some, None}
 use Rattle.octets.specs.Octets.{Octets, pick, cut, splice}
 use Rattle.packets.specs.Packet.{read_of, payload_of, carrying}
 use Rattle.calls.specs.Kinds.{Reading, Progress, Joined, ControllerSide, Record}
-use Rattle.calls.specs.Kinds.reading.{Packet, Drop}
 use Rattle.state.specs.Conn as conn
 use Rattle.state.specs.Conn.{place_of, counts_of, flows, credit_sum, carried_by, paid_side}
 use Rattle.state.specs.Runs.{joined_of}
@@ -95,12 +94,12 @@ consumed_as r c j len a out = outcome (consumed_word c j len) (saved (echoed_slo
 -- ---- by what the reader found; of a packet that it drops nothing joins the run
 
 abbrev pub joined_by : Record → ℕ → Reading → Joined
-joined_by r c (Packet h n) = joined_of message_size (controller_side r c).run h.pbf n
-joined_by r c Drop = record { next = (controller_side r c).run; done = false; dropped = true }
+joined_by r c (Some (h, n)) = joined_of message_size (controller_side r c).run h.pbf n
+joined_by r c None = record { next = (controller_side r c).run; done = false; dropped = true }
 
 abbrev pub consumed_by : Record → ℕ → Reading → Octets → Octets → Outcome
-consumed_by r c (Packet h n) a out = consumed_as r c (joined_by r c (Packet h n)) ((controller_side r c).run.len + n) (consumed_run r c n a) out
-consumed_by r c Drop a out = consumed_as r c (joined_by r c Drop) 0 a out
+consumed_by r c (Some (h, n)) a out = consumed_as r c (joined_by r c (Some (h, n))) ((controller_side r c).run.len + n) (consumed_run r c n a) out
+consumed_by r c None a out = consumed_as r c (joined_by r c None) 0 a out
 
 abbrev pub consumed : Record → ℕ → Octets → Octets → Outcome
 consumed r c a out = consumed_by r c (oldest_read r c a) a out

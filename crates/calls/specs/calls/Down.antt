@@ -1,12 +1,11 @@
 -- down on octets: the controller takes the first down packet, stores data and answers a command when it is whole.
 -- Assumes nothing.
-use Rattle.std.specs.Prelude.{ℕ, ◌+◌, ◌≤◌, ◌<◌, ◌≡◌, true, false, List, [], ◌∷◌, length, eqb}
+use Rattle.std.specs.Prelude.{ℕ, ◌+◌, ◌≤◌, ◌<◌, ◌≡◌, true, false, List, [], ◌∷◌, length, eqb, Some, None}
 use Rattle.octets.specs.Octets.{Octets, pick, cut, splice}
 use Rattle.packets.specs.Packet.{packet_of, read_of, payload_of}
 use Rattle.packets.specs.Reserved.{rfu_by}
 use Rattle.packets.specs.Headers.{control_header}
 use Rattle.calls.specs.Kinds.{Header, Reading, Ring, ControlRun, ControllerSide, Counts, Record, Verdict, ControlJoined, Note}
-use Rattle.calls.specs.Kinds.reading.{Packet, Drop}
 use Rattle.calls.specs.Kinds.way.{Down}
 use Rattle.state.specs.Conn as conn
 use Rattle.state.specs.Conn.{place_of, counts_of, open_at}
@@ -130,10 +129,10 @@ command_down t slot h n a out =
 -- ---- by what the reader found: commands and data aside, all is dropped
 
 unfoldable pub arrived : Record → ℕ → Reading → Octets → Octets → Outcome
-arrived t slot (Packet h n) a out =
+arrived t slot (Some (h, n)) a out =
     pick (eqb h.mt 0) (data_down t slot h.id a out)
     (pick (eqb h.mt 1) (command_down t slot h n a out) (down_dropped t a out))
-arrived t slot Drop a out = down_dropped t a out
+arrived t slot None a out = down_dropped t a out
 
 abbrev pub downed : Record → Octets → Octets → Outcome
 downed r a out = tells (rfu_by Down (down_read r a)) (arrived (took_down r) (down_slot r) (down_read r a) a out)
@@ -155,4 +154,4 @@ pub record Arrivable (conns : List Counts) (up : Ring) (h : Header) : Type 0 whe
 pub record Downable (r : Record) (a : Octets) : Type 0 where
   pub some : 0 < r.down.count
   pub ring : FitRing wire_slots r.down
-  pub packet : (h : Header) (n : ℕ) → down_read r a ≡ Packet h n → Arrivable r.ends.conns r.up h
+  pub packet : (h : Header) (n : ℕ) → down_read r a ≡ Some (h, n) → Arrivable r.ends.conns r.up h

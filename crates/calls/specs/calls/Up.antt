@@ -1,12 +1,11 @@
 -- up on octets: the host takes the first packet of the up wire, hands out a finished data message and hears a control message when it is
 -- whole.
 -- Assumes nothing.
-use Rattle.std.specs.Prelude.{ℕ, ◌+◌, ◌<◌, ◌≡◌, Bool, true, false, length, eqb}
+use Rattle.std.specs.Prelude.{ℕ, ◌+◌, ◌<◌, ◌≡◌, Bool, true, false, length, eqb, Some, None}
 use Rattle.octets.specs.Octets.{Octets, pick, cut, splice}
 use Rattle.packets.specs.Packet.{read_of, payload_of}
 use Rattle.packets.specs.Reserved.{rfu_by}
 use Rattle.calls.specs.Kinds.{Header, Reading, HostSide, Ends, Record, Joined, ControlJoined, Heeded}
-use Rattle.calls.specs.Kinds.reading.{Packet, Drop}
 use Rattle.calls.specs.Kinds.way.{Up}
 use Rattle.state.specs.Conn as conn
 use Rattle.state.specs.Conn.{place_of}
@@ -121,8 +120,8 @@ coming_up r h n a out =
     pick (eqb h.mt 0) (received_up r h n a out) (pick (eqb h.mt 1) (dropped_up r a out) (heard_up r h n a out))
 
 abbrev pub read_up : Record → Reading → Octets → Octets → Outcome
-read_up r (Packet h n) a out = coming_up r h n a out
-read_up r Drop a out = dropped_up r a out
+read_up r (Some (h, n)) a out = coming_up r h n a out
+read_up r None a out = dropped_up r a out
 
 abbrev pub upped : Record → Octets → Octets → Outcome
 upped r a out = tells (rfu_by Up (up_read r a)) (read_up r (up_read r a) a out)

@@ -1,6 +1,6 @@
 -- `call_bench::read::found` meets its contract, by what the reader found.
 use mathlib.Core.Path.{sym, ap, ◌∙◌}
-use Rattle.packets.specs.declared.Reading.{Reading}
+use Rattle.packets.specs.Packet.{Reading}
 use Rattle.record.specs.Layout.{bit}
 use Rattle.calls.specs.Word.{word_of, word_telling}
 use Rattle.calls.specs.Read.{found_in, found_word}
@@ -14,4 +14,4 @@ pub returns : goal.returns
 unfolding word_of bit
 returns c =
     c.telling.ensures ∙ (λ i. word_telling (c.rfu.ensures i) 0)
-    ∙ sym (ap (λ (x : Reading). found_word (found_in x)) c.in-Packet.is)
+    ∙ sym (ap (λ (x : Reading). found_word (found_in x)) c.in-Some.is)

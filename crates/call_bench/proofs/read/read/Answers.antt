@@ -4,7 +4,7 @@ use mathlib.Core.Path.{ap, ◌∙◌}
 use lib.ListN.{length}
 use borrow.Author.Tests.{lt-ltb, le-ltb}
 use Rattle.area.specs.Map.{slot_size}
-use Rattle.packets.specs.declared.Reading.{Reading}
+use Rattle.packets.specs.Packet.{Reading}
 use Rattle.calls.specs.Read.{found_in, found_of, found_word}
 use Rattle.call_bench.proofs.read.read.Goals as goal
 

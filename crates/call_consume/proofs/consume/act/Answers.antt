@@ -1,6 +1,6 @@
 -- `call_consume::consume::act` meets its contract, by what the reader found.
 use mathlib.Core.Path.{◌≡◌, sym, subst, ◌∙◌}
-use Rattle.packets.specs.declared.Reading.{Reading}
+use Rattle.packets.specs.Packet.{Reading}
 use Rattle.calls.specs.calls.Consume.{oldest_at, consumed_by}
 use Rattle.calls.specs.Outcome.{outcome}
 use Rattle.area.proofs.Moves.{payload_few}
@@ -15,11 +15,11 @@ returns-in_default c =
 
 pub take-requires : goal.take-requires
 take-requires c =
-    let e = sym c.read-got.ensures ∙ c.in-Packet.is in
+    let e = sym c.read-got.ensures ∙ c.in-Some.is in
     (c.requires.0, c.requires.1, c.requires.2, payload_few c.args.area.now (oldest_at c.args.r c.args.conn) _ _ e)
 
 pub returns : goal.returns
 returns c =
     let s = c.args in
     subst (λ (x : Reading). outcome c.take.result c.take.new.area c.take.new.out ≡ consumed_by s.r s.conn x s.area.now s.out.now)
-    (sym (sym c.read-got.ensures ∙ c.in-Packet.is)) c.take.ensures
+    (sym (sym c.read-got.ensures ∙ c.in-Some.is)) c.take.ensures

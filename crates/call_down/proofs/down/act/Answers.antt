@@ -4,7 +4,7 @@ use Rattle.area.proofs.Moves.{payload_few}
 use Rattle.area.specs.Map.{slot_size}
 use Rattle.state.specs.declared.kinds.Record.{Record}
 use Rattle.packets.specs.Packet.{read_of}
-use Rattle.packets.specs.declared.Reading.TheVariants.{Packet}
+use Rattle.std.specs.Prelude.{Some}
 use Rattle.packets.specs.declared.Way.TheVariants.{Down}
 use Rattle.packets.specs.Reserved.{rfu_of, rfu_by}
 use Rattle.record.specs.Claims.{saved}
@@ -32,9 +32,9 @@ returns-in_default c =
 pub packet-w-requires : goal.packet-w-requires
 packet-w-requires c =
     let a = c.args.area.now in
-    let h = c.in-Packet.h in
-    let n = c.in-Packet.n in
-    let read = sym (c.read_slot-got.ensures ∙ (λ i. read_of (cut (c.first_at-slot.ensures i) slot_size a))) ∙ c.in-Packet.is in (
+    let h = c.in-Some.h in
+    let n = c.in-Some.n in
+    let read = sym (c.read_slot-got.ensures ∙ (λ i. read_of (cut (c.first_at-slot.ensures i) slot_size a))) ∙ c.in-Some.is in (
       search rules,
       omega (arith, c.requires.0, c.requires.1.ring.head, c.first_at-slot.ensures),
       payload_few a (down_slot c.args.r) h n read,
@@ -45,13 +45,13 @@ pub returns : goal.returns
 returns c =
     let r = c.args.r in
     let a = c.args.area.now in
-    let h = c.in-Packet.h in
-    let n = c.in-Packet.n in
-    let read = sym (c.read_slot-got.ensures ∙ (λ i. read_of (cut (c.first_at-slot.ensures i) slot_size a))) ∙ c.in-Packet.is in
+    let h = c.in-Some.h in
+    let n = c.in-Some.n in
+    let read = sym (c.read_slot-got.ensures ∙ (λ i. read_of (cut (c.first_at-slot.ensures i) slot_size a))) ∙ c.in-Some.is in
     let bits : c.rfu.result ≡ rfu_of Down h = c.rfu.ensures in
     let told = c.telling.ensures ∙ (λ i. word_telling (bits i) c.packet-w.result) in
     λ out.
     tells_by (rfu_of Down h) told
     (c.packet-w.ensures out
-    ∙ (λ i. arrived (c.took-t.ensures i) (c.first_at-slot.ensures i) (Packet h n) a out))
+    ∙ (λ i. arrived (c.took-t.ensures i) (c.first_at-slot.ensures i) (Some (h, n)) a out))
     ∙ sym (λ i. tells (rfu_by Down (read i)) (arrived (took_down r) (down_slot r) (read i) a out))

@@ -12,6 +12,6 @@ returns-in_default c =
 pub returns : goal.returns
 returns c =
     let s = c.args.slot.now in
-    let h = c.in-Packet.h in
-    let n = c.in-Packet.field-1 in
-    rw (meaning_packet s h n (sym c.read-got.ensures ∙ c.in-Packet.is)) (data_meant _ h _)
+    let h = c.in-Some.h in
+    let n = c.in-Some.field-0-1 in
+    rw (meaning_packet s h n (sym c.read-got.ensures ∙ c.in-Some.is)) (data_meant _ h _)

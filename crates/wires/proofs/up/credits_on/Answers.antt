@@ -12,14 +12,14 @@ returns-in_default c =
 pub returns-then-h-eq-DATA : goal.returns-then-h-eq-DATA
 returns-then-h-eq-DATA c =
     let s = c.args.slot.now in
-    let h = c.in-Packet.h in
-    let n = c.in-Packet.n in
-    c.carried.ensures ∙ counted_data _ s h n (sym c.read-got.ensures ∙ c.in-Packet.is) c.if-h-eq-DATA.true
+    let h = c.in-Some.h in
+    let n = c.in-Some.n in
+    c.carried.ensures ∙ counted_data _ s h n (sym c.read-got.ensures ∙ c.in-Some.is) c.if-h-eq-DATA.true
 
 pub returns : goal.returns
 returns c =
     let a = c.args in
-    let h = c.in-Packet.h in
-    let n = c.in-Packet.n in
+    let h = c.in-Some.h in
+    let n = c.in-Some.n in
     c.inside_credits.ensures ∙ (λ i. credits_inside a.conn (c.payload-m.ensures i) (c.inside_of-x.ensures i))
-    ∙ counted_control _ a.slot.now h n (sym c.read-got.ensures ∙ c.in-Packet.is) c.if-h-eq-DATA.false
+    ∙ counted_control _ a.slot.now h n (sym c.read-got.ensures ∙ c.in-Some.is) c.if-h-eq-DATA.false
