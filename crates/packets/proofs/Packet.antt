@@ -16,7 +16,7 @@ use Rattle.octets.proofs.Octets.{splice_front}
 use Rattle.packets.specs.Types.{mt_data}
 use Rattle.packets.specs.declared.Header.{Header}
 use Rattle.std.specs.Prelude.{Some, None}
-use Rattle.packets.specs.Packet.{octet0, octet1, packet_of, oid_of, carried_of, spare_of, header_of, read_of, payload_of, carrying, credited, slot_after, size_after}
+use Rattle.packets.specs.Packet.{octet0, octet1, packet_of, oid_of, carried_of, spare_of, header_of, read_of, payload_of, carrying, credited, slot_after}
 
 -- ---- packet_of
 
@@ -188,7 +188,7 @@ read_carrying n (x ∷ y ∷ p) h len e d =
     read_whole (x ∷ (y / 4 * 4 + n % 4) ∷ p) w.long w.known w.room
     ∙ (λ i. Some ((header_carrying x y n top ∙ ap (λ (k : Header). credited k n) (sym w.header)) i, sym w.size i))
 
--- ---- slot_after, size_after
+-- ---- slot_after
 
 -- three stores and a part after them are one packet
 pub packet_stored : (slot : Octets) (h : Header) (payload : Octets) (a b : ℕ) → 3 ≤ length slot
@@ -201,14 +201,6 @@ packet_stored (x ∷ y ∷ []) h payload a b k ea eb = absurd (not-suc-le-zero (
 packet_stored (x ∷ y ∷ z ∷ s) h payload a b k ea eb = λ i. ea i ∷ eb i ∷ length payload ∷ over s payload
 
 module _ (slot : Octets) (h : Header) (payload : Octets) where
-  pub slot_long : 255 < length payload → slot_after slot h payload ≡ slot
-  unfolding slot_after
-  slot_long l = simp (lt-ltb _ _ l)
-
-  pub slot_small : length payload ≤ 255 → length slot < 3 + length payload → slot_after slot h payload ≡ slot
-  unfolding slot_after
-  slot_small l s = simp (le-ltb _ _ l, lt-ltb _ _ s)
-
   pub slot_fits : length payload ≤ 255 → 3 + length payload ≤ length slot → slot_after slot h payload ≡ splice slot 0 (packet_of h payload)
   unfolding slot_after
   slot_fits l s = simp (le-ltb _ _ l, le-ltb _ _ s)
@@ -220,16 +212,3 @@ module _ (slot : Octets) (h : Header) (payload : Octets) where
       slot_fits l s
       ∙ splice_front slot (packet_of h payload) (rw length_packet s)
       ∙ ap (λ (n : ℕ). packet_of h payload ++ drop n slot) (length_packet h payload)
-
-module _ (slot payload : Octets) where
-  pub size_long : 255 < length payload → size_after slot payload ≡ 0
-  unfolding size_after
-  size_long l = simp (lt-ltb _ _ l)
-
-  pub size_small : length payload ≤ 255 → length slot < 3 + length payload → size_after slot payload ≡ 0
-  unfolding size_after
-  size_small l s = simp (le-ltb _ _ l, lt-ltb _ _ s)
-
-  pub size_fits : length payload ≤ 255 → 3 + length payload ≤ length slot → size_after slot payload ≡ 3 + length payload
-  unfolding size_after
-  size_fits l s = simp (le-ltb _ _ l, le-ltb _ _ s)

@@ -24,15 +24,6 @@ pub body_segment : (b : Bool) (o : Octets) → body (segment b o) ≡ o
 body_segment true o = refl
 body_segment false o = refl
 
--- ---- the test that a segment is followed by another
-
-pub ltb_from : (n at size : ℕ) → at < n → ltb size (n - at) ≡ ltb (at + size) n
-ltb_from n at size h = go (dec_le n (at + size))
-  where
-    go : Dec (n ≤ at + size) → ltb size (n - at) ≡ ltb (at + size) n
-    go (yes e) = le-ltb size (n - at) (omega arith) ∙ sym (le-ltb (at + size) n e)
-    go (no e) = lt-ltb size (n - at) (omega arith) ∙ sym (lt-ltb (at + size) n (omega arith))
-
 -- ---- parse, left
 
 pub parse_append : (r : Octets) (a b : List Segment) → parse r (a ++ b) ≡ parse r a ++ parse (left r a) b
@@ -181,14 +172,6 @@ module _ (size : ℕ) (pos : 1 ≤ size) where
       rw (segments_more m h, sum, one)
       (let eq : length (segments size (drop size m)) ≡ max 1 (y / size) = rw length-drop at ih in
       omega arith))
-
-  -- of a message with octets, without a sum that could pass the type of a length
-  pub segments_many : (m : Octets) → 1 ≤ length m → length (segments size m) ≡ (length m - 1) / size + 1
-  segments_many m h =
-      let sum : length m + (size - 1) ≡ length m - 1 + size = omega arith in
-      let one : (length m - 1 + size) / size ≡ (length m - 1) / size + 1 = add-div_right (length m - 1) pos in
-      let eq : length (segments size m) ≡ max 1 ((length m - 1 + size) / size) = rw sum at (segments_count m) in
-      omega arith
 
   pub segments_fulls : (m : Octets) (k : ℕ) → suc k < length (segments size m)
       → (length (body (nth (segments size m) k)) ≡ size) × (flag (nth (segments size m) k) ≡ true)

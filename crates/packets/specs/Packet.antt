@@ -82,14 +82,14 @@ slot_after slot h payload =
     pick (ltb 255 (length payload)) slot
     (pick (ltb (length slot) (3 + length payload)) slot (splice slot 0 (packet_of h payload)))
 
--- how many octets were written
-unfoldable pub size_after : Octets → Octets → ℕ
+-- how many octets were written; none where the slot is as it was
+unfoldable pub size_after : Octets → Octets → Option ℕ
 size_after slot payload =
-    pick (ltb 255 (length payload)) 0
-    (pick (ltb (length slot) (3 + length payload)) 0 (3 + length payload))
+    pick (ltb 255 (length payload)) None
+    (pick (ltb (length slot) (3 + length payload)) None (Some (3 + length payload)))
 
 -- what writing a packet into a slot answers, and the slot after it, every octet
-pub record Written (slot : Octets) (h : Header) (payload : Octets) (size : ℕ) (after : Octets) : Type 0 where
+pub record Written (slot : Octets) (h : Header) (payload : Octets) (size : Option ℕ) (after : Octets) : Type 0 where
   pub octets : after ≡ slot_after slot h payload
   pub count : size ≡ size_after slot payload
 

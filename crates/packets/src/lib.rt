@@ -7,7 +7,7 @@ ghost use Rattle.packets.specs.Packet.{octet0, octet1, oid_of, carried_of, spare
 ghost use Rattle.packets.specs.Reserved.{rfu_of};
 ghost use Rattle.packets.specs.Segments.{segments, segment_at, marked, body, flag};
 
-// Message types (003, Table 2). 4 to 7 are RFU.
+// Message types (003, Table 2). 4 to 7 are RFU. Numbers, since the contract of `write` takes any u8 for one: an enum is narrower.
 pub const DATA: u8 = 0;
 
 pub const COMMAND: u8 = 1;
@@ -37,6 +37,7 @@ pub enum Way {
 }
 
 // The OID that octet 1 holds for a message type.
+#[tactic(auto, unfolding(crate::specs::Packet::oid_of))]
 fn oid_of(mt: u8, second: u8) -> u8
     ensures { result ≡ oid_of mt second }
 {
@@ -44,6 +45,7 @@ fn oid_of(mt: u8, second: u8) -> u8
 }
 
 // The credits that it holds for a message type.
+#[tactic(auto, unfolding(crate::specs::Packet::carried_of))]
 fn carried_of(mt: u8, second: u8) -> u8
     ensures { result ≡ carried_of mt second }
 {
@@ -51,6 +53,7 @@ fn carried_of(mt: u8, second: u8) -> u8
 }
 
 // Its other bits.
+#[tactic(auto, unfolding(crate::specs::Packet::spare_of))]
 fn spare_of(mt: u8, second: u8) -> u8
     ensures { result ≡ spare_of mt second }
 {
@@ -63,14 +66,14 @@ fn spare_of(mt: u8, second: u8) -> u8
 
 // Reads a packet: its header and the length of its payload. Too short for its header or its stated length, or of an RFU
 // message type, it is to be dropped; octets past its length are ignored.
+#[tactic(auto, unfolding(crate::specs::Packet::read_of, crate::specs::Packet::header_of))]
 pub fn read(p: &[u8]) -> Option<(Header, usize)>
     ensures { result ≡ read_of p.now }
 {
     if p.len() < 3 {
         return None;
     }
-    let first = p[0];
-    let mt = first / 32;
+    let mt = p[0] / 32;
     if 4 <= mt {
         return None;
     }
@@ -78,17 +81,13 @@ pub fn read(p: &[u8]) -> Option<(Header, usize)>
     if p.len() - 3 < len {
         return None;
     }
-    let second = p[1];
-    let oid = oid_of(mt, second);
-    let credits = carried_of(mt, second);
-    let spare = spare_of(mt, second);
     let h = Header {
         mt,
-        pbf: first / 16 % 2 == 1,
-        id: first % 16,
-        oid,
-        credits,
-        spare,
+        pbf: p[0] / 16 % 2 == 1,
+        id: p[0] % 16,
+        oid: oid_of(mt, p[1]),
+        credits: carried_of(mt, p[1]),
+        spare: spare_of(mt, p[1]),
     };
     Some((h, len))
 }
@@ -100,6 +99,7 @@ pub fn payload<'a>(p: &'a [u8], len: usize) -> &'a [u8]
     octets::window(p, 3, len)
 }
 
+#[tactic(auto, unfolding(crate::specs::Packet::octet0))]
 fn first_octet(mt: u8, pbf: bool, id: u8) -> u8
     ensures { result ≡ octet0 mt pbf id }
 {
@@ -110,29 +110,28 @@ fn first_octet(mt: u8, pbf: bool, id: u8) -> u8
     }
 }
 
+#[tactic(auto, unfolding(crate::specs::Packet::octet1))]
 fn second_octet(mt: u8, oid: u8, credits: u8) -> u8
     ensures { result ≡ octet1 mt oid credits }
 {
     if mt == DATA { credits % 4 } else { oid % 64 }
 }
 
-// Writes a packet over the front of the slot. The number of octets written; 0, with the slot as it was, where the payload
+// Writes a packet over the front of the slot. The number of octets written; none, with the slot as it was, where the payload
 // is over 255 octets or the packet does not fit.
-pub fn write(slot: &mut [u8], h: Header, payload: &[u8]) -> usize
+#[tactic(auto, using(crate::proofs::Packet::packet_stored), unfolding(crate::specs::Packet::slot_after, crate::specs::Packet::size_after))]
+pub fn write(slot: &mut [u8], h: Header, payload: &[u8]) -> Option<usize>
     ensures { Written slot.old h payload.now result slot.new }
 {
     let n = payload.len();
-    if 255 < n {
-        return 0;
-    }
-    if slot.len() < 3 + n {
-        return 0;
+    if 255 < n || slot.len() < 3 + n {
+        return None;
     }
     slot[0] = first_octet(h.mt, h.pbf, h.id);
     slot[1] = second_octet(h.mt, h.oid, h.credits);
     slot[2] = n as u8;
     octets::put(slot, 3, payload);
-    3 + n
+    Some(3 + n)
 }
 
 // Octet 1 of a data packet with n credits in place of those that it has.
@@ -143,6 +142,7 @@ fn recredited(second: u8, n: u8) -> u8
 }
 
 // Puts n credits into a data packet that is passed on, in place of those that it carried.
+#[tactic(auto, using(crate::proofs::Packet::carrying_stored, crate::proofs::Packet::carrying_short))]
 pub fn set_credits(p: &mut [u8], n: u8)
     ensures { p.new ≡ carrying n p.old }
 {
@@ -166,30 +166,33 @@ pub fn rfu(way: Way, h: Header) -> u8
 pub fn follows(n: usize, at: usize, size: usize) -> bool
     ensures { result ≡ ltb (at + size) n }
 {
-    if n <= at {
-        return false;
-    }
-    size < n - at
+    size < n.saturating_sub(at)
 }
 
 // How many segments a message has: an empty one has one too.
+#[tactic(auto, using(crate::proofs::Segments::segments_count))]
 pub fn segment_count(msg: &[u8], size: usize) -> usize
     requires { 1 ≤ size }
     ensures { result ≡ length (segments size msg.now) }
 {
-    let n = msg.len();
-    if n == 0 {
-        return 1;
-    }
-    (n - 1) / size + 1
+    msg.len().div_ceil(size).max(1)
 }
 
 // Writes the segment of msg that starts at index at into the slot, as a packet with the header h and the boundary flag of
 // that segment. The segment is handed on as a part of the message.
-pub fn write_segment(slot: &mut [u8], h: Header, size: usize, msg: &[u8], at: usize) -> usize
+#[tactic(auto, using(crate::proofs::Segments::flag_segment, crate::proofs::Segments::body_segment))]
+pub fn write_segment(
+    slot: &mut [u8],
+    h: Header,
+    size: usize,
+    msg: &[u8],
+    at: usize,
+) -> Option<usize>
     ensures { Written slot.old (marked h (flag (segment_at size msg.now at))) (body (segment_at size msg.now at)) result slot.new }
 {
-    let mut head = h;
-    head.pbf = follows(msg.len(), at, size);
-    write(slot, head, octets::window(msg, at, size))
+    let h = Header {
+        pbf: follows(msg.len(), at, size),
+        ..h
+    };
+    write(slot, h, octets::window(msg, at, size))
 }

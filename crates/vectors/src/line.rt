@@ -67,7 +67,7 @@ fn put_packet(out: &mut [u8], at: usize, p: &[u8]) -> usize
     };
     let payload = packets::payload(p, len);
     let mut slot = [0u8; 258];
-    let wrote = packets::write(&mut slot, h, payload);
+    let wrote = packets::write(&mut slot, h, payload).unwrap_or(0);
     let again = window(&slot, 0, wrote);
     let mut n = put_header(out, at, h, octets::octet_at(p, 2));
     n = put_hex(out, n, b" payload=", payload);
