@@ -4,11 +4,11 @@ use Prim.Native.Nat.{ℕ}
 use mathlib.Core.Bool.{◌&&◌, ◌||◌}
 use lib.ListN.{length, get_or}
 use lib.Dec.{eqb, ltb, leb}
+use Rattle.std.specs.Prelude.{Some, None}
 use Rattle.octets.specs.Octets.{Octets}
 use Rattle.octets.specs.Octal.{Octal}
 use Rattle.octets.proofs.Octal.{octal_at}
 use Rattle.air.specs.Kinds.{Controller, Pairs, Activation, Rf, Event, Listing, Aired}
-use Rattle.air.specs.Kinds.selection.{Nothing, Chosen}
 use Rattle.air.specs.Kinds.rf.{Idle, Discovery, W4AllDiscoveries, W4HostSelect, PollActive, ListenActive, ListenSleep}
 use Rattle.air.specs.Kinds.event.{Bad, Found, Poll, Listen, Failed, Sleeps, LinkLost, Releases, Endpoint}
 use Rattle.air.specs.Kinds.listing.{Keeps, Starts, Adds}
@@ -88,8 +88,8 @@ module _ (a : Activation) (s : TargetSmall a) where
   poll_small Idle = tt
   poll_small Discovery = (s, pair)
   poll_small W4AllDiscoveries = tt
-  poll_small (W4HostSelect Nothing) = tt
-  poll_small (W4HostSelect (Chosen p)) = on AiredSmall (same_pair p (pair_of a)) (λ e. (s, tt)) (λ e. tt)
+  poll_small (W4HostSelect None) = tt
+  poll_small (W4HostSelect (Some p)) = on AiredSmall (same_pair p (pair_of a)) (λ e. (s, tt)) (λ e. tt)
   poll_small (PollActive b) = tt
   poll_small (ListenActive b) = tt
   poll_small ListenSleep = tt
@@ -109,8 +109,8 @@ unfolding failed_by
 failed_small Idle = tt
 failed_small Discovery = tt
 failed_small W4AllDiscoveries = tt
-failed_small (W4HostSelect Nothing) = tt
-failed_small (W4HostSelect (Chosen p)) = (tt, tt)
+failed_small (W4HostSelect None) = tt
+failed_small (W4HostSelect (Some p)) = (tt, tt)
 failed_small (PollActive b) = tt
 failed_small (ListenActive b) = tt
 failed_small ListenSleep = tt

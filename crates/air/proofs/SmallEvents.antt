@@ -6,11 +6,11 @@ use mathlib.Core.Bool.{◌&&◌, ◌||◌}
 use mathlib.Core.List.{[], ◌∷◌}
 use lib.Dec.{eqb, leb}
 use lib.ListN.{length, get_or, drop}
+use Rattle.std.specs.Prelude.{Some, None}
 use Rattle.octets.specs.Octets.{Octets}
 use Rattle.octets.specs.Octal.{Octal, octal_nil, octal_cons}
 use Rattle.octets.proofs.Octal.{octal_at, octal_append, octal_drop}
 use Rattle.air.specs.Kinds.{Profile, Pairs, Activation, Rf, Event, Listing, Aired}
-use Rattle.air.specs.Kinds.selection.{Nothing, Chosen}
 use Rattle.air.specs.Kinds.rf.{Idle, Discovery, W4AllDiscoveries, W4HostSelect, PollActive, ListenActive, ListenSleep}
 use Rattle.air.specs.Kinds.event.{Bad, Found, Poll, Listen, Failed, Sleeps, LinkLost, Releases, Endpoint}
 use Rattle.air.specs.Kinds.listing.{Keeps, Starts, Adds}
@@ -86,8 +86,8 @@ unfolding poll_by
 poll_small Idle a s = tt
 poll_small Discovery a s = (s, (s.id, s.protocol))
 poll_small W4AllDiscoveries a s = tt
-poll_small (W4HostSelect Nothing) a s = tt
-poll_small (W4HostSelect (Chosen p)) a s = on SmallAired (same_pair p (pair_of a)) (λ _. (s, tt)) (λ _. tt)
+poll_small (W4HostSelect None) a s = tt
+poll_small (W4HostSelect (Some p)) a s = on SmallAired (same_pair p (pair_of a)) (λ _. (s, tt)) (λ _. tt)
 poll_small (PollActive b) a s = tt
 poll_small (ListenActive b) a s = tt
 poll_small ListenSleep a s = tt
@@ -107,8 +107,8 @@ unfolding failed_by
 failed_small Idle = tt
 failed_small Discovery = tt
 failed_small W4AllDiscoveries = tt
-failed_small (W4HostSelect Nothing) = tt
-failed_small (W4HostSelect (Chosen p)) = (tt, tt)
+failed_small (W4HostSelect None) = tt
+failed_small (W4HostSelect (Some p)) = (tt, tt)
 failed_small (PollActive b) = tt
 failed_small (ListenActive b) = tt
 failed_small ListenSleep = tt

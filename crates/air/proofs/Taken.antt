@@ -8,9 +8,9 @@ use mathlib.Core.List.{[], ◌∷◌}
 use lib.Dec.{eqb, ltb, leb}
 use lib.ListN.{length, get_or, drop, length-drop, length-set}
 use borrow.Author.Tests.{eqb-true, ltb-true, leb-true}
+use Rattle.std.specs.Prelude.{Some, None}
 use Rattle.octets.specs.Octets.{Octets}
 use Rattle.air.specs.Kinds.{Controller, Pairs, Activation, Rf, Event, Listing, Aired}
-use Rattle.air.specs.Kinds.selection.{Nothing, Chosen}
 use Rattle.air.specs.Kinds.rf.{Idle, Discovery, W4AllDiscoveries, W4HostSelect, PollActive, ListenActive, ListenSleep}
 use Rattle.air.specs.Kinds.event.{Bad, Found, Poll, Listen, Failed, Sleeps, LinkLost, Releases, Endpoint}
 use Rattle.air.specs.Kinds.listing.{Keeps, Starts, Adds}
@@ -103,8 +103,8 @@ module _ (P : Aired → Type 0) (no-event : P Refused) where
   poll_by_law Idle a f = no-event
   poll_by_law Discovery a f = f refl (Starts (pair_of a))
   poll_by_law W4AllDiscoveries a f = no-event
-  poll_by_law (W4HostSelect Nothing) a f = no-event
-  poll_by_law (W4HostSelect (Chosen p)) a f = on P (same_pair p (pair_of a)) (λ e. f refl Keeps) (λ e. no-event)
+  poll_by_law (W4HostSelect None) a f = no-event
+  poll_by_law (W4HostSelect (Some p)) a f = on P (same_pair p (pair_of a)) (λ e. f refl Keeps) (λ e. no-event)
   poll_by_law (PollActive b) a f = no-event
   poll_by_law (ListenActive b) a f = no-event
   poll_by_law ListenSleep a f = no-event
@@ -124,8 +124,8 @@ module _ (P : Aired → Type 0) (no-event : P Refused) where
   failed_by_law Idle f = no-event
   failed_by_law Discovery f = no-event
   failed_by_law W4AllDiscoveries f = no-event
-  failed_by_law (W4HostSelect Nothing) f = no-event
-  failed_by_law (W4HostSelect (Chosen p)) f = f refl (W4HostSelect Nothing) Keeps refl
+  failed_by_law (W4HostSelect None) f = no-event
+  failed_by_law (W4HostSelect (Some p)) f = f refl (W4HostSelect None) Keeps refl
   failed_by_law (PollActive b) f = no-event
   failed_by_law (ListenActive b) f = no-event
   failed_by_law ListenSleep f = no-event

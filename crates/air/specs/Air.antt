@@ -1,10 +1,9 @@
 -- The air (document 01, "The air"; 003, 5.2): the octets of an event, whether it is taken, its notification and the state after.
 -- Assumes nothing.
-use Rattle.std.specs.Prelude.{ℕ, Bool, true, false, ◌&&◌, ◌||◌, List, length, get_or, drop, eqb, leb}
+use Rattle.std.specs.Prelude.{ℕ, Bool, true, false, ◌&&◌, ◌||◌, List, length, get_or, drop, eqb, leb, Some, None}
 use Rattle.octets.specs.Octets.{Octets, pick}
 use Rattle.state.specs.Names.{gid_core, gid_rf, oid_generic_error, oid_discover, oid_activated, oid_deactivate, more_follow, to_sleep, to_discovery, endpoint_request, link_loss}
 use Rattle.air.specs.Kinds.{Hand, Profile, Pair, Pairs, Activation, Rf, Controller, Counts, Event, Listing, Aired}
-use Rattle.air.specs.Kinds.selection.{Nothing, Chosen}
 use Rattle.air.specs.Kinds.rf.{Idle, Discovery, W4AllDiscoveries, W4HostSelect, PollActive, ListenActive, ListenSleep}
 use Rattle.air.specs.Kinds.event.{Bad, Found, Poll, Listen, Failed, Sleeps, LinkLost, Releases, Endpoint}
 use Rattle.air.specs.Kinds.listing.{Keeps, Starts, Adds}
@@ -72,7 +71,7 @@ no_room ps p type = listed ps p || leb 8 ps.count || (eqb type more_follow && le
 
 -- more follow, or this was the last: W4_HOST_SELECT is entered with no selection
 abbrev pub found_to : ℕ → Rf
-found_to type = pick (eqb type more_follow) W4AllDiscoveries (W4HostSelect Nothing)
+found_to type = pick (eqb type more_follow) W4AllDiscoveries (W4HostSelect None)
 
 unfoldable pub found_by : Rf → Pairs → Activation → ℕ → Aired
 found_by Idle ps a type = Refused
@@ -88,8 +87,8 @@ unfoldable pub poll_by : Rf → Activation → Aired
 poll_by Idle a = Refused
 poll_by Discovery a = Activates (PollActive a) (Starts (pair_of a))
 poll_by W4AllDiscoveries a = Refused
-poll_by (W4HostSelect Nothing) a = Refused
-poll_by (W4HostSelect (Chosen p)) a = pick (same_pair p (pair_of a)) (Activates (PollActive a) Keeps) Refused
+poll_by (W4HostSelect None) a = Refused
+poll_by (W4HostSelect (Some p)) a = pick (same_pair p (pair_of a)) (Activates (PollActive a) Keeps) Refused
 poll_by (PollActive b) a = Refused
 poll_by (ListenActive b) a = Refused
 poll_by ListenSleep a = Refused
@@ -108,8 +107,8 @@ unfoldable pub failed_by : Rf → Aired
 failed_by Idle = Refused
 failed_by Discovery = Refused
 failed_by W4AllDiscoveries = Refused
-failed_by (W4HostSelect Nothing) = Refused
-failed_by (W4HostSelect (Chosen p)) = Goes (W4HostSelect Nothing) Keeps
+failed_by (W4HostSelect None) = Refused
+failed_by (W4HostSelect (Some p)) = Goes (W4HostSelect None) Keeps
 failed_by (PollActive b) = Refused
 failed_by (ListenActive b) = Refused
 failed_by ListenSleep = Refused

@@ -10,8 +10,6 @@ pub use Rattle.state.specs.declared.kinds.Pairs.{Pairs}
 pub use Rattle.state.specs.declared.kinds.Profile.{Profile}
 pub use Rattle.state.specs.declared.kinds.Rf.{Rf}
 pub use Rattle.state.specs.declared.kinds.Rf.TheVariants as rf
-pub use Rattle.state.specs.declared.kinds.Selection.{Selection}
-pub use Rattle.state.specs.declared.kinds.Selection.TheVariants as selection
 pub use Rattle.air.specs.declared.events.Aired.{Aired}
 pub use Rattle.air.specs.declared.events.Aired.TheVariants as aired
 pub use Rattle.air.specs.declared.events.Event.{Event}

@@ -11,7 +11,7 @@ use messages::layout::{
     Note, activated_ntf, deactivate_ntf, discover_ntf, generic_error_ntf, no_message,
 };
 use state::conn::terms_of;
-use state::kinds::{Activation, Pair, Pairs, Profile, Rf, Selection};
+use state::kinds::{Activation, Pair, Pairs, Profile, Rf};
 use state::names;
 use state::radio::{
     id_ok, is_active, is_asleep, is_listed, is_listening, listens, pair_of, polls, same_pair,
@@ -167,7 +167,7 @@ fn found_to(kind: u8) -> Rf
     if kind == names::MORE_FOLLOW {
         Rf::W4AllDiscoveries
     } else {
-        Rf::W4HostSelect(Selection::Nothing)
+        Rf::W4HostSelect(None)
     }
 }
 
@@ -216,8 +216,8 @@ fn poll_by(rf: Rf, a: Activation) -> Aired
         Rf::Discovery => Aired::Activates(Rf::PollActive(a), Listing::Starts(p)),
         Rf::W4AllDiscoveries => Aired::Refused,
         Rf::W4HostSelect(s) => match s {
-            Selection::Nothing => Aired::Refused,
-            Selection::Chosen(q) => taken(
+            None => Aired::Refused,
+            Some(q) => taken(
                 same_pair(q, p),
                 Aired::Activates(Rf::PollActive(a), Listing::Keeps),
             ),
@@ -252,11 +252,8 @@ fn failed_by(rf: Rf) -> Aired
         Rf::Discovery => Aired::Refused,
         Rf::W4AllDiscoveries => Aired::Refused,
         Rf::W4HostSelect(s) => match s {
-            Selection::Nothing => Aired::Refused,
-            Selection::Chosen(_) => Aired::Goes(
-                Rf::W4HostSelect(Selection::Nothing),
-                Listing::Keeps,
-            ),
+            None => Aired::Refused,
+            Some(_) => Aired::Goes(Rf::W4HostSelect(None), Listing::Keeps),
         },
         Rf::PollActive(_) => Aired::Refused,
         Rf::ListenActive(_) => Aired::Refused,

@@ -6,10 +6,10 @@ use mathlib.Core.Path.{◌≡◌, refl, sym, ap, ◌∙◌}
 use mathlib.Core.Bool.{true, false}
 use mathlib.Core.List.{[], ◌∷◌, ◌++◌}
 use lib.ListN.{length, length-append}
+use Rattle.std.specs.Prelude.{Option, Some, None}
 use Rattle.octets.specs.Octets.{Octets, pick, cut, splice}
 use Rattle.octets.proofs.Octets.{cut_same}
-use Rattle.calls.specs.Kinds.{Host, Pending, Record}
-use Rattle.calls.specs.Kinds.pending as pending
+use Rattle.calls.specs.Kinds.{Host, Asked, Record}
 use Rattle.state.specs.Conn.{place_of}
 use Rattle.area.specs.Map.{message_size, payload_size, wire_slots, down_at, up_at, endpoint_at}
 use Rattle.area.proofs.Rings.{length_packets}
@@ -40,9 +40,9 @@ pub pending_part_law : (h : Host) → cut 1 4 (host_octets h) ≡ pending_octets
 unfolding host_octets pending_octets cut
 pending_part_law h = go h.pending
   where
-    go : (p : Pending) → cut 1 4 (h.size ∷ pending_octets p) ≡ pending_octets p
-    go pending.Nothing = refl
-    go (pending.Command a) = refl
+    go : (p : Option Asked) → cut 1 4 (h.size ∷ pending_octets p) ≡ pending_octets p
+    go None = refl
+    go (Some a) = refl
 
 -- stored part after part
 pub look_stored : (l : Octets) (r : Record)

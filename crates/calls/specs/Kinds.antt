@@ -5,6 +5,7 @@ pub use Rattle.packets.specs.declared.Header.{Header}
 pub use Rattle.packets.specs.Packet.{Reading}
 pub use Rattle.packets.specs.declared.Way.{Way}
 pub use Rattle.packets.specs.declared.Way.TheVariants as way
+pub use Rattle.state.specs.declared.kinds.Asked.{Asked}
 pub use Rattle.state.specs.declared.kinds.ControlRun.{ControlRun}
 pub use Rattle.state.specs.declared.kinds.Controller.{Controller}
 pub use Rattle.state.specs.declared.kinds.ControllerSide.{ControllerSide}
@@ -14,8 +15,6 @@ pub use Rattle.state.specs.declared.kinds.Hand.{Hand}
 pub use Rattle.state.specs.declared.kinds.Host.{Host}
 pub use Rattle.state.specs.declared.kinds.HostSide.{HostSide}
 pub use Rattle.state.specs.declared.kinds.Pairs.{Pairs}
-pub use Rattle.state.specs.declared.kinds.Pending.{Pending}
-pub use Rattle.state.specs.declared.kinds.Pending.TheVariants as pending
 pub use Rattle.state.specs.declared.kinds.Profile.{Profile}
 pub use Rattle.state.specs.declared.kinds.Progress.{Progress}
 pub use Rattle.state.specs.declared.kinds.Record.{Record}

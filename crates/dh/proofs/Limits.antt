@@ -9,10 +9,11 @@ use native.Mathlib.Decide.{dec_lt}
 use lib.ListN.{length, get_or}
 use lib.Dec.{eqb, ltb, leb}
 use borrow.Author.Tests.{leb-true, ltb-true, eqb-true}
+use Rattle.std.specs.Prelude.{Option}
 use Rattle.octets.specs.Octets.{Octets, pick}
 use Rattle.octets.specs.Octal.{Octal}
 use Rattle.octets.proofs.Octal.{octal_at}
-use Rattle.dh.specs.Kinds.{Terms, Pending, Host, Command, Notice, Answer, Heard}
+use Rattle.dh.specs.Kinds.{Terms, Asked, Host, Command, Notice, Answer, Heard}
 use Rattle.dh.specs.Kinds.command as command
 use Rattle.dh.specs.Kinds.notice as notice
 use Rattle.dh.specs.Kinds.answer.{Done, ClosesAll, Sized, Opens, Closes}
@@ -194,7 +195,7 @@ module _ (m : Octets) (octal : Octal m) where
   noticed_fits notice.Deactivate w = tt
   noticed_fits notice.Unknown w = tt
 
-  written_fits : (p : Pending) (mt gid oid : ℕ) → written mt gid oid m ≡ true → HeardFits m (heard_written p mt gid oid m)
+  written_fits : (p : Option Asked) (mt gid oid : ℕ) → written mt gid oid m ≡ true → HeardFits m (heard_written p mt gid oid m)
   unfolding heard_written written
   written_fits p mt gid oid w = go (eqb mt 2) w
     where
@@ -204,7 +205,7 @@ module _ (m : Octets) (octal : Octal m) where
       go false v = noticed_fits (notice_of gid oid) v
 
   -- what is heard is within limits
-  pub hear_fits : (p : Pending) (mt gid oid : ℕ) → HeardFits m (hear_of p mt gid oid m)
+  pub hear_fits : (p : Option Asked) (mt gid oid : ℕ) → HeardFits m (hear_of p mt gid oid m)
   unfolding hear_of
   hear_fits p mt gid oid =
       on (HeardFits m) (expected p mt gid oid) (λ e. on (HeardFits m) (written mt gid oid m) (λ w. written_fits p mt gid oid w) (λ e. tt)) (λ e. tt)

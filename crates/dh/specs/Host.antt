@@ -1,12 +1,11 @@
 -- The host's reading of a whole control message (document 01, up under "Calls"): what is heard in it, behind one guard, `written` of
 -- Contents: could the bench's controller have written these contents?
 -- Assumes nothing.
-use Rattle.std.specs.Prelude.{ℕ, zero, suc, ◌+◌, Bool, true, false, ◌&&◌, ◌||◌, not, List, get_or, eqb}
+use Rattle.std.specs.Prelude.{ℕ, zero, suc, ◌+◌, Bool, true, false, ◌&&◌, ◌||◌, not, List, get_or, eqb, Option, Some, None}
 use Rattle.octets.specs.Octets.{Octets, pick}
 use Rattle.state.specs.Names.{gid_core, oid_reset, oid_conn_close, status_ok}
 use Rattle.packets.specs.Types.{mt_response, mt_notification}
-use Rattle.dh.specs.Kinds.{Asked, Pending, Host, HostSide, Counts, Command, Notice, Answer, Heard}
-use Rattle.dh.specs.Kinds.pending as pending
+use Rattle.dh.specs.Kinds.{Asked, Host, HostSide, Counts, Command, Notice, Answer, Heard}
 use Rattle.dh.specs.Kinds.command as command
 use Rattle.dh.specs.Kinds.notice as notice
 use Rattle.dh.specs.Kinds.answer.{Done, ClosesAll, Sized, Opens, Closes}
@@ -23,27 +22,27 @@ abbrev pub asked_of : ℕ → ℕ → Octets → Asked
 asked_of gid oid m = record { gid = gid; oid = oid; aim = aim_in m }
 
 -- a response is awaited by the command with its GID and OID
-abbrev pub awaits : Pending → ℕ → ℕ → Bool
-awaits pending.Nothing gid oid = false
-awaits (pending.Command a) gid oid = eqb a.gid gid && eqb a.oid oid
+abbrev pub awaits : Option Asked → ℕ → ℕ → Bool
+awaits None gid oid = false
+awaits (Some a) gid oid = eqb a.gid gid && eqb a.oid oid
 
-abbrev pub aim_of : Pending → ℕ
-aim_of pending.Nothing = 0
-aim_of (pending.Command a) = a.aim
+abbrev pub aim_of : Option Asked → ℕ
+aim_of None = 0
+aim_of (Some a) = a.aim
 
 -- a command is unanswered
-abbrev pub is_busy : Pending → Bool
-is_busy pending.Nothing = false
-is_busy (pending.Command a) = true
+abbrev pub is_busy : Option Asked → Bool
+is_busy None = false
+is_busy (Some a) = true
 
 -- RESET and CONN_CLOSE
 abbrev pub is_closer : ℕ → ℕ → Bool
 is_closer gid oid = eqb gid gid_core && (eqb oid oid_reset || eqb oid oid_conn_close)
 
 -- one of them is unanswered
-abbrev pub is_closing : Pending → Bool
-is_closing pending.Nothing = false
-is_closing (pending.Command a) = is_closer a.gid a.oid
+abbrev pub is_closing : Option Asked → Bool
+is_closing None = false
+is_closing (Some a) = is_closer a.gid a.oid
 
 -- ---- what they say
 
@@ -74,15 +73,15 @@ noticed notice.Unknown m = Nothing
 
 -- what is heard in contents that are known to be written here. It stands behind `written`: it tests no length and no value, so a create
 -- response that is cut short would open connection 0. A host before a bought controller needs limits of its own
-unfoldable pub heard_written : Pending → ℕ → ℕ → ℕ → Octets → Heard
+unfoldable pub heard_written : Option Asked → ℕ → ℕ → ℕ → Octets → Heard
 heard_written p mt gid oid m =
     pick (eqb mt mt_response) (Answered (answer_of (command_of gid oid) (aim_of p) m)) (noticed (notice_of gid oid) m)
 
 -- notifications are always heard, a response where its command is unanswered, commands never
-abbrev pub expected : Pending → ℕ → ℕ → ℕ → Bool
+abbrev pub expected : Option Asked → ℕ → ℕ → ℕ → Bool
 expected p mt gid oid = pick (eqb mt mt_response) (awaits p gid oid) (eqb mt mt_notification)
 
-unfoldable pub hear_of : Pending → ℕ → ℕ → ℕ → Octets → Heard
+unfoldable pub hear_of : Option Asked → ℕ → ℕ → ℕ → Octets → Heard
 hear_of p mt gid oid m = pick (expected p mt gid oid) (pick (written mt gid oid m) (heard_written p mt gid oid m) Nothing) Dropped
 
 -- ---- a credit notice
@@ -103,7 +102,7 @@ names_closed is_open m (suc n) = names_closed is_open m n || not (is_open (entry
 -- ---- the host after it
 
 abbrev pub settled : Host → ℕ → Host
-settled h size = record { size = size; pending = pending.Nothing }
+settled h size = record { size = size; pending = None }
 
 abbrev pub host_answered : Host → Answer → Host
 host_answered h Done = settled h h.size

@@ -7,8 +7,6 @@ pub use Rattle.state.specs.declared.kinds.Asked.{Asked}
 pub use Rattle.state.specs.declared.kinds.Counts.{Counts}
 pub use Rattle.state.specs.declared.kinds.Host.{Host}
 pub use Rattle.state.specs.declared.kinds.HostSide.{HostSide}
-pub use Rattle.state.specs.declared.kinds.Pending.{Pending}
-pub use Rattle.state.specs.declared.kinds.Pending.TheVariants as pending
 pub use Rattle.state.specs.declared.kinds.Terms.{Terms}
 pub use Rattle.dh.specs.declared.contents.Notice.{Notice}
 pub use Rattle.dh.specs.declared.contents.Notice.TheVariants as notice

@@ -1,11 +1,10 @@
 -- The host's own steps, by its numbers: a message is put in hand, the next packet of it goes, a command is given. Each says what the step
 -- leaves; whether it may be taken is asked before it.
 -- Assumes nothing.
-use Rattle.std.specs.Prelude.{ℕ, ◌-◌}
+use Rattle.std.specs.Prelude.{ℕ, ◌-◌, Some}
 use Rattle.octets.specs.Octets.{Octets, pick}
 use Rattle.state.specs.Conn.{flows, hand_with, hand_after}
 use Rattle.dh.specs.Kinds.{Host, HostSide}
-use Rattle.dh.specs.Kinds.pending as pending
 use Rattle.dh.specs.Host.{asked_of}
 
 -- ---- a connection
@@ -31,4 +30,4 @@ pushed_side h =
 
 -- the command is unanswered
 abbrev pub commanded_host : Host → ℕ → ℕ → Octets → Host
-commanded_host h gid oid m = record { size = h.size; pending = pending.Command (asked_of gid oid m) }
+commanded_host h gid oid m = record { size = h.size; pending = Some (asked_of gid oid m) }

@@ -7,7 +7,7 @@ ghost use Rattle.dh.specs.Hearing.{entry_for};
 use crate::contents;
 use crate::contents::Notice;
 use state::commands::Command;
-use state::kinds::{Asked, Counts, Host, HostSide, Pending, Terms};
+use state::kinds::{Asked, Counts, Host, HostSide, Terms};
 use state::profile::LEAST_SIZE;
 use state::{commands, conn, fields, names};
 
@@ -47,42 +47,42 @@ pub fn asked_of(gid: u8, oid: u8, m: &[u8]) -> Asked
 }
 
 // Whether a response with this GID and OID is the one that the unanswered command awaits.
-fn awaits(p: Pending, gid: u8, oid: u8) -> bool
+fn awaits(p: Option<Asked>, gid: u8, oid: u8) -> bool
     ensures { result ≡ awaits p gid oid }
 {
     match p {
-        Pending::Nothing => false,
-        Pending::Command(a) => (a.gid == gid) & (a.oid == oid),
+        None => false,
+        Some(a) => (a.gid == gid) & (a.oid == oid),
     }
 }
 
 // The connection that the unanswered command named.
-fn aim_of(p: Pending) -> u8
+fn aim_of(p: Option<Asked>) -> u8
     ensures { result ≡ aim_of p }
 {
     match p {
-        Pending::Nothing => 0,
-        Pending::Command(a) => a.aim,
+        None => 0,
+        Some(a) => a.aim,
     }
 }
 
 // Whether a command is unanswered.
-pub fn is_busy(p: Pending) -> bool
+pub fn is_busy(p: Option<Asked>) -> bool
     ensures { result ≡ is_busy p }
 {
     match p {
-        Pending::Nothing => false,
-        Pending::Command(_) => true,
+        None => false,
+        Some(_) => true,
     }
 }
 
 // Whether RESET or CONN_CLOSE is unanswered.
-pub fn is_closing(p: Pending) -> bool
+pub fn is_closing(p: Option<Asked>) -> bool
     ensures { result ≡ is_closing p }
 {
     match p {
-        Pending::Nothing => false,
-        Pending::Command(a) => (a.gid == names::GID_CORE)
+        None => false,
+        Some(a) => (a.gid == names::GID_CORE)
             & ((a.oid == names::OID_RESET) | (a.oid == names::OID_CONN_CLOSE)),
     }
 }
@@ -155,7 +155,7 @@ fn noticed(n: Notice, m: &[u8]) -> Heard
 
 // What is heard in contents that are known to be written here. It must stand behind `contents::written`: it tests no length and no
 // value, so a create response that is cut short would open connection 0. A host before a bought controller needs limits of its own.
-fn heard_written(p: Pending, mt: u8, gid: u8, oid: u8, m: &[u8]) -> Heard
+fn heard_written(p: Option<Asked>, mt: u8, gid: u8, oid: u8, m: &[u8]) -> Heard
     ensures { result ≡ heard_written p mt gid oid m.now }
 {
     if mt == packets::RESPONSE {
@@ -170,7 +170,7 @@ fn heard_written(p: Pending, mt: u8, gid: u8, oid: u8, m: &[u8]) -> Heard
 }
 
 // Whether the message is for this host now: a notification always is, a response where its command is unanswered.
-fn expected(p: Pending, mt: u8, gid: u8, oid: u8) -> bool
+fn expected(p: Option<Asked>, mt: u8, gid: u8, oid: u8) -> bool
     ensures { result ≡ expected p mt gid oid }
 {
     if mt == packets::RESPONSE {
@@ -181,7 +181,7 @@ fn expected(p: Pending, mt: u8, gid: u8, oid: u8) -> bool
 }
 
 // What the host hears in a whole control message.
-pub fn hear(p: Pending, mt: u8, gid: u8, oid: u8, m: &[u8]) -> Heard
+pub fn hear(p: Option<Asked>, mt: u8, gid: u8, oid: u8, m: &[u8]) -> Heard
     ensures { result ≡ hear_of p mt gid oid m.now }
 {
     let mine = expected(p, mt, gid, oid);
@@ -244,7 +244,7 @@ fn settled(h: Host, size: u8) -> Host
 {
     Host {
         size: size,
-        pending: Pending::Nothing,
+        pending: None,
     }
 }
 

@@ -7,7 +7,7 @@ ghost use Rattle.dh.specs.Sending.{sent_side, pushed_side, commanded_host};
 
 use crate::host::asked_of;
 use state::conn;
-use state::kinds::{Host, HostSide, Pending};
+use state::kinds::{Host, HostSide};
 
 // The connection with a message of n octets in hand.
 pub fn sent(h: HostSide, n: usize) -> HostSide
@@ -59,6 +59,6 @@ pub fn commanded(h: Host, gid: u8, oid: u8, payload: &[u8]) -> Host
     let asked = asked_of(gid, oid, payload);
     Host {
         size: size,
-        pending: Pending::Command(asked),
+        pending: Some(asked),
     }
 }

@@ -7,10 +7,10 @@ use mathlib.Core.List.{List, [], ◌∷◌, ◌++◌, cons≢nil}
 use lib.Dec.{eqb}
 use lib.ListN.{get_or}
 use borrow.Author.Tests.{eq-eqb}
+use Rattle.std.specs.Prelude.{Option, Some, None}
 use Rattle.octets.specs.Octets.{Octets, pick}
 use Rattle.packets.specs.Segments.{Segment, more, last}
-use Rattle.model.specs.Kinds.{Pending, Command, Notice, Answer, Heard}
-use Rattle.model.specs.Kinds.pending as pending
+use Rattle.model.specs.Kinds.{Asked, Command, Notice, Answer, Heard}
 use Rattle.model.specs.Kinds.command as command
 use Rattle.model.specs.Kinds.notice as notice
 use Rattle.model.specs.Kinds.answer.{Done}
@@ -63,14 +63,14 @@ pub free_right : (a b : List Name) → AllFree (a ++ b) → AllFree b
 free_right [] b f = f
 free_right (n ∷ a) b f = free_right a b f.1
 
-pub free_pending : (p : Pending) → is_closing p ≡ false → AllFree (pending_name p)
-free_pending pending.Nothing e = tt
-free_pending (pending.Command a) e = (e, tt)
+pub free_pending : (p : Option Asked) → is_closing p ≡ false → AllFree (pending_name p)
+free_pending None e = tt
+free_pending (Some a) e = (e, tt)
 
 -- the unanswered command closes where its name does
-pub closing_pending : (p : Pending) (n : Name) → pending_name p ≡ n ∷ [] → is_closing p ≡ closing n
-closing_pending pending.Nothing n e = absurd (cons≢nil (sym e))
-closing_pending (pending.Command a) n e = ap head_closing e
+pub closing_pending : (p : Option Asked) (n : Name) → pending_name p ≡ n ∷ [] → is_closing p ≡ closing n
+closing_pending None n e = absurd (cons≢nil (sym e))
+closing_pending (Some a) n e = ap head_closing e
   where
     head_closing : List Name → Bool
     head_closing [] = false

@@ -10,6 +10,7 @@ use mathlib.Core.List.{List, [], ◌∷◌, ◌++◌}
 use lib.Dec.{eqb}
 use lib.ListN.{length, get_or}
 use borrow.Author.Tests.{eqb-true}
+use Rattle.std.specs.Prelude.{Option}
 use Rattle.octets.specs.Octets.{Octets, pick}
 use Rattle.packets.specs.Segments.{Segment, more, last, packets_of}
 use Rattle.packets.specs.Headers.{control_header}
@@ -27,7 +28,7 @@ use Rattle.wires.specs.Meaning.{Meaning, control, meaning}
 use Rattle.wires.specs.Tally.{data_count, aimed_at, credits_said, credits_meant, credits_up}
 use Rattle.wires.specs.Counted.{counted_up}
 use Rattle.wires.proofs.Same.{same_up}
-use Rattle.model.specs.Kinds.{Profile, Pending, Verdict, Heard}
+use Rattle.model.specs.Kinds.{Profile, Asked, Verdict, Heard}
 use Rattle.model.specs.Kinds.verdict as verdict
 use Rattle.model.specs.Kinds.notice as notice
 use Rattle.model.specs.Kinds.answer.{Done}
@@ -127,14 +128,14 @@ is_config_law gid oid e = go (eqb oid 2) refl (and_right (eqb gid 0) _ e)
 -- ---- what is heard of them
 
 module _ (gid oid : ℕ) (k : Config gid oid) where
-  written_still : (p : Pending) (mt : ℕ) (m : Octets) → Still (pick (written mt gid oid m) (heard_written p mt gid oid m) Nothing)
+  written_still : (p : Option Asked) (mt : ℕ) (m : Octets) → Still (pick (written mt gid oid m) (heard_written p mt gid oid m) Nothing)
   unfolding heard_written
   written_still p mt m =
       on Still (written mt gid oid m)
       (λ _. on Still (eqb mt 2) (λ _. rw (k.answered (aim_of p) m) (λ n d. (refl, refl))) (λ _. rw k.notified (λ n d. (refl, refl))))
       (λ _ n d. (refl, refl))
 
-  hear_still : (p : Pending) (mt : ℕ) (m : Octets) → Still (hear_of p mt gid oid m)
+  hear_still : (p : Option Asked) (mt : ℕ) (m : Octets) → Still (hear_of p mt gid oid m)
   unfolding hear_of
   hear_still p mt m = on Still (expected p mt gid oid) (λ _. written_still p mt m) (λ _ n d. (refl, refl))
 

@@ -7,10 +7,10 @@ use mathlib.Core.Bool.{Bool, true, false, ◌||◌}
 use mathlib.Core.List.{List, [], ◌∷◌, ◌++◌}
 use lib.Dec.{eqb}
 use borrow.Author.Tests.{eq-eqb}
+use Rattle.std.specs.Prelude.{Option, Some, None}
 use Rattle.octets.specs.Octets.{Octets, pick}
 use Rattle.packets.specs.Segments.{Segment}
-use Rattle.model.specs.Kinds.{Pending}
-use Rattle.model.specs.Kinds.pending as pending
+use Rattle.model.specs.Kinds.{Asked}
 use Rattle.dh.specs.Host.{aim_of}
 use Rattle.wires.specs.Meaning.{Meaning, datum, control, junk, meaning}
 use Rattle.model.specs.State.{State}
@@ -108,12 +108,12 @@ open_or aim c b (p ∷ w) e = go (open_or aim c (opened_by (change_in aim c (mea
 -- ---- on the bench
 
 -- the connection that the host's unanswered command named is the one that the answers are about
-host_aim : (p : Pending) (aim c : ℕ) (w : List Octets) → Aimed p aim → (p ≡ pending.Nothing → replies w ≡ []) → items_of aim c w ≡ items_of (aim_of p) c w
-host_aim pending.Nothing aim c w a none = items_aim aim 0 c w (none refl)
-host_aim (pending.Command k) aim c w a none = ap (λ (n : ℕ). items_of n c w) (sym a)
+host_aim : (p : Option Asked) (aim c : ℕ) (w : List Octets) → Aimed p aim → (p ≡ None → replies w ≡ []) → items_of aim c w ≡ items_of (aim_of p) c w
+host_aim None aim c w a none = items_aim aim 0 c w (none refl)
+host_aim (Some k) aim c w a none = ap (λ (n : ℕ). items_of n c w) (sym a)
 
 module _ (s : State) (aim : ℕ) (l : ℕ → Ledger) (f : Fine s aim l) where
-  no_replies : s.host.pending ≡ pending.Nothing → replies s.up ≡ []
+  no_replies : s.host.pending ≡ None → replies s.up ≡ []
   no_replies e = right_nil (heads s.down) (rw e at f.order.single)
 
   phase_of_law : (c : ℕ) → Ends (walk (start (s.conns c).host.opened) (items_of (aim_of s.host.pending) c s.up)) (s.conns c).controller.opened

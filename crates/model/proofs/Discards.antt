@@ -9,10 +9,10 @@ use mathlib.Core.List.{List, [], ◌∷◌, head-eq_of_cons-eq, cons≢nil}
 use lib.Dec.{eqb}
 use lib.ListN.{length, drop}
 use borrow.Author.Tests.{not-false}
+use Rattle.std.specs.Prelude.{Option, Some, None}
 use Rattle.octets.specs.Octets.{Octets, pick}
 use Rattle.packets.specs.Segments.{Segment, more, last, segments}
-use Rattle.model.specs.Kinds.{Profile, Pending, Heard, Aired}
-use Rattle.model.specs.Kinds.pending as pending
+use Rattle.model.specs.Kinds.{Profile, Asked, Heard, Aired}
 use Rattle.model.specs.Kinds.heard.{Answered}
 use Rattle.model.specs.Kinds.aired.{Refused, Goes, Activates, Ends, Speaks}
 use Rattle.state.specs.Conn.{flows, terms_of}
@@ -76,7 +76,7 @@ change_older (gives n) k z = (z, refl)
 abbrev pub MarkedIn : State → Diary → Type 0
 MarkedIn s n = Marked s.host.pending s.conns n
 
-module _ {p p' : Pending} {g g' : ℕ → Connection} {n : Diary} (m : Marked p g n) where
+module _ {p p' : Option Asked} {g g' : ℕ → Connection} {n : Diary} (m : Marked p g n) where
   still : (h : ℕ → Hand) → ((d : ℕ) → Told (g' d).host (h d)) → ((d : ℕ) → Older (h d) (n.hand d)) → Named p' n.gid n.oid
       → (is_closing p' ≡ true → is_closing p ≡ true) → Marked p' g' (turned (with_hands h n))
   still h told older latest closing =
@@ -91,7 +91,7 @@ module _ {p p' : Pending} {g g' : ℕ → Connection} {n : Diary} (m : Marked p 
   aside : (p' ≡ p) × ((d : ℕ) → (g' d).host ≡ (g d).host) → Marked p' g' (turned n)
   aside (same, hosts) =
       still n.hand (λ d. subst (λ (h : HostEnd). Told h (n.hand d)) (sym (hosts d)) (m.told d)) (λ d z. (z, refl))
-      (subst (λ (q : Pending). Named q n.gid n.oid) (sym same) m.latest) (λ e. ap is_closing (sym same) ∙ e)
+      (subst (λ (q : Option Asked). Named q n.gid n.oid) (sym same) m.latest) (λ e. ap is_closing (sym same) ∙ e)
 
 -- ---- the controller's calls leave the host alone
 
@@ -310,9 +310,9 @@ module _ (s : State) (o : Account) (n : Diary) (k : Kept s o) (m : MarkedIn s n)
       closer : closing (named gid oid) ≡ true
       closer = closed_by d o.aim gid oid x (rw means at shuts)
 
-      same : (q : Pending) → pending_name q ≡ named gid oid ∷ [] → Named q n.gid n.oid → (n.gid ≡ gid) × (n.oid ≡ oid)
-      same pending.Nothing e l = absurd (cons≢nil (sym e))
-      same (pending.Command a) e l =
+      same : (q : Option Asked) → pending_name q ≡ named gid oid ∷ [] → Named q n.gid n.oid → (n.gid ≡ gid) × (n.oid ≡ oid)
+      same None e l = absurd (cons≢nil (sym e))
+      same (Some a) e l =
           let z = head-eq_of_cons-eq e in
           (sym l.0 ∙ ap (λ (i : Name). i.gid) z, sym l.1 ∙ ap (λ (i : Name). i.oid) z)
 

@@ -10,9 +10,10 @@ use mathlib.Core.List.{List, [], ◌∷◌, ◌++◌}
 use lib.Dec.{eqb}
 use lib.ListN.{length}
 use borrow.Author.Tests.{eqb-true, leb-false}
+use Rattle.std.specs.Prelude.{Option}
 use Rattle.octets.specs.Octets.{Octets, pick}
 use Rattle.packets.specs.Segments.{Segment, last}
-use Rattle.model.specs.Kinds.{Terms, Profile, Pending}
+use Rattle.model.specs.Kinds.{Terms, Profile, Asked}
 use Rattle.state.specs.Conn.{place_of, terms_of}
 use Rattle.state.specs.Runs.{control_limit}
 use Rattle.dh.specs.Contents.{written}
@@ -130,7 +131,7 @@ conn_small c e = small (leb-false 5 (place_of c) e)
         (λ f. on Low (eqb c 5) (λ t h. is 5 (omega arith) t) (λ f h. absurd (omega arith))))))
 
 -- connections that are open at the controller where others were
-pub order_open : {g g' : ℕ → Connection} {w : List Octets} {ks : List Name} {p : Pending}
+pub order_open : {g g' : ℕ → Connection} {w : List Octets} {ks : List Name} {p : Option Asked}
     → ((d : ℕ) → eqb 0 d ≡ false → (g' d).controller.opened ≡ (g d).controller.opened) → Order g w ks p → Order g' w ks p
 order_open e r = record { clear = λ d z c. r.clear d z (sym (e d z) ∙ c); single = r.single; tidy = r.tidy; empty = r.empty }
 

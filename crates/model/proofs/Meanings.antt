@@ -8,13 +8,12 @@ use mathlib.Core.List.{List, [], ◌∷◌, ◌++◌, map, append_assoc, append-
 use lib.Dec.{eqb}
 use lib.ListN.{length, get_or, length-append}
 use borrow.Author.Tests.{eqb-true, eq-eqb}
+use Rattle.std.specs.Prelude.{Option, Some}
 use Rattle.octets.specs.Octets.{Octets, pick}
-use Rattle.model.specs.Kinds.{Header, Asked, Pending, Command, Heard}
-use Rattle.std.specs.Prelude.{Some}
+use Rattle.model.specs.Kinds.{Header, Asked, Command, Heard}
 use Rattle.packets.specs.Packet.{packet_of, read_of, payload_of, Writable}
 use Rattle.packets.specs.Segments.{Segment, more, last, segment, body, flag, marked, segments, segment_packet, packets_of}
 use Rattle.packets.proofs.RoundTrip.{read_written, payload_written}
-use Rattle.model.specs.Kinds.pending as pending
 use Rattle.model.specs.Kinds.command.{Reset, Init, ConnCreate, ConnClose, Discover, Select, Deactivate, Unknown, SetConfig, GetConfig}
 use Rattle.model.specs.Kinds.answer.{Done, ClosesAll, Sized, Opens, Closes}
 use Rattle.model.specs.Kinds.heard.{Nothing, Dropped, Answered, Activated, Deactivated, Credits}
@@ -214,11 +213,11 @@ items_aimless a b d mt gid oid (last m) e = rw e
 
 -- a response to the unanswered command
 pub hear_response : (a : Asked) (gid oid : ℕ) (m : Octets) → a.gid ≡ gid → a.oid ≡ oid
-    → hear_of (pending.Command a) 2 gid oid m ≡ says a.aim 2 gid oid m
+    → hear_of (Some a) 2 gid oid m ≡ says a.aim 2 gid oid m
 unfolding hear_of heard_written
 hear_response a gid oid m g o = rw (eq-eqb a.gid gid g, eq-eqb a.oid oid o)
 
 -- a notification, whatever is unanswered
-pub hear_notice : (p : Pending) (aim gid oid : ℕ) (m : Octets) → hear_of p 3 gid oid m ≡ says aim 3 gid oid m
+pub hear_notice : (p : Option Asked) (aim gid oid : ℕ) (m : Octets) → hear_of p 3 gid oid m ≡ says aim 3 gid oid m
 unfolding hear_of heard_written
 hear_notice p aim gid oid m = refl

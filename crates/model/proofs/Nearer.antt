@@ -8,6 +8,7 @@ use mathlib.Core.List.{List, [], ◌∷◌, map}
 use lib.Dec.{eqb}
 use lib.ListN.{length, length-append}
 use borrow.Author.Tests.{eq-eqb, ne_eqb, not-false}
+use Rattle.std.specs.Prelude.{Option}
 use Rattle.octets.specs.Octets.{Octets, pick}
 use Rattle.packets.specs.Segments.{Segment}
 use Rattle.packets.specs.Packet.{carrying}
@@ -19,7 +20,7 @@ use Rattle.messages.specs.Layout.{credits_ntf}
 use Rattle.dh.specs.Contents.{notice_of, written}
 use Rattle.dh.specs.Host.{heard_written, hear_of, credits_for}
 use Rattle.ends.specs.Changes.{Change, change_heard}
-use Rattle.model.specs.Kinds.{Pending, Heard}
+use Rattle.model.specs.Kinds.{Asked, Heard}
 use Rattle.model.specs.Connection.{HostEnd, ControllerEnd, Connection, with_host, with_controller, heard_data, credited, stored, owed_on, carried_on}
 use Rattle.model.specs.State.{ControlRun, State, at, with_conns, with_down, with_up, with_hearing}
 use Rattle.model.specs.Effects.{Effect, down, consume, credit, up}
@@ -100,7 +101,7 @@ itself_still : (s : State) → Still s s
 itself_still s = record { hand = λ d. refl; controller = λ d. refl; same_down = refl; same_up = refl }
 
 -- a credit notice gives credits, or nothing
-notice_hand : (m : Octets) (p : Pending) (h : HostEnd) (d : ℕ) → (at_host (change_heard (hear_of p 3 0 6 m) m d) h).hand ≡ h.hand
+notice_hand : (m : Octets) (p : Option Asked) (h : HostEnd) (d : ℕ) → (at_host (change_heard (hear_of p 3 0 6 m) m d) h).hand ≡ h.hand
 unfolding hear_of heard_written notice_of
 notice_hand m p h d =
     on (λ (x : Heard). (at_host (change_heard x m d) h).hand ≡ h.hand) (written 3 0 6 m)

@@ -10,11 +10,12 @@ use mathlib.Core.List.{List, [], ◌∷◌, ◌++◌}
 use lib.Dec.{eqb, leb}
 use lib.ListN.{length}
 use borrow.Author.Tests.{not-false, lt-leb, le-ltb, eq-eqb}
+use Rattle.std.specs.Prelude.{Option}
 use Rattle.octets.specs.Octets.{Octets, pick}
 use Rattle.packets.specs.Segments.{Segment, more, last}
 use Rattle.packets.specs.Reassembly.{Run, run, finished}
 use Rattle.packets.proofs.Reassembly.{within}
-use Rattle.model.specs.Kinds.{Pending, Answer, Heard}
+use Rattle.model.specs.Kinds.{Asked, Answer, Heard}
 use Rattle.model.specs.Kinds.answer.{Done, ClosesAll, Sized, Opens, Closes}
 use Rattle.model.specs.Kinds.heard.{Answered}
 use Rattle.state.specs.Conn.{flows}
@@ -106,7 +107,7 @@ answered_none (Sized n) m d = refl
 answered_none (Opens c t) m d = on (λ (x : Change). credits_of x ≡ 0) (eqb c d) (λ e. refl) (λ e. refl)
 answered_none (Closes c) m d = on (λ (x : Change). credits_of x ≡ 0) (eqb c d) (λ e. refl) (λ e. refl)
 
-response_none : (p : Pending) (gid oid : ℕ) (m : Octets) (d : ℕ) → credits_of (change_heard (hear_of p 2 gid oid m) m d) ≡ 0
+response_none : (p : Option Asked) (gid oid : ℕ) (m : Octets) (d : ℕ) → credits_of (change_heard (hear_of p 2 gid oid m) m d) ≡ 0
 unfolding hear_of heard_written
 response_none p gid oid m d =
     on (λ (h : Heard). credits_of (change_heard h m d) ≡ 0) (expected p 2 gid oid)

@@ -8,14 +8,14 @@ use mathlib.Core.List.{List, [], ◌∷◌, ◌++◌, map, append_assoc, append-
 use lib.Dec.{eqb, ltb}
 use lib.ListN.{length, take, drop}
 use borrow.Author.Tests.{eq-eqb}
+use Rattle.std.specs.Prelude.{Option, Some, None}
 use Rattle.octets.specs.Octets.{Octets, pick}
 use Rattle.state.proofs.Chains.{pick_same}
 use Rattle.packets.specs.Segments.{Segment, more, last, segments_within, segments, parse, left, segment_packet}
 use Rattle.packets.specs.Reassembly.{Run, run, grown, Fit}
 use Rattle.packets.proofs.Reassembly.{run_fits, within}
 use Rattle.packets.proofs.Segments.{parse_segments, left_segments}
-use Rattle.model.specs.Kinds.{Pending}
-use Rattle.model.specs.Kinds.pending as pending
+use Rattle.model.specs.Kinds.{Asked}
 use Rattle.state.specs.Runs.{control_limit}
 use Rattle.packets.specs.Headers.{control_header}
 use Rattle.wires.specs.Meaning.{Meaning, datum, control, junk, meaning}
@@ -52,19 +52,19 @@ no_middle [] b k e = absurd (cons≢nil e)
 no_middle (x ∷ a) b k e = absurd (cons≢nil e)
 
 -- a command under way is the only one, and it is the one that is unanswered
-pub record Only (a b : List Name) (k : Name) (p : Pending) : Type 0 where
+pub record Only (a b : List Name) (k : Name) (p : Option Asked) : Type 0 where
   pub before : a ≡ []
   pub behind : b ≡ []
   pub names : pending_name p ≡ k ∷ []
 
-pub one_only : (a b : List Name) (k : Name) (p : Pending) → a ++ (k ∷ b) ≡ pending_name p → Only a b k p
-one_only a b k pending.Nothing e = no_middle a b k e
-one_only [] b k (pending.Command j) e = record { before = refl; behind = tail-eq_of_cons-eq e; names = sym e ∙ ap (λ l. k ∷ l) (tail-eq_of_cons-eq e) }
-one_only (x ∷ a) b k (pending.Command j) e = no_middle a b k (tail-eq_of_cons-eq e)
+pub one_only : (a b : List Name) (k : Name) (p : Option Asked) → a ++ (k ∷ b) ≡ pending_name p → Only a b k p
+one_only a b k None e = no_middle a b k e
+one_only [] b k (Some j) e = record { before = refl; behind = tail-eq_of_cons-eq e; names = sym e ∙ ap (λ l. k ∷ l) (tail-eq_of_cons-eq e) }
+one_only (x ∷ a) b k (Some j) e = no_middle a b k (tail-eq_of_cons-eq e)
 
-pub idle_pending : (p : Pending) → is_busy p ≡ false → pending_name p ≡ []
-idle_pending pending.Nothing e = refl
-idle_pending (pending.Command k) e = clash refl e
+pub idle_pending : (p : Option Asked) → is_busy p ≡ false → pending_name p ≡ []
+idle_pending None e = refl
+idle_pending (Some k) e = clash refl e
 
 -- ---- no data behind a command that closes
 

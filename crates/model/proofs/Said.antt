@@ -8,9 +8,10 @@ use mathlib.Core.Bool.{true, false}
 use mathlib.Core.List.{List, [], ◌∷◌, ◌++◌}
 use lib.Dec.{eqb}
 use lib.ListN.{length, get_or, drop}
+use Rattle.std.specs.Prelude.{Option}
 use Rattle.octets.specs.Octets.{Octets, pick}
 use Rattle.packets.specs.Segments.{Segment, more, last}
-use Rattle.model.specs.Kinds.{Profile, Pending, Command, Verdict, Event, Answer, Heard}
+use Rattle.model.specs.Kinds.{Profile, Asked, Command, Verdict, Event, Answer, Heard}
 use Rattle.model.specs.Kinds.command.{Reset, Init, ConnCreate, ConnClose, Discover, Select, Deactivate, Unknown, SetConfig, GetConfig}
 use Rattle.model.specs.Kinds.verdict as verdict
 use Rattle.model.specs.Kinds.event.{Bad, Found, Poll, Listen, Failed, Sleeps, LinkLost, Releases, Endpoint}
@@ -83,7 +84,7 @@ ok_due r Unknown a b m h = h
 ok_due r SetConfig a b m h = h
 ok_due r GetConfig a b m h = h
 
-written_due : (r : Profile) (p q : Pending) (mt gid oid : ℕ) (m : Octets) → Due r (heard_written p mt gid oid m) → Due r (heard_written q mt gid oid m)
+written_due : (r : Profile) (p q : Option Asked) (mt gid oid : ℕ) (m : Octets) → Due r (heard_written p mt gid oid m) → Due r (heard_written q mt gid oid m)
 unfolding heard_written answer_of
 written_due r p q mt gid oid m =
     elim (eqb mt 2) as (λ b. Due r (pick b (Answered (answer_of (command_of gid oid) (aim_of p) m)) (noticed (notice_of gid oid) m))
@@ -93,14 +94,14 @@ written_due r p q mt gid oid m =
       | false ↦ λ h. h
     ]
 
-understood_due : (r : Profile) (p q : Pending) (mt gid oid : ℕ) (m : Octets) → Due r (pick (written mt gid oid m) (heard_written p mt gid oid m) Nothing)
+understood_due : (r : Profile) (p q : Option Asked) (mt gid oid : ℕ) (m : Octets) → Due r (pick (written mt gid oid m) (heard_written p mt gid oid m) Nothing)
     → Due r (pick (written mt gid oid m) (heard_written q mt gid oid m) Nothing)
 understood_due r p q mt gid oid m =
     elim (written mt gid oid m) as (λ b. Due r (pick b (heard_written p mt gid oid m) Nothing) → Due r (pick b (heard_written q mt gid oid m) Nothing))
     [ true ↦ written_due r p q mt gid oid m | false ↦ λ h. h ]
 
 -- what the host hears is what the packet says
-pub hear_due : (r : Profile) (p : Pending) (mt gid oid : ℕ) (m : Octets) → Due r (says 0 mt gid oid m) → Due r (hear_of p mt gid oid m)
+pub hear_due : (r : Profile) (p : Option Asked) (mt gid oid : ℕ) (m : Octets) → Due r (says 0 mt gid oid m) → Due r (hear_of p mt gid oid m)
 unfolding hear_of
 hear_due r p mt gid oid m h = on (Due r) (expected p mt gid oid) (λ e. understood_due r (aimed_at 0) p mt gid oid m h) (λ e. tt)
 

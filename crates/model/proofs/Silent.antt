@@ -9,6 +9,7 @@ use mathlib.Core.List.{List, [], ◌∷◌, map, ◌++◌, append-nil, cons≢ni
 use lib.Dec.{eqb, leb}
 use lib.ListN.{length}
 use borrow.Author.Tests.{eqb-true, leb-true, ne_eqb, not-false}
+use Rattle.std.specs.Prelude.{Option, Some, None}
 use Rattle.octets.specs.Octets.{Octets, pick}
 use Rattle.packets.specs.Segments.{Segment, parse}
 use Rattle.packets.specs.Reassembly.{Run, Flow}
@@ -17,8 +18,7 @@ use Rattle.state.specs.Profile.{credits_ok}
 use Rattle.state.proofs.Chains.{and_left, and_right}
 use Rattle.dh.specs.Host.{is_closing}
 use Rattle.wires.specs.Meaning.{Meaning, datum, control, junk, meaning}
-use Rattle.model.specs.Kinds.{Pending}
-use Rattle.model.specs.Kinds.pending as pending
+use Rattle.model.specs.Kinds.{Asked}
 use Rattle.model.specs.Connection.{owed_on}
 use Rattle.model.specs.State.{State}
 use Rattle.model.specs.Effects.{push, down, consume, credit, reply, up, is_taken}
@@ -56,9 +56,9 @@ granted_some n e = go (leb 1 n) refl e
     go true t h = omega (arith, leb-true 1 n t)
     go false t h = omega (arith, eqb-true n 255 h)
 
-none_pending : (p : Pending) → [] ≡ pending_name p → is_closing p ≡ false
-none_pending pending.Nothing e = refl
-none_pending (pending.Command a) e = absurd (cons≢nil (sym e))
+none_pending : (p : Option Asked) → [] ≡ pending_name p → is_closing p ≡ false
+none_pending None e = refl
+none_pending (Some a) e = absurd (cons≢nil (sym e))
 
 -- each of these is 0
 abbrev Zeros : (ℕ → ℕ) → List ℕ → Type 0

@@ -8,11 +8,11 @@ use mathlib.Core.List.{List, [], ◌∷◌, ◌++◌, cons≢nil, head-eq_of_con
 use lib.Dec.{eqb}
 use lib.ListN.{length}
 use borrow.Author.Tests.{eq-eqb}
+use Rattle.std.specs.Prelude.{Option, Some, None}
 use Rattle.octets.specs.Octets.{Octets, pick}
 use Rattle.packets.specs.Segments.{Segment, more, last}
 use Rattle.packets.specs.Reassembly.{Run, run, grown, finished, flagged}
-use Rattle.model.specs.Kinds.{Pending, Host, Answer, Heard, Notice}
-use Rattle.model.specs.Kinds.pending as pending
+use Rattle.model.specs.Kinds.{Asked, Host, Answer, Heard, Notice}
 use Rattle.model.specs.Kinds.answer.{Done, ClosesAll, Sized, Opens, Closes}
 use Rattle.model.specs.Kinds.heard.{Answered}
 use Rattle.state.specs.Runs.{data_limit, control_limit}
@@ -186,14 +186,14 @@ module _ (s : State) (aim : ℕ) (l : ℕ → Ledger) (p : Octets) (w : List Oct
     says_answer = rw understood
 
     -- the unanswered command awaits it, and named `aim`
-    hears : (q : Pending) → Aimed q aim → pending_name q ≡ named gid oid ∷ [] → hear_of q 2 gid oid m ≡ Answered answer
-    hears pending.Nothing a e = absurd (cons≢nil (sym e))
-    hears (pending.Command k) a e =
+    hears : (q : Option Asked) → Aimed q aim → pending_name q ≡ named gid oid ∷ [] → hear_of q 2 gid oid m ≡ Answered answer
+    hears None a e = absurd (cons≢nil (sym e))
+    hears (Some k) a e =
         let same = head-eq_of_cons-eq e in
         hear_response k gid oid m (ap (λ (n : Name). n.gid) same) (ap (λ (n : Name). n.oid) same)
         ∙ ap (λ (n : ℕ). says n 2 gid oid m) a ∙ says_answer
 
-    pub settles : (h : Host) (a : Answer) → (host_after h (Answered a)).pending ≡ pending.Nothing
+    pub settles : (h : Host) (a : Answer) → (host_after h (Answered a)).pending ≡ None
     unfolding host_after
     settles h Done = refl
     settles h ClosesAll = refl

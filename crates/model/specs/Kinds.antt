@@ -13,15 +13,11 @@ pub use Rattle.state.specs.declared.kinds.Controller.{Controller}
 pub use Rattle.state.specs.declared.kinds.Host.{Host}
 pub use Rattle.state.specs.declared.kinds.Pair.{Pair}
 pub use Rattle.state.specs.declared.kinds.Pairs.{Pairs}
-pub use Rattle.state.specs.declared.kinds.Pending.{Pending}
-pub use Rattle.state.specs.declared.kinds.Pending.TheVariants as pending
 pub use Rattle.state.specs.declared.kinds.Phase.{Phase}
 pub use Rattle.state.specs.declared.kinds.Phase.TheVariants as phase
 pub use Rattle.state.specs.declared.kinds.Profile.{Profile}
 pub use Rattle.state.specs.declared.kinds.Rf.{Rf}
 pub use Rattle.state.specs.declared.kinds.Rf.TheVariants as rf
-pub use Rattle.state.specs.declared.kinds.Selection.{Selection}
-pub use Rattle.state.specs.declared.kinds.Selection.TheVariants as selection
 pub use Rattle.state.specs.declared.kinds.Terms.{Terms}
 pub use Rattle.state.specs.declared.verdict.Verdict.{Verdict}
 pub use Rattle.state.specs.declared.verdict.Verdict.TheVariants as verdict

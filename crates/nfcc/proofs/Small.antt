@@ -4,11 +4,11 @@ use Prim.Native.Nat.{ℕ, ◌%◌}
 use mathlib.Core.Bool.{Bool, not, ◌&&◌, ◌||◌}
 use lib.ListN.{length, get_or}
 use lib.Dec.{eqb, ltb, leb}
+use Rattle.std.specs.Prelude.{Some, None}
 use Rattle.octets.specs.Octets.{Octets}
 use Rattle.octets.specs.Octal.{Octal}
 use Rattle.octets.proofs.Octal.{octal_at}
 use Rattle.nfcc.specs.Kinds.{Profile, Controller, Pair, Pairs, Rf, Command, Verdict}
-use Rattle.nfcc.specs.Kinds.selection.{Nothing, Chosen}
 use Rattle.nfcc.specs.Kinds.rf.{Idle, Discovery, W4AllDiscoveries, W4HostSelect, PollActive, ListenActive, ListenSleep}
 use Rattle.nfcc.specs.Kinds.command as command
 use Rattle.nfcc.specs.Kinds.verdict as verdict
@@ -51,7 +51,7 @@ deactivate_small Idle type = tt
 deactivate_small Discovery type = tt
 deactivate_small W4AllDiscoveries type = tt
 deactivate_small (W4HostSelect s) type = tt
-deactivate_small (PollActive a) type = on VerdictSmall (ltb 3 type) (λ e. tt) (λ e. rest_small type (W4HostSelect Nothing) tt)
+deactivate_small (PollActive a) type = on VerdictSmall (ltb 3 type) (λ e. tt) (λ e. rest_small type (W4HostSelect None) tt)
 deactivate_small (ListenActive a) type =
     on VerdictSmall (ltb 3 type) (λ e. tt) (λ e. on VerdictSmall (sleep_rejected a type) (λ r. tt) (λ r. rest_small type ListenSleep tt))
 deactivate_small ListenSleep type = on VerdictSmall (ltb 3 type) (λ e. tt) (λ e. on VerdictSmall (eqb type 0) (λ z. tt) (λ z. tt))
@@ -98,7 +98,7 @@ after_small k verdict.Initialises s h = record { rf = h.rf; pairs = h.pairs }
 after_small k (verdict.Opens c t) s h = record { rf = h.rf; pairs = h.pairs }
 after_small k (verdict.Closes c) s h = h
 after_small k (verdict.Turns rf) s h = turned_small k rf s h
-after_small k (verdict.Selects pair) s h = turned_small k (W4HostSelect (Chosen pair)) s h
+after_small k (verdict.Selects pair) s h = turned_small k (W4HostSelect (Some pair)) s h
 after_small k (verdict.Deactivates type rf) s h = turned_small k rf s h
 after_small k verdict.SetsConfig s h = h
 after_small k verdict.GetsConfig s h = h

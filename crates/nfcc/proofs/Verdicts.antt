@@ -8,11 +8,11 @@ use mathlib.Core.Bool.{Bool, true, false, not, ◌&&◌, ◌||◌, true≢false,
 use lib.Dec.{eqb, ltb, leb}
 use lib.ListN.{length, get_or}
 use borrow.Author.Tests.{eqb-true, ltb-true, ltb-false, leb-true, not-true, ne_eqb}
+use Rattle.std.specs.Prelude.{None}
 use Rattle.octets.specs.Octets.{Octets, pick}
 use Rattle.octets.specs.Octal.{Octal}
 use Rattle.octets.proofs.Octal.{octal_at}
 use Rattle.nfcc.specs.Kinds.{Profile, Controller, Pair, Pairs, Rf, Command, Verdict}
-use Rattle.nfcc.specs.Kinds.selection.{Nothing}
 use Rattle.nfcc.specs.Kinds.rf.{Idle, Discovery, W4AllDiscoveries, W4HostSelect, PollActive, ListenActive, ListenSleep}
 use Rattle.nfcc.specs.Kinds.command as command
 use Rattle.nfcc.specs.Kinds.verdict as verdict
@@ -260,7 +260,7 @@ module _ (is_open : ℕ → Bool) where
   deactivate_legal W4AllDiscoveries type = (refl, refl)
   deactivate_legal (W4HostSelect s) type = (refl, refl)
   deactivate_legal (PollActive a) type =
-      on (Legal (PollActive a) is_open) (ltb 3 type) (λ e. tt) (λ e. (refl, rest_inactive type (W4HostSelect Nothing) refl))
+      on (Legal (PollActive a) is_open) (ltb 3 type) (λ e. tt) (λ e. (refl, rest_inactive type (W4HostSelect None) refl))
   deactivate_legal (ListenActive a) type =
       on (Legal (ListenActive a) is_open) (ltb 3 type) (λ e. tt)
       (λ e. on (Legal (ListenActive a) is_open) (sleep_rejected a type) (λ r. tt) (λ r. (refl, rest_inactive type ListenSleep refl)))
@@ -334,7 +334,7 @@ deactivate_small Idle type h = omega arith
 deactivate_small Discovery type h = tt
 deactivate_small W4AllDiscoveries type h = tt
 deactivate_small (W4HostSelect s) type h = tt
-deactivate_small (PollActive a) type h = on SmallVerdict (ltb 3 type) (λ e. omega arith) (λ e. (h, rest_bare type (W4HostSelect Nothing) tt))
+deactivate_small (PollActive a) type h = on SmallVerdict (ltb 3 type) (λ e. omega arith) (λ e. (h, rest_bare type (W4HostSelect None) tt))
 deactivate_small (ListenActive a) type h =
     on SmallVerdict (ltb 3 type) (λ e. omega arith)
     (λ e. on SmallVerdict (sleep_rejected a type) (λ r. omega arith) (λ r. (h, rest_bare type ListenSleep tt)))

@@ -1,8 +1,8 @@
 -- Each command of document 01 as octets, made from its fields, and read back by the controller's judgement.
 -- Assumes nothing.
-use Rattle.std.specs.Prelude.{ℕ, zero, suc, ◌<◌, ◌≤◌, ◌≡◌, Bool, true, false, ◌&&◌, List, [], ◌∷◌, ◌++◌, length, get_or, eqb}
+use Rattle.std.specs.Prelude.{ℕ, zero, suc, ◌<◌, ◌≤◌, ◌≡◌, Bool, true, false, ◌&&◌, List, [], ◌∷◌, ◌++◌, length, get_or, eqb, Option}
 use Rattle.octets.specs.Octets.{Octets}
-use Rattle.nfcc.specs.Kinds.{Profile, Pair, Selection, Controller}
+use Rattle.nfcc.specs.Kinds.{Profile, Pair, Controller}
 use Rattle.nfcc.specs.Kinds.phase as phase
 use Rattle.nfcc.specs.Kinds.rf.{Idle, W4HostSelect, Discovery}
 use Rattle.nfcc.specs.Kinds.verdict.{Resets, Initialises, Closes, Turns, Selects, SetsConfig, GetsConfig}
@@ -82,7 +82,7 @@ pub record CommandTrips : Type 0 where
       → is_open id ≡ true → judge_of p k is_open 0 5 (close_cmd id) ≡ Closes id
   pub discover : (p : Profile) (k : Controller) (is_open : ℕ → Bool) (cs : List Config) → k.phase ≡ phase.Ready → k.rf ≡ Idle
       → length cs ≤ 8 → all_ok cs ≡ true → judge_of p k is_open 1 3 (discover_cmd cs) ≡ Turns Discovery
-  pub select : (p : Profile) (k : Controller) (is_open : ℕ → Bool) (s : Selection) (x : Pair) → k.phase ≡ phase.Ready → k.rf ≡ W4HostSelect s
+  pub select : (p : Profile) (k : Controller) (is_open : ℕ → Bool) (s : Option Pair) (x : Pair) → k.phase ≡ phase.Ready → k.rf ≡ W4HostSelect s
       → listed k.pairs x ≡ true → judge_of p k is_open 1 4 (select_cmd x 0x01) ≡ Selects x
   pub deactivate : (p : Profile) (k : Controller) (is_open : ℕ → Bool) (type : ℕ) → k.phase ≡ phase.Ready
       → judge_of p k is_open 1 6 (deactivate_cmd type) ≡ deactivate_by k.rf type

@@ -1,10 +1,9 @@
 -- The controller's judgement of a whole command, and what follows from it (document 01, "What the controller answers").
 -- Assumes nothing.
-use Rattle.std.specs.Prelude.{ℕ, zero, suc, ◌+◌, ◌*◌, ◌%◌, Bool, true, false, ◌&&◌, ◌||◌, not, List, length, get_or, eqb, ltb, leb}
+use Rattle.std.specs.Prelude.{ℕ, zero, suc, ◌+◌, ◌*◌, ◌%◌, Bool, true, false, ◌&&◌, ◌||◌, not, List, length, get_or, eqb, ltb, leb, Some, None}
 use Rattle.octets.specs.Octets.{Octets, pick}
 use Rattle.state.specs.Names.{loopback, frame_interface, listen_b, listen_f, to_idle, to_sleep, to_sleep_af, to_discovery, rejected, syntax_error, semantic_error, already_started}
 use Rattle.nfcc.specs.Kinds.{Hand, Profile, Pair, Pairs, Activation, Rf, Phase, Controller, Counts, Command, Verdict}
-use Rattle.nfcc.specs.Kinds.selection.{Nothing, Chosen}
 use Rattle.nfcc.specs.Kinds.rf.{Idle, Discovery, W4AllDiscoveries, W4HostSelect, PollActive, ListenActive, ListenSleep}
 use Rattle.nfcc.specs.Kinds.phase.{Cold, Ready}
 use Rattle.nfcc.specs.Kinds.phase as phase
@@ -140,7 +139,7 @@ deactivate_by W4AllDiscoveries type = Turns Idle
 deactivate_by (W4HostSelect s) type = Turns Idle
 deactivate_by ListenSleep type =
     pick (ltb to_discovery type) (Refuses syntax_error) (pick (eqb type to_idle) (Turns Idle) (Refuses semantic_error))
-deactivate_by (PollActive a) type = pick (ltb to_discovery type) (Refuses syntax_error) (ended type (W4HostSelect Nothing))
+deactivate_by (PollActive a) type = pick (ltb to_discovery type) (Refuses syntax_error) (ended type (W4HostSelect None))
 deactivate_by (ListenActive a) type =
     pick (ltb to_discovery type) (Refuses syntax_error)
     (pick (sleep_rejected a type) (Refuses rejected) (ended type ListenSleep))
@@ -187,7 +186,7 @@ controller_after k Initialises = record { phase = Ready; given = k.given; rf = k
 controller_after k (Opens c t) = record { phase = k.phase; given = c; rf = k.rf; pairs = k.pairs }
 controller_after k (Closes c) = k
 controller_after k (Turns rf) = turned k rf
-controller_after k (Selects p) = turned k (W4HostSelect (Chosen p))
+controller_after k (Selects p) = turned k (W4HostSelect (Some p))
 controller_after k (Deactivates t rf) = turned k rf
 controller_after k SetsConfig = k
 controller_after k GetsConfig = k

@@ -7,7 +7,7 @@ ghost use Rattle.nfcc.specs.Controller.{shortest, is_reset, is_ready, allowed, r
 use config::set;
 use state::commands::Command;
 use state::conn::{open_at, terms_of};
-use state::kinds::{Activation, Controller, Counts, Pair, Pairs, Phase, Profile, Rf, Selection};
+use state::kinds::{Activation, Controller, Counts, Pair, Pairs, Phase, Profile, Rf};
 use state::names::{
     ALREADY_STARTED, FRAME_INTERFACE, LISTEN_B, LISTEN_F, LOOPBACK, REJECTED, SEMANTIC_ERROR,
     SYNTAX_ERROR, TO_DISCOVERY, TO_IDLE, TO_SLEEP, TO_SLEEP_AF,
@@ -289,7 +289,7 @@ fn deactivate_by(rf: Rf, kind: u8) -> Verdict
             if TO_DISCOVERY < kind {
                 Verdict::Refuses(SYNTAX_ERROR)
             } else {
-                ended(kind, Rf::W4HostSelect(Selection::Nothing))
+                ended(kind, Rf::W4HostSelect(None))
             }
         }
         Rf::ListenActive(a) => listen_ended(a, kind),

@@ -9,7 +9,7 @@ ghost use Rattle.nfcc.specs.Controller.{turned, controller_after, conns_after, e
 use config::set::set_all;
 use config::stored::defaults;
 use state::conn::{controller_all_closed, controller_closed_at, controller_opened_at, empty_hand};
-use state::kinds::{Controller, Counts, Hand, Phase, Rf, Selection};
+use state::kinds::{Controller, Counts, Hand, Phase, Rf};
 use state::radio::{is_idle, no_pairs};
 use state::verdict::Verdict;
 
@@ -62,7 +62,7 @@ pub fn controller_after(k: Controller, v: Verdict) -> Controller
         },
         Verdict::Closes(_) => k,
         Verdict::Turns(next) => turned(k, next),
-        Verdict::Selects(p) => turned(k, Rf::W4HostSelect(Selection::Chosen(p))),
+        Verdict::Selects(p) => turned(k, Rf::W4HostSelect(Some(p))),
         Verdict::Deactivates(_, next) => turned(k, next),
         Verdict::SetsConfig => k,
         Verdict::GetsConfig => k,

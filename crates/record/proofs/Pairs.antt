@@ -9,11 +9,11 @@ use lib.ListN.{length, get_or, set}
 use lib.Seq.{get_or-set_same, get_or-set_other}
 use lib.Dec.{eqb, ltb}
 use borrow.Author.Tests.{eqb-true, eqb-false, ltb-true}
+use Rattle.std.specs.Prelude.{Some, None}
 use Rattle.octets.specs.Octets.{Octets}
 use Rattle.octets.specs.Octal.{Octal, octal_nil, octal_cons}
 use Rattle.octets.proofs.Octal.{octal_at}
 use Rattle.record.specs.Kinds.{Activation, Pair, Pairs, Rf}
-use Rattle.record.specs.Kinds.selection as selection
 use Rattle.record.specs.Kinds.rf.{Idle, Discovery, W4AllDiscoveries, W4HostSelect, PollActive, ListenActive, ListenSleep}
 use Rattle.state.specs.Radio.{no_pair, no_pairs, started_with, added_to}
 use Rattle.state.proofs.Chains.{on}
@@ -32,8 +32,8 @@ unfolding rf_octets
 rf_octal Idle s = case 0 (omega arith)
 rf_octal Discovery s = case 1 (omega arith)
 rf_octal W4AllDiscoveries s = case 2 (omega arith)
-rf_octal (W4HostSelect selection.Nothing) s = case 3 (omega arith)
-rf_octal (W4HostSelect (selection.Chosen p)) s = octal_cons {x = 3} (omega arith) (octal_cons {x = 1} (omega arith) (octal_cons s.0 (octal_cons s.1 octal_nil)))
+rf_octal (W4HostSelect None) s = case 3 (omega arith)
+rf_octal (W4HostSelect (Some p)) s = octal_cons {x = 3} (omega arith) (octal_cons {x = 1} (omega arith) (octal_cons s.0 (octal_cons s.1 octal_nil)))
 rf_octal (PollActive a) s = active_octal 4 a (omega arith) s
 rf_octal (ListenActive a) s = active_octal 5 a (omega arith) s
 rf_octal ListenSleep s = case 6 (omega arith)

@@ -8,13 +8,12 @@ use native.Mathlib.Omega.{arith}
 use lib.ListN.{length, get_or, take, drop, drop_of_length-le}
 use lib.Seq.{drop-cons, take-add}
 use lib.Dec.{eqb, leb}
+use Rattle.std.specs.Prelude.{Option, Some, None}
 use Rattle.octets.specs.Octets.{Octets, cut}
 use Rattle.octets.proofs.Octets.{cut_same}
-use Rattle.record.specs.Kinds.selection as selection
-use Rattle.record.specs.Kinds.{Rf, Progress, ControlRun, Phase, Pending, Hand, Ring, Counts, Record}
+use Rattle.record.specs.Kinds.{Rf, Progress, ControlRun, Phase, Asked, Hand, Ring, Counts, Record}
 use Rattle.record.specs.Kinds.rf.{Idle, Discovery, W4AllDiscoveries, W4HostSelect, PollActive, ListenActive, ListenSleep}
 use Rattle.record.specs.Kinds.phase.{Cold, Reset, Ready}
-use Rattle.record.specs.Kinds.pending as pending
 use Rattle.state.specs.Conn.{closed_counts}
 use Rattle.area.specs.Map.{area_size, record_at, record_room, wire_slots, message_size, control_size, places}
 use Rattle.config.specs.Stored.{parameters_ok}
@@ -70,23 +69,23 @@ bit_known false = refl
 abbrev four : Octets → Octets
 four l = get_or l 0 0 ∷ get_or l 1 0 ∷ get_or l 2 0 ∷ get_or l 3 0 ∷ []
 
-pending_four : (p : Pending) → pending_octets p ≡ four (pending_octets p)
+pending_four : (p : Option Asked) → pending_octets p ≡ four (pending_octets p)
 unfolding pending_octets
-pending_four pending.Nothing = refl
-pending_four (pending.Command a) = refl
+pending_four None = refl
+pending_four (Some a) = refl
 
-abbrev pending_in : Octets → Pending
+abbrev pending_in : Octets → Option Asked
 pending_in l = pending_of (get_or l 0 0) (get_or l 1 0) (get_or l 2 0) (get_or l 3 0)
 
-pending_back : (p : Pending) → pending_in (pending_octets p) ≡ p
+pending_back : (p : Option Asked) → pending_in (pending_octets p) ≡ p
 unfolding pending_octets pending_of
-pending_back pending.Nothing = refl
-pending_back (pending.Command a) = refl
+pending_back None = refl
+pending_back (Some a) = refl
 
-pending_known : (p : Pending) → leb (get_or (pending_octets p) 0 0) 1 ≡ true
+pending_known : (p : Option Asked) → leb (get_or (pending_octets p) 0 0) 1 ≡ true
 unfolding pending_octets
-pending_known pending.Nothing = refl
-pending_known (pending.Command a) = refl
+pending_known None = refl
+pending_known (Some a) = refl
 
 phase_back : (p : Phase) → phase_of (phase_octet p) ≡ p
 unfolding phase_of phase_octet
@@ -105,8 +104,8 @@ unfolding rf_octets
 rf_four Idle = refl
 rf_four Discovery = refl
 rf_four W4AllDiscoveries = refl
-rf_four (W4HostSelect selection.Nothing) = refl
-rf_four (W4HostSelect (selection.Chosen p)) = refl
+rf_four (W4HostSelect None) = refl
+rf_four (W4HostSelect (Some p)) = refl
 rf_four (PollActive a) = refl
 rf_four (ListenActive a) = refl
 rf_four ListenSleep = refl
@@ -119,8 +118,8 @@ unfolding rf_octets rf_of
 rf_back Idle = refl
 rf_back Discovery = refl
 rf_back W4AllDiscoveries = refl
-rf_back (W4HostSelect selection.Nothing) = refl
-rf_back (W4HostSelect (selection.Chosen p)) = refl
+rf_back (W4HostSelect None) = refl
+rf_back (W4HostSelect (Some p)) = refl
 rf_back (PollActive a) = refl
 rf_back (ListenActive a) = refl
 rf_back ListenSleep = refl
@@ -130,8 +129,8 @@ unfolding rf_octets rf_known
 rf_known_law Idle = refl
 rf_known_law Discovery = refl
 rf_known_law W4AllDiscoveries = refl
-rf_known_law (W4HostSelect selection.Nothing) = refl
-rf_known_law (W4HostSelect (selection.Chosen p)) = refl
+rf_known_law (W4HostSelect None) = refl
+rf_known_law (W4HostSelect (Some p)) = refl
 rf_known_law (PollActive a) = refl
 rf_known_law (ListenActive a) = refl
 rf_known_law ListenSleep = refl

@@ -6,11 +6,11 @@ use mathlib.Core.Bool.{Bool, true, false}
 use mathlib.Core.List.{[], ◌∷◌, ◌++◌}
 use lib.ListN.{get_or}
 use lib.Dec.{eqb}
+use Rattle.std.specs.Prelude.{Option, Some, None}
 use Rattle.octets.specs.Octets.{Octets, cut}
 use Rattle.octets.specs.Octal.{Octal, octal_nil, octal_cons}
 use Rattle.octets.proofs.Octal.{octal_at, octal_append, octal_left, octal_right, octal_cut}
-use Rattle.record.specs.Kinds.{Profile, Pair, Phase, Pending, Rf, Progress, Controller, Hand, Ring, Counts, Record}
-use Rattle.record.specs.Kinds.selection as selection
+use Rattle.record.specs.Kinds.{Profile, Pair, Phase, Asked, Rf, Progress, Controller, Hand, Ring, Counts, Record}
 use Rattle.record.specs.Kinds.rf.{Idle, Discovery, W4AllDiscoveries, W4HostSelect, PollActive, ListenActive, ListenSleep}
 use Rattle.record.specs.Kinds.phase.{Cold, Reset, Ready}
 use Rattle.state.specs.Conn.{terms_of, closed_counts}
@@ -108,7 +108,7 @@ rf_small t a b c x y z =
 
 pending_small : (t g o a : ℕ) → g ≤ 255 → o ≤ 255 → a ≤ 255 → Octal (pending_octets (pending_of t g o a))
 unfolding pending_of pending_octets
-pending_small t g o a x y z = on (λ (p : Pending). Octal (pending_octets p)) (eqb t 1) (λ _. four 1 g o a (omega arith) x y z) (λ _. case 0 (omega arith))
+pending_small t g o a x y z = on (λ (p : Option Asked). Octal (pending_octets p)) (eqb t 1) (λ _. four 1 g o a (omega arith) x y z) (λ _. case 0 (omega arith))
 
 module _ (s : Octets) (h : Octal s) where
   o : (i : ℕ) → get_or s i 0 ≤ 255
@@ -209,13 +209,13 @@ unfolding rf_octets
 bare_octal Idle b = case 0 (omega arith)
 bare_octal Discovery b = case 1 (omega arith)
 bare_octal W4AllDiscoveries b = case 2 (omega arith)
-bare_octal (W4HostSelect selection.Nothing) b = case 3 (omega arith)
-bare_octal (W4HostSelect (selection.Chosen p)) b = absurd b
+bare_octal (W4HostSelect None) b = case 3 (omega arith)
+bare_octal (W4HostSelect (Some p)) b = absurd b
 bare_octal (PollActive a) b = absurd b
 bare_octal (ListenActive a) b = absurd b
 bare_octal ListenSleep b = case 6 (omega arith)
 
-pub chosen_octal : (p : Pair) → p.id ≤ 255 → p.protocol ≤ 255 → Octal (rf_octets (W4HostSelect (selection.Chosen p)))
+pub chosen_octal : (p : Pair) → p.id ≤ 255 → p.protocol ≤ 255 → Octal (rf_octets (W4HostSelect (Some p)))
 unfolding rf_octets
 chosen_octal p h i = four 3 1 p.id p.protocol (omega arith) (omega arith) h i
 

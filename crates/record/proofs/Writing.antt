@@ -4,12 +4,11 @@ use Prim.Native.Nat.{ℕ, ◌+◌}
 use mathlib.Core.Path.{◌≡◌, refl, sym, ap, ◌∙◌}
 use mathlib.Core.List.{List, [], ◌∷◌, ◌++◌}
 use lib.ListN.{length, length-append}
+use Rattle.std.specs.Prelude.{Option, Some, None}
 use Rattle.octets.specs.Octets.{Octets, splice}
 use Rattle.octets.proofs.Octets.{splice_next}
-use Rattle.record.specs.Kinds.{Profile, Rf, Pairs, ControlRun, Controller, Pending, Host, Counts, Ends, Record}
-use Rattle.record.specs.Kinds.selection as selection
+use Rattle.record.specs.Kinds.{Profile, Rf, Pairs, ControlRun, Controller, Asked, Host, Counts, Ends, Record}
 use Rattle.record.specs.Kinds.rf.{Idle, Discovery, W4AllDiscoveries, W4HostSelect, PollActive, ListenActive, ListenSleep}
-use Rattle.record.specs.Kinds.pending as pending
 use Rattle.area.specs.Map.{record_at}
 use Rattle.record.specs.Layout.{profile_size, control_run_size, host_size, rf_part, pairs_part, pairs_size, controller_size, counts_size, counts_part, conns_size, controller_place, asking_place, conns_place, down_place, record_end, front_size, middle_size, wires_size}
 use Rattle.record.specs.Writing.{pending_octets, phase_octet, rf_octets, profile_octets, control_run_octets, hand_octets, ring_octets, host_octets, pairs_octets, controller_octets, counts_octets, counts_in, conns_octets, front_octets, middle_octets, wires_octets, encode_of}
@@ -20,10 +19,10 @@ length_profile : (p : Profile) → length (profile_octets p) ≡ profile_size
 unfolding profile_octets
 length_profile p = refl
 
-pub length_pending : (p : Pending) → length (pending_octets p) ≡ 4
+pub length_pending : (p : Option Asked) → length (pending_octets p) ≡ 4
 unfolding pending_octets
-length_pending pending.Nothing = refl
-length_pending (pending.Command a) = refl
+length_pending None = refl
+length_pending (Some a) = refl
 
 length_host : (h : Host) → length (host_octets h) ≡ host_size
 unfolding host_octets
@@ -38,8 +37,8 @@ unfolding rf_octets
 length_rf Idle = refl
 length_rf Discovery = refl
 length_rf W4AllDiscoveries = refl
-length_rf (W4HostSelect selection.Nothing) = refl
-length_rf (W4HostSelect (selection.Chosen p)) = refl
+length_rf (W4HostSelect None) = refl
+length_rf (W4HostSelect (Some p)) = refl
 length_rf (PollActive a) = refl
 length_rf (ListenActive a) = refl
 length_rf ListenSleep = refl

@@ -1,12 +1,10 @@
 -- The record that octets say. In each definition s is the record's 512 octets and at is where the part stands in them.
 -- Assumes nothing.
-use Rattle.std.specs.Prelude.{ℕ, ◌+◌, ◌*◌, List, [], ◌∷◌, get_or, eqb}
+use Rattle.std.specs.Prelude.{ℕ, ◌+◌, ◌*◌, List, [], ◌∷◌, get_or, eqb, Option, Some, None}
 use Rattle.octets.specs.Octets.{Octets, pick}
-use Rattle.record.specs.Kinds.{Profile, Pair, Rf, Pairs, Progress, ControlRun, Phase, Controller, Pending, Host, Hand, Ring, HostSide, ControllerSide, Counts, Ends, Record}
-use Rattle.record.specs.Kinds.selection as selection
+use Rattle.record.specs.Kinds.{Profile, Pair, Rf, Pairs, Progress, ControlRun, Phase, Controller, Asked, Host, Hand, Ring, HostSide, ControllerSide, Counts, Ends, Record}
 use Rattle.record.specs.Kinds.rf.{Idle, Discovery, W4AllDiscoveries, W4HostSelect, PollActive, ListenActive, ListenSleep}
 use Rattle.record.specs.Kinds.phase.{Cold, Reset, Ready}
-use Rattle.record.specs.Kinds.pending as pending
 use Rattle.state.specs.Profile.{terms_in}
 use Rattle.record.specs.Layout.{record_octets, profile_place, host_place, hearing_place, controller_place, asking_place, endpoint_place, conns_place, down_place, up_place, lost_part, run_part, pending_part, rf_part, selected_part, pairs_part, hand_part, host_run_part, store_part, controller_run_part, host_side_size, counts_part}
 
@@ -17,8 +15,8 @@ wide_at s at = get_or s at 0 * 256 + get_or s (at + 1) 0
 
 -- ---- cases: a tag that is none of them reads as the first
 
-unfoldable pub pending_of : ℕ → ℕ → ℕ → ℕ → Pending
-pending_of tag g o a = pick (eqb tag 1) (pending.Command (record { gid = g; oid = o; aim = a })) pending.Nothing
+unfoldable pub pending_of : ℕ → ℕ → ℕ → ℕ → Option Asked
+pending_of tag g o a = pick (eqb tag 1) (Some (record { gid = g; oid = o; aim = a })) None
 
 unfoldable pub phase_of : ℕ → Phase
 phase_of tag = pick (eqb tag 1) Reset (pick (eqb tag 2) Ready Cold)
@@ -27,7 +25,7 @@ unfoldable pub rf_of : ℕ → ℕ → ℕ → ℕ → Rf
 rf_of tag a b c =
     pick (eqb tag 1) Discovery
     (pick (eqb tag 2) W4AllDiscoveries
-    (pick (eqb tag 3) (pick (eqb a 1) (W4HostSelect (selection.Chosen (record { id = b; protocol = c }))) (W4HostSelect selection.Nothing))
+    (pick (eqb tag 3) (pick (eqb a 1) (W4HostSelect (Some (record { id = b; protocol = c }))) (W4HostSelect None))
     (pick (eqb tag 4) (PollActive (record { id = a; protocol = b; mode = c }))
     (pick (eqb tag 5) (ListenActive (record { id = a; protocol = b; mode = c }))
     (pick (eqb tag 6) ListenSleep Idle)))))

@@ -1,20 +1,18 @@
 -- The octets of a record, in the order of Layout. Octets that a case does not use are 0.
 -- Assumes nothing.
-use Rattle.std.specs.Prelude.{ℕ, List, [], ◌∷◌, ◌++◌, get_or}
+use Rattle.std.specs.Prelude.{ℕ, List, [], ◌∷◌, ◌++◌, get_or, Option, Some, None}
 use Rattle.octets.specs.Octets.{Octets}
-use Rattle.record.specs.Kinds.{Profile, Pair, Rf, Pairs, Progress, ControlRun, Phase, Controller, Pending, Host, Hand, Ring, HostSide, ControllerSide, Counts, Ends, Record}
-use Rattle.record.specs.Kinds.selection as selection
+use Rattle.record.specs.Kinds.{Profile, Pair, Rf, Pairs, Progress, ControlRun, Phase, Controller, Asked, Host, Hand, Ring, HostSide, ControllerSide, Counts, Ends, Record}
 use Rattle.record.specs.Kinds.rf.{Idle, Discovery, W4AllDiscoveries, W4HostSelect, PollActive, ListenActive, ListenSleep}
 use Rattle.record.specs.Kinds.phase.{Cold, Reset, Ready}
-use Rattle.record.specs.Kinds.pending as pending
 use Rattle.state.specs.Conn.{closed_counts}
 use Rattle.record.specs.Layout.{high, low, bit}
 
 -- ---- cases
 
-unfoldable pub pending_octets : Pending → Octets
-pending_octets pending.Nothing = 0 ∷ 0 ∷ 0 ∷ 0 ∷ []
-pending_octets (pending.Command a) = 1 ∷ a.gid ∷ a.oid ∷ a.aim ∷ []
+unfoldable pub pending_octets : Option Asked → Octets
+pending_octets None = 0 ∷ 0 ∷ 0 ∷ 0 ∷ []
+pending_octets (Some a) = 1 ∷ a.gid ∷ a.oid ∷ a.aim ∷ []
 
 unfoldable pub phase_octet : Phase → ℕ
 phase_octet Cold = 0
@@ -25,8 +23,8 @@ unfoldable pub rf_octets : Rf → Octets
 rf_octets Idle = 0 ∷ 0 ∷ 0 ∷ 0 ∷ []
 rf_octets Discovery = 1 ∷ 0 ∷ 0 ∷ 0 ∷ []
 rf_octets W4AllDiscoveries = 2 ∷ 0 ∷ 0 ∷ 0 ∷ []
-rf_octets (W4HostSelect selection.Nothing) = 3 ∷ 0 ∷ 0 ∷ 0 ∷ []
-rf_octets (W4HostSelect (selection.Chosen p)) = 3 ∷ 1 ∷ p.id ∷ p.protocol ∷ []
+rf_octets (W4HostSelect None) = 3 ∷ 0 ∷ 0 ∷ 0 ∷ []
+rf_octets (W4HostSelect (Some p)) = 3 ∷ 1 ∷ p.id ∷ p.protocol ∷ []
 rf_octets (PollActive a) = 4 ∷ a.id ∷ a.protocol ∷ a.mode ∷ []
 rf_octets (ListenActive a) = 5 ∷ a.id ∷ a.protocol ∷ a.mode ∷ []
 rf_octets ListenSleep = 6 ∷ 0 ∷ 0 ∷ 0 ∷ []

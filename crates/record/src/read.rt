@@ -10,7 +10,7 @@ use crate::places;
 use area::map::{AREA, RECORD_AT};
 use state::kinds::{
     Activation, Asked, ControlRun, Controller, ControllerSide, Counts, Ends, Hand, Host, HostSide,
-    Pair, Pairs, Pending, Phase, Profile, Progress, Record, Rf, Ring, Selection, Terms,
+    Pair, Pairs, Phase, Profile, Progress, Record, Rf, Ring, Terms,
 };
 
 // An octet as a count.
@@ -35,16 +35,16 @@ fn wide_at(s: &[u8], at: usize) -> usize
     joined(s[at], s[at + 1])
 }
 
-fn pending_of(tag: u8, gid: u8, oid: u8, aim: u8) -> Pending
+fn pending_of(tag: u8, gid: u8, oid: u8, aim: u8) -> Option<Asked>
     ensures { result ≡ pending_of tag gid oid aim }
 {
     match tag {
-        1 => Pending::Command(Asked {
+        1 => Some(Asked {
             gid: gid,
             oid: oid,
             aim: aim,
         }),
-        _ => Pending::Nothing,
+        _ => None,
     }
 }
 
@@ -66,9 +66,9 @@ fn rf_of(tag: u8, a: u8, b: u8, c: u8) -> Rf
         2 => Rf::W4AllDiscoveries,
         3 => {
             if a == 1 {
-                Rf::W4HostSelect(Selection::Chosen(Pair { id: b, protocol: c }))
+                Rf::W4HostSelect(Some(Pair { id: b, protocol: c }))
             } else {
-                Rf::W4HostSelect(Selection::Nothing)
+                Rf::W4HostSelect(None)
             }
         }
         4 => Rf::PollActive(Activation {

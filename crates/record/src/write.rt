@@ -9,8 +9,7 @@ ghost use Rattle.record.specs.Writing.{phase_octet, rf_octets, profile_octets, c
 use crate::places;
 use area::map::RECORD_AT;
 use state::kinds::{
-    ControlRun, Controller, Counts, Ends, Hand, Host, Pairs, Pending, Phase, Profile, Record, Rf,
-    Selection,
+    ControlRun, Controller, Counts, Ends, Hand, Host, Pairs, Phase, Profile, Record, Rf,
 };
 
 // Where the parts of the record that are stored together stand in the area, and what follows in each of them.
@@ -55,8 +54,8 @@ pub fn host_octets(h: Host) -> [u8; places::HOST_SIZE]
 {
     let pending = h.pending;
     match pending {
-        Pending::Nothing => [h.size, 0, 0, 0, 0],
-        Pending::Command(a) => [h.size, 1, a.gid, a.oid, a.aim],
+        None => [h.size, 0, 0, 0, 0],
+        Some(a) => [h.size, 1, a.gid, a.oid, a.aim],
     }
 }
 
@@ -91,8 +90,8 @@ pub fn rf_octets(rf: Rf) -> [u8; 4]
         Rf::Discovery => [1, 0, 0, 0],
         Rf::W4AllDiscoveries => [2, 0, 0, 0],
         Rf::W4HostSelect(s) => match s {
-            Selection::Nothing => [3, 0, 0, 0],
-            Selection::Chosen(p) => [3, 1, p.id, p.protocol],
+            None => [3, 0, 0, 0],
+            Some(p) => [3, 1, p.id, p.protocol],
         },
         Rf::PollActive(a) => [4, a.id, a.protocol, a.mode],
         Rf::ListenActive(a) => [5, a.id, a.protocol, a.mode],

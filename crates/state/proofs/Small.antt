@@ -4,8 +4,8 @@ use Prim.Native.Nat.{ℕ, zero, suc, ◌≤◌}
 use native.Mathlib.Omega.{arith}
 use mathlib.Core.List.{List, [], ◌∷◌}
 use lib.ListN.{get_or, set}
+use Rattle.std.specs.Prelude.{Some, None}
 use Rattle.state.specs.Kinds.{Pair, Activation, Rf, Controller}
-use Rattle.state.specs.Kinds.selection.{Nothing, Chosen}
 use Rattle.state.specs.Kinds.rf.{Idle, Discovery, W4AllDiscoveries, W4HostSelect, PollActive, ListenActive, ListenSleep}
 use Rattle.state.specs.Radio.{no_pair, no_pairs}
 
@@ -22,8 +22,8 @@ abbrev pub RfSmall : Rf → Type 0
 RfSmall Idle = Unit {0}
 RfSmall Discovery = Unit {0}
 RfSmall W4AllDiscoveries = Unit {0}
-RfSmall (W4HostSelect Nothing) = Unit {0}
-RfSmall (W4HostSelect (Chosen p)) = PairSmall p
+RfSmall (W4HostSelect None) = Unit {0}
+RfSmall (W4HostSelect (Some p)) = PairSmall p
 RfSmall (PollActive a) = TargetSmall a
 RfSmall (ListenActive a) = TargetSmall a
 RfSmall ListenSleep = Unit {0}

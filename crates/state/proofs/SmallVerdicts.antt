@@ -1,9 +1,9 @@
 -- What a verdict carries is octets.
 -- Assumes nothing.
 use Prim.Native.Nat.{◌≤◌}
+use Rattle.std.specs.Prelude.{Some, None}
 use Rattle.state.specs.Kinds.{Terms, Rf, Verdict}
 use Rattle.state.specs.Kinds.rf.{Idle, Discovery, W4AllDiscoveries, W4HostSelect, PollActive, ListenActive, ListenSleep}
-use Rattle.state.specs.Kinds.selection.{Nothing, Chosen}
 use Rattle.state.specs.Kinds.verdict as verdict
 
 -- an RF state that carries no octet
@@ -11,8 +11,8 @@ abbrev pub Bare : Rf → Type 0
 Bare Idle = Unit {0}
 Bare Discovery = Unit {0}
 Bare W4AllDiscoveries = Unit {0}
-Bare (W4HostSelect Nothing) = Unit {0}
-Bare (W4HostSelect (Chosen p)) = ⊥
+Bare (W4HostSelect None) = Unit {0}
+Bare (W4HostSelect (Some p)) = ⊥
 Bare (PollActive a) = ⊥
 Bare (ListenActive a) = ⊥
 Bare ListenSleep = Unit {0}

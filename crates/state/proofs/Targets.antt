@@ -1,9 +1,9 @@
 -- What the radio's states and the list of pairs carry is octets.
 -- Assumes nothing.
 use Prim.Native.Nat.{◌≤◌}
+use Rattle.std.specs.Prelude.{Some, None}
 use Rattle.state.specs.Kinds.{Pair, Activation, Rf}
 use Rattle.state.specs.Kinds.rf.{Idle, Discovery, W4AllDiscoveries, W4HostSelect, PollActive, ListenActive, ListenSleep}
-use Rattle.state.specs.Kinds.selection.{Nothing, Chosen}
 
 abbrev pub SmallPair : Pair → Type 0
 SmallPair p = (p.id ≤ 255) × (p.protocol ≤ 255)
@@ -17,8 +17,8 @@ abbrev pub SmallRf : Rf → Type 0
 SmallRf Idle = Unit {0}
 SmallRf Discovery = Unit {0}
 SmallRf W4AllDiscoveries = Unit {0}
-SmallRf (W4HostSelect Nothing) = Unit {0}
-SmallRf (W4HostSelect (Chosen p)) = SmallPair p
+SmallRf (W4HostSelect None) = Unit {0}
+SmallRf (W4HostSelect (Some p)) = SmallPair p
 SmallRf (PollActive a) = SmallTarget a
 SmallRf (ListenActive a) = SmallTarget a
 SmallRf ListenSleep = Unit {0}

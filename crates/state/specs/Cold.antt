@@ -1,16 +1,15 @@
 -- Both ends cold: what fresh and power leave.
 -- Assumes nothing.
-use Rattle.std.specs.Prelude.{[], ◌∷◌}
+use Rattle.std.specs.Prelude.{[], ◌∷◌, None}
 use Rattle.state.specs.Kinds.{Profile, ControlRun, Host, Controller, Ends}
 use Rattle.state.specs.Kinds.rf.{Idle}
 use Rattle.state.specs.Kinds.phase.{Cold}
-use Rattle.state.specs.Kinds.pending.{Nothing}
 use Rattle.state.specs.Conn.{start, empty, closed_counts}
 use Rattle.state.specs.Radio.{no_pairs}
 use Rattle.state.specs.Profile.{least_size}
 
 abbrev pub cold_host : Host
-cold_host = record { size = least_size; pending = Nothing }
+cold_host = record { size = least_size; pending = None }
 
 abbrev pub cold_controller : Controller
 cold_controller = record { phase = Cold; given = 0; rf = Idle; pairs = no_pairs }

@@ -5,6 +5,7 @@ pub use Rattle.packets.specs.declared.Header.{Header}
 pub use Rattle.state.specs.declared.commands.Command.{Command}
 pub use Rattle.state.specs.declared.commands.Command.TheVariants as command
 pub use Rattle.state.specs.declared.kinds.Activation.{Activation}
+pub use Rattle.state.specs.declared.kinds.Asked.{Asked}
 pub use Rattle.state.specs.declared.kinds.ControlRun.{ControlRun}
 pub use Rattle.state.specs.declared.kinds.Controller.{Controller}
 pub use Rattle.state.specs.declared.kinds.ControllerSide.{ControllerSide}
@@ -15,8 +16,6 @@ pub use Rattle.state.specs.declared.kinds.Host.{Host}
 pub use Rattle.state.specs.declared.kinds.HostSide.{HostSide}
 pub use Rattle.state.specs.declared.kinds.Pair.{Pair}
 pub use Rattle.state.specs.declared.kinds.Pairs.{Pairs}
-pub use Rattle.state.specs.declared.kinds.Pending.{Pending}
-pub use Rattle.state.specs.declared.kinds.Pending.TheVariants as pending
 pub use Rattle.state.specs.declared.kinds.Phase.{Phase}
 pub use Rattle.state.specs.declared.kinds.Phase.TheVariants as phase
 pub use Rattle.state.specs.declared.kinds.Profile.{Profile}
@@ -24,8 +23,6 @@ pub use Rattle.state.specs.declared.kinds.Progress.{Progress}
 pub use Rattle.state.specs.declared.kinds.Rf.{Rf}
 pub use Rattle.state.specs.declared.kinds.Rf.TheVariants as rf
 pub use Rattle.state.specs.declared.kinds.Ring.{Ring}
-pub use Rattle.state.specs.declared.kinds.Selection.{Selection}
-pub use Rattle.state.specs.declared.kinds.Selection.TheVariants as selection
 pub use Rattle.state.specs.declared.kinds.Terms.{Terms}
 pub use Rattle.state.specs.declared.runs.ControlJoined.{ControlJoined}
 pub use Rattle.state.specs.declared.runs.Joined.{Joined}

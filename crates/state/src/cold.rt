@@ -2,7 +2,7 @@
 ghost use Rattle.std.specs.Prelude.{◌≡◌};
 ghost use Rattle.state.specs.Cold.{cold_host, cold_run, cold_controller, cold_ends};
 
-use crate::kinds::{ControlRun, Controller, Ends, Host, Pending, Phase, Profile, Rf};
+use crate::kinds::{ControlRun, Controller, Ends, Host, Phase, Profile, Rf};
 use crate::profile::LEAST_SIZE;
 use crate::{conn, radio};
 
@@ -12,7 +12,7 @@ pub fn cold_host() -> Host
 {
     Host {
         size: LEAST_SIZE,
-        pending: Pending::Nothing,
+        pending: None,
     }
 }
 

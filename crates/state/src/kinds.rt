@@ -32,20 +32,13 @@ pub struct Activation {
     pub mode: u8,
 }
 
-// The selection that W4_HOST_SELECT carries.
-#[derive(Clone, Copy)]
-pub enum Selection {
-    Nothing,
-    Chosen(Pair),
-}
-
-// The RF states (003, 5.2).
+// The RF states (003, 5.2). W4_HOST_SELECT carries the selection, if there is one.
 #[derive(Clone, Copy)]
 pub enum Rf {
     Idle,
     Discovery,
     W4AllDiscoveries,
-    W4HostSelect(Selection),
+    W4HostSelect(Option<Pair>),
     PollActive(Activation),
     ListenActive(Activation),
     ListenSleep,
@@ -99,18 +92,11 @@ pub struct Asked {
     pub aim: u8,
 }
 
-// The unanswered command.
-#[derive(Clone, Copy)]
-pub enum Pending {
-    Nothing,
-    Command(Asked),
-}
-
-// The host's numbers. size: the payload at which commands are cut.
+// The host's numbers. size: the payload at which commands are cut; pending: the unanswered command.
 #[derive(Clone, Copy)]
 pub struct Host {
     pub size: u8,
-    pub pending: Pending,
+    pub pending: Option<Asked>,
 }
 
 // A message in hand, the one that an end is sending: whether there is one, its length, and how much of it has gone.

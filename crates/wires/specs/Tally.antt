@@ -1,13 +1,12 @@
 -- What a packet on a wire counts for: data of a connection going down, credits and grants going up. Credits of data going down are
 -- ignored.
 -- Assumes nothing.
-use Rattle.std.specs.Prelude.{ℕ, ◌+◌, Bool, false, List, [], ◌∷◌, eqb}
+use Rattle.std.specs.Prelude.{ℕ, ◌+◌, Bool, false, List, [], ◌∷◌, eqb, Option, Some}
 use Rattle.octets.specs.Octets.{Octets, pick}
 use Rattle.state.specs.Names.{gid_core, oid_conn_close}
 use Rattle.packets.specs.Types.{mt_command}
 use Rattle.packets.specs.Segments.{more, last}
-use Rattle.state.specs.declared.kinds.Pending.{Pending}
-use Rattle.state.specs.declared.kinds.Pending.TheVariants.{Command}
+use Rattle.state.specs.declared.kinds.Asked.{Asked}
 use Rattle.state.specs.Conn.{metered}
 use Rattle.dh.specs.declared.host.Answer.TheVariants.{Done, ClosesAll, Sized, Opens, Closes}
 use Rattle.dh.specs.declared.host.Heard.{Heard}
@@ -30,8 +29,8 @@ data_count c (p ∷ w) = pick (is_data_for c (meaning p)) 1 0 + data_count c w
 
 -- ---- the up wire: what a packet says, to a reader who knows which connection `aim` the last CONN_CLOSE named
 
-abbrev pub aimed_at : ℕ → Pending
-aimed_at aim = Command (record { gid = gid_core; oid = oid_conn_close; aim = aim })
+abbrev pub aimed_at : ℕ → Option Asked
+aimed_at aim = Some (record { gid = gid_core; oid = oid_conn_close; aim = aim })
 
 -- contents never written here say nothing
 abbrev pub says : ℕ → ℕ → ℕ → ℕ → Octets → Heard

@@ -1,10 +1,9 @@
 -- command: all segments of a command go on the down wire.
 -- Assumes nothing.
-use Rattle.std.specs.Prelude.{ℕ, ◌||◌, List, [], ◌∷◌, ltb, length}
+use Rattle.std.specs.Prelude.{ℕ, ◌||◌, List, [], ◌∷◌, ltb, length, Some}
 use Rattle.octets.specs.Octets.{Octets}
 use Rattle.packets.specs.Types.{mt_command}
 use Rattle.packets.specs.Segments.{segments, packets_of}
-use Rattle.model.specs.Kinds.pending as pending
 use Rattle.dh.specs.Host.{asked_of, is_busy}
 use Rattle.packets.specs.Headers.{control_header}
 use Rattle.model.specs.State.{State, with_host_state}
@@ -14,7 +13,7 @@ use Rattle.model.specs.Refusals.{Rule, rule, full}
 abbrev pub commanding : ℕ → ℕ → Octets → State → Effect
 commanding gid oid m s =
     putting_down (packets_of (control_header mt_command gid oid) s.host.size m)
-    (with_host_state (record { size = s.host.size; pending = pending.Command (asked_of gid oid m) }) s)
+    (with_host_state (record { size = s.host.size; pending = Some (asked_of gid oid m) }) s)
 
 -- ---- refusals
 

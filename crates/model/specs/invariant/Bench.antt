@@ -1,12 +1,11 @@
 -- The invariant of demand 3, whole: every connection is good, and commands, data and answers stand in order on the wires. It holds of a
 -- fresh bench, each call that is taken keeps it, and the claim follows from it (proofs/Trace.antt).
 -- Assumes nothing.
-use Rattle.std.specs.Prelude.{ℕ, ◌≤◌, ◌≡◌, ◌⊎◌, Bool, true, false, List, [], ◌++◌, eqb, length}
+use Rattle.std.specs.Prelude.{ℕ, ◌≤◌, ◌≡◌, ◌⊎◌, Bool, true, false, List, [], ◌++◌, eqb, length, Option, Some, None}
 use Rattle.octets.specs.Octets.{Octets}
 use Rattle.packets.specs.Segments.{Segment, more, last}
 use Rattle.packets.specs.Reassembly.{run}
-use Rattle.model.specs.Kinds.{Profile, Pending}
-use Rattle.model.specs.Kinds.pending as pending
+use Rattle.model.specs.Kinds.{Profile, Asked}
 use Rattle.state.specs.Conn.{terms_of}
 use Rattle.state.specs.Radio.{is_active}
 use Rattle.state.specs.Runs.{control_limit}
@@ -30,7 +29,7 @@ use Rattle.model.specs.invariant.Commands.{Name, heads, replies, pending_name, N
 
 -- the order of commands, data and answers: g the connections, w the down wire, ks the commands answered on the up wire, p the command
 -- that the host has unanswered
-pub record Order (g : ℕ → Connection) (w : List Octets) (ks : List Name) (p : Pending) : Type 0 where
+pub record Order (g : ℕ → Connection) (w : List Octets) (ks : List Name) (p : Option Asked) : Type 0 where
   -- a dynamic connection that the controller has closed has no data on the down wire
   pub clear : (d : ℕ) → eqb 0 d ≡ false → (g d).controller.opened ≡ false → segs_of d w ≡ []
   -- at most one command is under way: on the down wire, or its answer on the up wire
@@ -40,9 +39,9 @@ pub record Order (g : ℕ → Connection) (w : List Octets) (ks : List Name) (p 
   pub empty : is_closing p ≡ true → heads w ≡ [] → NoData w
 
 -- the host remembers the connection that its command named
-abbrev pub Aimed : Pending → ℕ → Type 0
-Aimed pending.Nothing aim = Unit {0}
-Aimed (pending.Command a) aim = a.aim ≡ aim
+abbrev pub Aimed : Option Asked → ℕ → Type 0
+Aimed None aim = Unit {0}
+Aimed (Some a) aim = a.aim ≡ aim
 
 -- a packet on the up wire is data, or a whole response or notification; a response is one that the host understands
 abbrev pub SoundIn : Meaning → Type 0

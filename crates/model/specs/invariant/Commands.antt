@@ -1,12 +1,11 @@
 -- The invariant of demand 3, fourth part: commands and answers on the wires, which of them are under way and what lies behind them.
 -- Assumes nothing.
-use Rattle.std.specs.Prelude.{ℕ, ◌<◌, ◌≡◌, Bool, true, false, List, [], ◌∷◌, ◌++◌, eqb}
+use Rattle.std.specs.Prelude.{ℕ, ◌<◌, ◌≡◌, Bool, true, false, List, [], ◌∷◌, ◌++◌, eqb, Option, Some, None}
 use Rattle.octets.specs.Octets.{Octets, pick}
 use Rattle.state.specs.Commands.{aim_in}
 use Rattle.packets.specs.Segments.{Segment, more, last, parse, left}
 use Rattle.packets.specs.Reassembly.{run, Fit}
-use Rattle.model.specs.Kinds.{Pending}
-use Rattle.model.specs.Kinds.pending as pending
+use Rattle.model.specs.Kinds.{Asked}
 use Rattle.state.specs.Runs.{control_limit}
 use Rattle.wires.specs.Meaning.{Meaning, datum, control, junk, meaning}
 use Rattle.model.specs.State.{ControlRun}
@@ -46,9 +45,9 @@ replies [] = []
 replies (p ∷ w) = replies_in (meaning p) ++ replies w
 
 -- the command that the host has unanswered
-abbrev pub pending_name : Pending → List Name
-pending_name pending.Nothing = []
-pending_name (pending.Command a) = named a.gid a.oid ∷ []
+abbrev pub pending_name : Option Asked → List Name
+pending_name None = []
+pending_name (Some a) = named a.gid a.oid ∷ []
 
 -- ---- no data behind a command that closes
 

@@ -1,8 +1,7 @@
 -- The invariant of change 8, beside that of demand 3: the diary has what is in hand at the host, and where each message was taken.
 -- Assumes nothing.
-use Rattle.std.specs.Prelude.{ℕ, ◌<◌, ◌≡◌, true, length}
-use Rattle.model.specs.Kinds.{Pending}
-use Rattle.model.specs.Kinds.pending as pending
+use Rattle.std.specs.Prelude.{ℕ, ◌<◌, ◌≡◌, true, length, Option, Some, None}
+use Rattle.model.specs.Kinds.{Asked}
 use Rattle.dh.specs.Host.{is_closing}
 use Rattle.model.specs.Connection.{HostEnd, Connection}
 use Rattle.model.specs.Discards.{Hand, Diary}
@@ -15,12 +14,12 @@ pub record Told (h : HostEnd) (k : Hand) : Type 0 where
   pub left : k.left ≡ length h.hand
 
 -- the unanswered command has this GID and OID
-abbrev pub Named : Pending → ℕ → ℕ → Type 0
-Named pending.Nothing gid oid = Unit {0}
-Named (pending.Command a) gid oid = (a.gid ≡ gid) × (a.oid ≡ oid)
+abbrev pub Named : Option Asked → ℕ → ℕ → Type 0
+Named None gid oid = Unit {0}
+Named (Some a) gid oid = (a.gid ≡ gid) × (a.oid ≡ oid)
 
 -- the host with the unanswered command p and the connections g, and the diary n
-pub record Marked (p : Pending) (g : ℕ → Connection) (n : Diary) : Type 0 where
+pub record Marked (p : Option Asked) (g : ℕ → Connection) (n : Diary) : Type 0 where
   pub told : (d : ℕ) → Told (g d).host (n.hand d)
   -- the unanswered command is the last that was taken
   pub latest : Named p n.gid n.oid

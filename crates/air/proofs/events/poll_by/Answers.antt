@@ -14,14 +14,14 @@ pub returns-in-W4AllDiscoveries : goal.returns-in-W4AllDiscoveries
 unfolding poll_by
 returns-in-W4AllDiscoveries c = rw c.in-W4AllDiscoveries.is
 
-pub returns-in-Nothing : goal.returns-in-Nothing
+pub returns-in-None : goal.returns-in-None
 unfolding poll_by
-returns-in-Nothing c = rw (c.in-W4HostSelect.is, c.in-Nothing.is)
+returns-in-None c = rw (c.in-W4HostSelect.is, c.in-None.is)
 
-pub returns-in-Chosen : goal.returns-in-Chosen
+pub returns-in-Some : goal.returns-in-Some
 unfolding poll_by
-returns-in-Chosen c =
-    rw (c.in-W4HostSelect.is, c.in-Chosen.is, c.taken.ensures, c.same_pair.ensures, c.pair_of-p.ensures)
+returns-in-Some c =
+    rw (c.in-W4HostSelect.is, c.in-Some.is, c.taken.ensures, c.same_pair.ensures, c.pair_of-p.ensures)
 
 pub returns-in-PollActive : goal.returns-in-PollActive
 unfolding poll_by

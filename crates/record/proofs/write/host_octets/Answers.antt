@@ -2,10 +2,10 @@
 use Rattle.record.specs.Writing.{host_octets, pending_octets}
 use Rattle.record.proofs.write.host_octets.Goals as goal
 
-pub returns-in-Nothing : goal.returns-in-Nothing
+pub returns-in-None : goal.returns-in-None
 unfolding host_octets pending_octets
-returns-in-Nothing c = rw c.in-Nothing.is
+returns-in-None c = rw c.in-None.is
 
-pub returns-in-Command : goal.returns-in-Command
+pub returns-in-Some : goal.returns-in-Some
 unfolding host_octets pending_octets
-returns-in-Command c = rw c.in-Command.is
+returns-in-Some c = rw c.in-Some.is

@@ -14,13 +14,13 @@ pub returns-in-W4AllDiscoveries : goal.returns-in-W4AllDiscoveries
 unfolding rf_octets
 returns-in-W4AllDiscoveries c = rw c.in-W4AllDiscoveries.is
 
-pub returns-in-Nothing : goal.returns-in-Nothing
+pub returns-in-None : goal.returns-in-None
 unfolding rf_octets
-returns-in-Nothing c = rw (c.in-W4HostSelect.is, c.in-Nothing.is)
+returns-in-None c = rw (c.in-W4HostSelect.is, c.in-None.is)
 
-pub returns-in-Chosen : goal.returns-in-Chosen
+pub returns-in-Some : goal.returns-in-Some
 unfolding rf_octets
-returns-in-Chosen c = rw (c.in-W4HostSelect.is, c.in-Chosen.is)
+returns-in-Some c = rw (c.in-W4HostSelect.is, c.in-Some.is)
 
 pub returns-in-PollActive : goal.returns-in-PollActive
 unfolding rf_octets
