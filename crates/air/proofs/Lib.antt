@@ -1,3 +1,4 @@
+pub mod Picked
 pub mod Room
 pub mod Taken
 pub mod Spoken

@@ -1,5 +1,6 @@
 -- Laws of the events of the air: the notification of an event that was read is within the longest control message, whatever the octets were.
 -- Assumes nothing.
+use Rattle.std.specs.Prelude.{Option, Some, None}
 use Prim.Native.Nat.{ℕ, ◌≤◌}
 use mathlib.Core.Path.{◌≡◌, sym, subst}
 use mathlib.Core.Bool.{Bool, true, false}
@@ -10,7 +11,7 @@ use lib.Dec.{eqb, leb}
 use borrow.Author.Tests.{leb-true}
 use Rattle.octets.specs.Octets.{Octets, pick}
 use Rattle.air.specs.Kinds.{Profile, Event}
-use Rattle.air.specs.Kinds.event.{Bad, Found, Poll, Listen, Failed, Sleeps, LinkLost, Releases, Endpoint}
+use Rattle.air.specs.Kinds.event.{Found, Poll, Listen, Failed, Sleeps, LinkLost, Releases, Endpoint}
 use Rattle.state.specs.Runs.{control_limit}
 use Rattle.state.specs.Radio.{polls, listens, id_ok}
 use Rattle.air.specs.Air.{target_of, found_in, poll_in, listen_in, event_of, air_message}
@@ -19,14 +20,14 @@ use Rattle.state.proofs.Chains.{every_at, pick_by}
 -- ---- the notification of an event that was read
 
 -- it fits a packet
-record Short (p : Profile) (m : Octets) (e : Event) : Type 0 where
+record Short (p : Profile) (m : Octets) (e : Option Event) : Type 0 where
   short : length (air_message p e m).payload ≤ control_limit
 
 module _ (p : Profile) (m : Octets) where
   found_short : Short p m (found_in m)
   unfolding found_in air_message
   found_short =
-      pick_by (Short p m) _ (Found (target_of m) (get_or m 4 0)) Bad
+      pick_by (Short p m) _ (Some (Found (target_of m) (get_or m 4 0))) None
       (λ h.
       let n : length m ≤ 37 =
       leb-true (length m) 37
@@ -37,7 +38,7 @@ module _ (p : Profile) (m : Octets) where
   poll_short : Short p m (poll_in m)
   unfolding poll_in air_message
   poll_short =
-      pick_by (Short p m) _ (Poll (target_of m)) Bad
+      pick_by (Short p m) _ (Some (Poll (target_of m))) None
       (λ h.
       let n : length m ≤ 36 =
       leb-true (length m) 36
@@ -48,7 +49,7 @@ module _ (p : Profile) (m : Octets) where
   listen_short : Short p m (listen_in m)
   unfolding listen_in air_message
   listen_short =
-      pick_by (Short p m) _ (Listen (target_of m)) Bad
+      pick_by (Short p m) _ (Some (Listen (target_of m))) None
       (λ h.
       let n : length m ≤ 36 =
       leb-true (length m) 36
@@ -56,7 +57,7 @@ module _ (p : Profile) (m : Octets) where
       record { short = simp (length-append, length-drop) (omega arith) })
       (omega arith)
 
-  or : (b : Bool) {x y : Event} → Short p m x → Short p m y → Short p m (pick b x y)
+  or : (b : Bool) {x y : Option Event} → Short p m x → Short p m y → Short p m (pick b x y)
   or true h k = h
   or false h k = k
 
@@ -65,12 +66,12 @@ module _ (p : Profile) (m : Octets) where
   short =
       let kind : ℕ → Bool = λ k. eqb (get_or m 0 0) k in
       let alone : Bool = eqb (length m) 1 in
-      let bad : Short p m Bad = omega arith in
-      let failed : Short p m Failed = omega arith in
-      let sleeps : Short p m Sleeps = omega arith in
-      let lost : Short p m LinkLost = omega arith in
-      let releases : Short p m Releases = omega arith in
-      let endpoint : Short p m Endpoint = omega arith in
+      let bad : Short p m None = omega arith in
+      let failed : Short p m (Some Failed) = omega arith in
+      let sleeps : Short p m (Some Sleeps) = omega arith in
+      let lost : Short p m (Some LinkLost) = omega arith in
+      let releases : Short p m (Some Releases) = omega arith in
+      let endpoint : Short p m (Some Endpoint) = omega arith in
       or (kind 1) found_short
       (or (kind 2) poll_short
       (or (kind 3) listen_short
@@ -84,5 +85,5 @@ module _ (p : Profile) (m : Octets) where
   message_short = short.short
 
 -- what a caller of `air_message` shows of an event that it has read
-pub event_room : (p : Profile) (m : Octets) (e : Event) → e ≡ event_of m → length (air_message p e m).payload ≤ control_limit
-event_room p m e q = subst (λ (x : Event). length (air_message p x m).payload ≤ control_limit) (sym q) (message_short p m)
+pub event_room : (p : Profile) (m : Octets) (e : Option Event) → e ≡ event_of m → length (air_message p e m).payload ≤ control_limit
+event_room p m e q = subst (λ (x : Option Event). length (air_message p x m).payload ≤ control_limit) (sym q) (message_short p m)

@@ -1,5 +1,6 @@
 -- Octets stay octets: what an event of the air names, and the controller's numbers after it.
 -- Assumes nothing.
+use Rattle.std.specs.Prelude.{Option, Some, None}
 use Prim.Native.Nat.{ℕ}
 use mathlib.Core.Bool.{◌&&◌, ◌||◌}
 use lib.ListN.{length, get_or}
@@ -10,7 +11,7 @@ use Rattle.octets.specs.Octal.{Octal}
 use Rattle.octets.proofs.Octal.{octal_at}
 use Rattle.air.specs.Kinds.{Controller, Pairs, Activation, Rf, Event, Listing, Aired}
 use Rattle.air.specs.Kinds.rf.{Idle, Discovery, W4AllDiscoveries, W4HostSelect, PollActive, ListenActive, ListenSleep}
-use Rattle.air.specs.Kinds.event.{Bad, Found, Poll, Listen, Failed, Sleeps, LinkLost, Releases, Endpoint}
+use Rattle.air.specs.Kinds.event.{Found, Poll, Listen, Failed, Sleeps, LinkLost, Releases, Endpoint}
 use Rattle.air.specs.Kinds.listing.{Keeps, Starts, Adds}
 use Rattle.air.specs.Kinds.aired.{Refused, Goes, Activates, Ends, Speaks}
 use Rattle.state.specs.Radio.{is_listening, is_asleep, is_active, polls, listens, id_ok, pair_of, same_pair, no_pairs, added_to}
@@ -18,16 +19,16 @@ use Rattle.state.proofs.Chains.{on}
 use Rattle.state.proofs.Small.{PairSmall, TargetSmall, RfSmall, PairsSmall, RadioSmall, nones_small, set_small}
 use Rattle.air.specs.Air.{target_of, found_in, poll_in, listen_in, event_of, no_room, found_to, found_by, poll_by, listen_by, failed_by, aired_by, listed_after, controller_aired}
 
-abbrev pub EventSmall : Event → Type 0
-EventSmall Bad = Unit {0}
-EventSmall (Found a type) = TargetSmall a
-EventSmall (Poll a) = TargetSmall a
-EventSmall (Listen a) = TargetSmall a
-EventSmall Failed = Unit {0}
-EventSmall Sleeps = Unit {0}
-EventSmall LinkLost = Unit {0}
-EventSmall Releases = Unit {0}
-EventSmall Endpoint = Unit {0}
+abbrev pub EventSmall : Option Event → Type 0
+EventSmall None = Unit {0}
+EventSmall (Some (Found a type)) = TargetSmall a
+EventSmall (Some (Poll a)) = TargetSmall a
+EventSmall (Some (Listen a)) = TargetSmall a
+EventSmall (Some Failed) = Unit {0}
+EventSmall (Some Sleeps) = Unit {0}
+EventSmall (Some LinkLost) = Unit {0}
+EventSmall (Some Releases) = Unit {0}
+EventSmall (Some Endpoint) = Unit {0}
 
 abbrev ListingSmall : Listing → Type 0
 ListingSmall Keeps = Unit {0}
@@ -115,17 +116,17 @@ failed_small (PollActive b) = tt
 failed_small (ListenActive b) = tt
 failed_small ListenSleep = tt
 
-pub by_small : (rf : Rf) (ps : Pairs) (e : Event) → EventSmall e → AiredSmall (aired_by rf ps e)
+pub by_small : (rf : Rf) (ps : Pairs) (e : Option Event) → EventSmall e → AiredSmall (aired_by rf ps e)
 unfolding aired_by
-by_small rf ps Bad s = tt
-by_small rf ps (Found a type) s = found_small a s rf ps type
-by_small rf ps (Poll a) s = poll_small a s rf
-by_small rf ps (Listen a) s = listen_small a s rf
-by_small rf ps Failed s = failed_small rf
-by_small rf ps Sleeps s = on AiredSmall (is_listening rf) (λ e. tt) (λ e. tt)
-by_small rf ps LinkLost s = on AiredSmall (is_listening rf || is_asleep rf) (λ e. tt) (λ e. tt)
-by_small rf ps Releases s = on AiredSmall (is_listening rf) (λ e. tt) (λ e. tt)
-by_small rf ps Endpoint s = on AiredSmall (is_active rf) (λ e. tt) (λ e. tt)
+by_small rf ps None s = tt
+by_small rf ps (Some (Found a type)) s = found_small a s rf ps type
+by_small rf ps (Some (Poll a)) s = poll_small a s rf
+by_small rf ps (Some (Listen a)) s = listen_small a s rf
+by_small rf ps (Some Failed) s = failed_small rf
+by_small rf ps (Some Sleeps) s = on AiredSmall (is_listening rf) (λ e. tt) (λ e. tt)
+by_small rf ps (Some LinkLost) s = on AiredSmall (is_listening rf || is_asleep rf) (λ e. tt) (λ e. tt)
+by_small rf ps (Some Releases) s = on AiredSmall (is_listening rf) (λ e. tt) (λ e. tt)
+by_small rf ps (Some Endpoint) s = on AiredSmall (is_active rf) (λ e. tt) (λ e. tt)
 
 -- ---- the controller's numbers after it
 

@@ -1,5 +1,6 @@
 -- What an event of the air carries is octets where its own octets are, and so is its notification.
 -- Assumes nothing.
+use Rattle.std.specs.Prelude.{Option, Some, None}
 use Prim.Native.Nat.{ℕ, ◌≤◌}
 use native.Mathlib.Omega.{arith}
 use mathlib.Core.Bool.{◌&&◌, ◌||◌}
@@ -12,7 +13,7 @@ use Rattle.octets.specs.Octal.{Octal, octal_nil, octal_cons}
 use Rattle.octets.proofs.Octal.{octal_at, octal_append, octal_drop}
 use Rattle.air.specs.Kinds.{Profile, Pairs, Activation, Rf, Event, Listing, Aired}
 use Rattle.air.specs.Kinds.rf.{Idle, Discovery, W4AllDiscoveries, W4HostSelect, PollActive, ListenActive, ListenSleep}
-use Rattle.air.specs.Kinds.event.{Bad, Found, Poll, Listen, Failed, Sleeps, LinkLost, Releases, Endpoint}
+use Rattle.air.specs.Kinds.event.{Found, Poll, Listen, Failed, Sleeps, LinkLost, Releases, Endpoint}
 use Rattle.air.specs.Kinds.listing.{Keeps, Starts, Adds}
 use Rattle.air.specs.Kinds.aired.{Refused, Goes, Activates, Ends, Speaks}
 use Rattle.state.specs.Conn.{terms_of}
@@ -25,16 +26,16 @@ use Rattle.air.proofs.Taken.{Within, event_within}
 
 -- ---- an event
 
-abbrev pub SmallEvent : Event → Type 0
-SmallEvent Bad = Unit {0}
-SmallEvent (Found a type) = SmallTarget a × (type ≤ 255)
-SmallEvent (Poll a) = SmallTarget a
-SmallEvent (Listen a) = SmallTarget a
-SmallEvent Failed = Unit {0}
-SmallEvent Sleeps = Unit {0}
-SmallEvent LinkLost = Unit {0}
-SmallEvent Releases = Unit {0}
-SmallEvent Endpoint = Unit {0}
+abbrev pub SmallEvent : Option Event → Type 0
+SmallEvent None = Unit {0}
+SmallEvent (Some (Found a type)) = SmallTarget a × (type ≤ 255)
+SmallEvent (Some (Poll a)) = SmallTarget a
+SmallEvent (Some (Listen a)) = SmallTarget a
+SmallEvent (Some Failed) = Unit {0}
+SmallEvent (Some Sleeps) = Unit {0}
+SmallEvent (Some LinkLost) = Unit {0}
+SmallEvent (Some Releases) = Unit {0}
+SmallEvent (Some Endpoint) = Unit {0}
 
 module _ (m : Octets) (o : Octal m) where
   target_small : SmallTarget (target_of m)
@@ -113,17 +114,17 @@ failed_small (PollActive b) = tt
 failed_small (ListenActive b) = tt
 failed_small ListenSleep = tt
 
-pub aired_small : (rf : Rf) (ps : Pairs) (e : Event) → SmallEvent e → SmallAired (aired_by rf ps e)
+pub aired_small : (rf : Rf) (ps : Pairs) (e : Option Event) → SmallEvent e → SmallAired (aired_by rf ps e)
 unfolding aired_by
-aired_small rf ps Bad s = tt
-aired_small rf ps (Found a type) s = found_small rf ps a type s.0
-aired_small rf ps (Poll a) s = poll_small rf a s
-aired_small rf ps (Listen a) s = listen_small rf a s
-aired_small rf ps Failed s = failed_small rf
-aired_small rf ps Sleeps s = on SmallAired (is_listening rf) (λ _. tt) (λ _. tt)
-aired_small rf ps LinkLost s = on SmallAired (is_listening rf || is_asleep rf) (λ _. tt) (λ _. tt)
-aired_small rf ps Releases s = on SmallAired (is_listening rf) (λ _. tt) (λ _. tt)
-aired_small rf ps Endpoint s = on SmallAired (is_active rf) (λ _. tt) (λ _. tt)
+aired_small rf ps None s = tt
+aired_small rf ps (Some (Found a type)) s = found_small rf ps a type s.0
+aired_small rf ps (Some (Poll a)) s = poll_small rf a s
+aired_small rf ps (Some (Listen a)) s = listen_small rf a s
+aired_small rf ps (Some Failed) s = failed_small rf
+aired_small rf ps (Some Sleeps) s = on SmallAired (is_listening rf) (λ _. tt) (λ _. tt)
+aired_small rf ps (Some LinkLost) s = on SmallAired (is_listening rf || is_asleep rf) (λ _. tt) (λ _. tt)
+aired_small rf ps (Some Releases) s = on SmallAired (is_listening rf) (λ _. tt) (λ _. tt)
+aired_small rf ps (Some Endpoint) s = on SmallAired (is_active rf) (λ _. tt) (λ _. tt)
 
 -- ---- its notification
 
@@ -131,7 +132,7 @@ module _ (p : Profile) (m : Octets) (o : Octal m) (t : SmallTerms (terms_of p 0)
   zeros : Octal (0 ∷ 0 ∷ 0 ∷ [])
   zeros = octal_cons {x = 0} (omega arith) (octal_cons {x = 0} (omega arith) (octal_cons {x = 0} (omega arith) octal_nil))
 
-  activated_octal : (a : Activation) → SmallTarget a → length (drop 4 m) ≤ 32 → Octal (air_message p (Poll a) m).payload
+  activated_octal : (a : Activation) → SmallTarget a → length (drop 4 m) ≤ 32 → Octal (air_message p (Some (Poll a)) m).payload
   unfolding air_message
   activated_octal a s n =
       octal_cons s.id
@@ -146,20 +147,20 @@ module _ (p : Profile) (m : Octets) (o : Octal m) (t : SmallTerms (terms_of p 0)
   pair_octal : (x y : ℕ) → x ≤ 3 → y ≤ 3 → Octal (x ∷ y ∷ [])
   pair_octal x y h k = octal_cons {x = x} (omega arith) (octal_cons {x = y} (omega arith) octal_nil)
 
-  message_octal : (e : Event) → Within m e → SmallEvent e → Octal (air_message p e m).payload
+  message_octal : (e : Option Event) → Within m e → SmallEvent e → Octal (air_message p e m).payload
   unfolding air_message
-  message_octal Bad w s = octal_nil
-  message_octal (Found a type) w s =
+  message_octal None w s = octal_nil
+  message_octal (Some (Found a type)) w s =
       octal_cons s.0.id
       (octal_cons s.0.protocol
       (octal_cons s.0.mode (octal_cons {x = length (drop 5 m)} (omega (arith, w.4)) (octal_append (octal_drop 5 o) (octal_cons s.1 octal_nil)))))
-  message_octal (Poll a) w s = activated_octal a s w.3
-  message_octal (Listen a) w s = activated_octal a s w.3
-  message_octal Failed w s = octal_cons {x = 0xA1} (omega arith) octal_nil
-  message_octal Sleeps w s = pair_octal 1 1 (omega arith) (omega arith)
-  message_octal LinkLost w s = pair_octal 3 2 (omega arith) (omega arith)
-  message_octal Releases w s = pair_octal 3 1 (omega arith) (omega arith)
-  message_octal Endpoint w s = octal_nil
+  message_octal (Some (Poll a)) w s = activated_octal a s w.3
+  message_octal (Some (Listen a)) w s = activated_octal a s w.3
+  message_octal (Some Failed) w s = octal_cons {x = 0xA1} (omega arith) octal_nil
+  message_octal (Some Sleeps) w s = pair_octal 1 1 (omega arith) (omega arith)
+  message_octal (Some LinkLost) w s = pair_octal 3 2 (omega arith) (omega arith)
+  message_octal (Some Releases) w s = pair_octal 3 1 (omega arith) (omega arith)
+  message_octal (Some Endpoint) w s = octal_nil
 
   pub event_octal : Octal (air_message p (event_of m) m).payload
   event_octal = message_octal (event_of m) (event_within m) (event_small m o)

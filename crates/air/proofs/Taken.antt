@@ -1,5 +1,6 @@
 -- What an event of the air is when it was read and when it is taken, and that the controller's numbers after it are within limits.
 -- Assumes nothing.
+use Rattle.std.specs.Prelude.{Option, Some, None}
 use Prim.Native.Nat.{ℕ, ◌≤◌}
 use native.Mathlib.Omega.{arith}
 use mathlib.Core.Path.{◌≡◌, refl, ◌∙◌}
@@ -12,7 +13,7 @@ use Rattle.std.specs.Prelude.{Some, None}
 use Rattle.octets.specs.Octets.{Octets}
 use Rattle.air.specs.Kinds.{Controller, Pairs, Activation, Rf, Event, Listing, Aired}
 use Rattle.air.specs.Kinds.rf.{Idle, Discovery, W4AllDiscoveries, W4HostSelect, PollActive, ListenActive, ListenSleep}
-use Rattle.air.specs.Kinds.event.{Bad, Found, Poll, Listen, Failed, Sleeps, LinkLost, Releases, Endpoint}
+use Rattle.air.specs.Kinds.event.{Found, Poll, Listen, Failed, Sleeps, LinkLost, Releases, Endpoint}
 use Rattle.air.specs.Kinds.listing.{Keeps, Starts, Adds}
 use Rattle.air.specs.Kinds.aired.{Refused, Goes, Activates, Ends, Speaks}
 use Rattle.state.specs.Radio.{is_active, is_listening, is_asleep, polls, listens, id_ok, pair_of, same_pair, added_to}
@@ -23,17 +24,17 @@ use Rattle.air.specs.Air.{found_in, poll_in, listen_in, event_of, no_room, found
 -- ---- an event of the air that was read is within its limits
 
 -- only one of kind 8 is a message, of up to 1,024 octets
-abbrev pub Within : Octets → Event → Type 0
-Within m Bad = Unit {0}
-Within m (Found a type) =
+abbrev pub Within : Octets → Option Event → Type 0
+Within m None = Unit {0}
+Within m (Some (Found a type)) =
     (eqb (get_or m 0 0) 8 ≡ false) × (id_ok a.id ≡ true) × (polls a.mode ≡ true) × (type ≤ 2) × (length (drop 5 m) ≤ 32)
-Within m (Poll a) = (eqb (get_or m 0 0) 8 ≡ false) × (id_ok a.id ≡ true) × (polls a.mode ≡ true) × (length (drop 4 m) ≤ 32)
-Within m (Listen a) = (eqb (get_or m 0 0) 8 ≡ false) × (id_ok a.id ≡ true) × (listens a.mode ≡ true) × (length (drop 4 m) ≤ 32)
-Within m Failed = eqb (get_or m 0 0) 8 ≡ false
-Within m Sleeps = eqb (get_or m 0 0) 8 ≡ false
-Within m LinkLost = eqb (get_or m 0 0) 8 ≡ false
-Within m Releases = eqb (get_or m 0 0) 8 ≡ false
-Within m Endpoint = (eqb (get_or m 0 0) 8 ≡ true) × (length (drop 1 m) ≤ 1024)
+Within m (Some (Poll a)) = (eqb (get_or m 0 0) 8 ≡ false) × (id_ok a.id ≡ true) × (polls a.mode ≡ true) × (length (drop 4 m) ≤ 32)
+Within m (Some (Listen a)) = (eqb (get_or m 0 0) 8 ≡ false) × (id_ok a.id ≡ true) × (listens a.mode ≡ true) × (length (drop 4 m) ≤ 32)
+Within m (Some Failed) = eqb (get_or m 0 0) 8 ≡ false
+Within m (Some Sleeps) = eqb (get_or m 0 0) 8 ≡ false
+Within m (Some LinkLost) = eqb (get_or m 0 0) 8 ≡ false
+Within m (Some Releases) = eqb (get_or m 0 0) 8 ≡ false
+Within m (Some Endpoint) = (eqb (get_or m 0 0) 8 ≡ true) × (length (drop 1 m) ≤ 1024)
 
 module _ (m : Octets) where
   found_within : eqb (get_or m 0 0) 8 ≡ false → Within m (found_in m)
@@ -138,17 +139,17 @@ AirLegal rf (Activates next l) = (is_active rf ≡ false) × (is_active next ≡
 AirLegal rf (Ends next) = is_active next ≡ false
 AirLegal rf Speaks = is_active rf ≡ true
 
-pub aired_legal : (rf : Rf) (ps : Pairs) (e : Event) → AirLegal rf (aired_by rf ps e)
+pub aired_legal : (rf : Rf) (ps : Pairs) (e : Option Event) → AirLegal rf (aired_by rf ps e)
 unfolding aired_by
-aired_legal rf ps Bad = tt
-aired_legal rf ps (Found a type) = found_by_law (AirLegal rf) tt rf ps a type (λ h next l k. (h, k))
-aired_legal rf ps (Poll a) = poll_by_law (AirLegal rf) tt rf a (λ h l. (h, refl))
-aired_legal rf ps (Listen a) = listen_by_law (AirLegal rf) tt rf a (λ h l. (h, refl))
-aired_legal rf ps Failed = failed_by_law (AirLegal rf) tt rf (λ h next l k. (h, k))
-aired_legal rf ps Sleeps = on (AirLegal rf) (is_listening rf) (λ e. refl) (λ e. tt)
-aired_legal rf ps LinkLost = on (AirLegal rf) (is_listening rf || is_asleep rf) (λ e. refl) (λ e. tt)
-aired_legal rf ps Releases = on (AirLegal rf) (is_listening rf) (λ e. refl) (λ e. tt)
-aired_legal rf ps Endpoint = on (AirLegal rf) (is_active rf) (λ e. e) (λ e. tt)
+aired_legal rf ps None = tt
+aired_legal rf ps (Some (Found a type)) = found_by_law (AirLegal rf) tt rf ps a type (λ h next l k. (h, k))
+aired_legal rf ps (Some (Poll a)) = poll_by_law (AirLegal rf) tt rf a (λ h l. (h, refl))
+aired_legal rf ps (Some (Listen a)) = listen_by_law (AirLegal rf) tt rf a (λ h l. (h, refl))
+aired_legal rf ps (Some Failed) = failed_by_law (AirLegal rf) tt rf (λ h next l k. (h, k))
+aired_legal rf ps (Some Sleeps) = on (AirLegal rf) (is_listening rf) (λ e. refl) (λ e. tt)
+aired_legal rf ps (Some LinkLost) = on (AirLegal rf) (is_listening rf || is_asleep rf) (λ e. refl) (λ e. tt)
+aired_legal rf ps (Some Releases) = on (AirLegal rf) (is_listening rf) (λ e. refl) (λ e. tt)
+aired_legal rf ps (Some Endpoint) = on (AirLegal rf) (is_active rf) (λ e. e) (λ e. tt)
 
 -- ---- the controller's numbers after an event
 

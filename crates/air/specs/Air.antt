@@ -1,46 +1,46 @@
 -- The air (document 01, "The air"; 003, 5.2): the octets of an event, whether it is taken, its notification and the state after.
 -- Assumes nothing.
-use Rattle.std.specs.Prelude.{ℕ, Bool, true, false, ◌&&◌, ◌||◌, List, length, get_or, drop, eqb, leb, Some, None}
+use Rattle.std.specs.Prelude.{ℕ, Bool, true, false, ◌&&◌, ◌||◌, List, length, get_or, drop, eqb, leb, Some, None, Option}
 use Rattle.octets.specs.Octets.{Octets, pick}
 use Rattle.state.specs.Names.{gid_core, gid_rf, oid_generic_error, oid_discover, oid_activated, oid_deactivate, more_follow, to_sleep, to_discovery, endpoint_request, link_loss}
 use Rattle.air.specs.Kinds.{Hand, Profile, Pair, Pairs, Activation, Rf, Controller, Counts, Event, Listing, Aired}
 use Rattle.air.specs.Kinds.rf.{Idle, Discovery, W4AllDiscoveries, W4HostSelect, PollActive, ListenActive, ListenSleep}
-use Rattle.air.specs.Kinds.event.{Bad, Found, Poll, Listen, Failed, Sleeps, LinkLost, Releases, Endpoint}
+use Rattle.air.specs.Kinds.event.{Found, Poll, Listen, Failed, Sleeps, LinkLost, Releases, Endpoint}
 use Rattle.air.specs.Kinds.listing.{Keeps, Starts, Adds}
 use Rattle.air.specs.Kinds.aired.{Refused, Goes, Activates, Ends, Speaks}
 use Rattle.state.specs.Conn.{terms_of, controller_opened_at, controller_closed_at, empty, hand_with}
 use Rattle.state.specs.Radio.{is_listening, is_asleep, is_active, polls, listens, id_ok, pair_of, same_pair, listed, started_with, added_to}
 use Rattle.messages.specs.Layout.{Message, nothing, generic_error_ntf, discover_ntf, activated_ntf, deactivate_ntf}
 
--- ---- the octets of an event, kind first; what is outside its limits is `Bad` (refusal 3)
+-- ---- the octets of an event, kind first; what is outside its limits is none (refusal 3)
 
 -- ID, protocol and mode
 abbrev pub target_of : Octets → Activation
 target_of m = record { id = get_or m 1 0; protocol = get_or m 2 0; mode = get_or m 3 0 }
 
 -- 1: ID, protocol, mode, type, up to 32 parameter octets
-unfoldable pub found_in : Octets → Event
+unfoldable pub found_in : Octets → Option Event
 found_in m =
     pick (leb 5 (length m) && leb (length m) 37 && id_ok (get_or m 1 0) && polls (get_or m 3 0) && leb (get_or m 4 0) more_follow)
-    (Found (target_of m) (get_or m 4 0)) Bad
+    (Some (Found (target_of m) (get_or m 4 0))) None
 
 -- 2: ID, protocol, mode, parameters
-unfoldable pub poll_in : Octets → Event
-poll_in m = pick (leb 4 (length m) && leb (length m) 36 && id_ok (get_or m 1 0) && polls (get_or m 3 0)) (Poll (target_of m)) Bad
+unfoldable pub poll_in : Octets → Option Event
+poll_in m = pick (leb 4 (length m) && leb (length m) 36 && id_ok (get_or m 1 0) && polls (get_or m 3 0)) (Some (Poll (target_of m))) None
 
 -- 3: the same with a listening mode
-unfoldable pub listen_in : Octets → Event
-listen_in m = pick (leb 4 (length m) && leb (length m) 36 && id_ok (get_or m 1 0) && listens (get_or m 3 0)) (Listen (target_of m)) Bad
+unfoldable pub listen_in : Octets → Option Event
+listen_in m = pick (leb 4 (length m) && leb (length m) 36 && id_ok (get_or m 1 0) && listens (get_or m 3 0)) (Some (Listen (target_of m))) None
 
 -- 4 to 7: the kind alone
-abbrev pub alone : Octets → Event → Event
-alone m e = pick (eqb (length m) 1) e Bad
+abbrev pub alone : Octets → Event → Option Event
+alone m e = pick (eqb (length m) 1) (Some e) None
 
 -- 8: a message of up to 1,024 octets
-abbrev pub spoken_in : Octets → Event
-spoken_in m = pick (leb (length m) 1025) Endpoint Bad
+abbrev pub spoken_in : Octets → Option Event
+spoken_in m = pick (leb (length m) 1025) (Some Endpoint) None
 
-unfoldable pub event_of : Octets → Event
+unfoldable pub event_of : Octets → Option Event
 event_of m =
     pick (eqb (get_or m 0 0) 1) (found_in m)
     (pick (eqb (get_or m 0 0) 2) (poll_in m)
@@ -49,19 +49,19 @@ event_of m =
     (pick (eqb (get_or m 0 0) 5) (alone m Sleeps)
     (pick (eqb (get_or m 0 0) 6) (alone m LinkLost)
     (pick (eqb (get_or m 0 0) 7) (alone m Releases)
-    (pick (eqb (get_or m 0 0) 8) (spoken_in m) Bad)))))))
+    (pick (eqb (get_or m 0 0) 8) (spoken_in m) None)))))))
 
 -- the kind of an event, 1 to 8; 0 for octets that are none
-abbrev pub kind_of : Event → ℕ
-kind_of Bad = 0
-kind_of (Found a type) = 1
-kind_of (Poll a) = 2
-kind_of (Listen a) = 3
-kind_of Failed = 4
-kind_of Sleeps = 5
-kind_of LinkLost = 6
-kind_of Releases = 7
-kind_of Endpoint = 8
+abbrev pub kind_of : Option Event → ℕ
+kind_of None = 0
+kind_of (Some (Found a type)) = 1
+kind_of (Some (Poll a)) = 2
+kind_of (Some (Listen a)) = 3
+kind_of (Some Failed) = 4
+kind_of (Some Sleeps) = 5
+kind_of (Some LinkLost) = 6
+kind_of (Some Releases) = 7
+kind_of (Some Endpoint) = 8
 
 -- ---- whether the state takes it (else refusal 11), and what it then does
 
@@ -113,16 +113,16 @@ failed_by (PollActive b) = Refused
 failed_by (ListenActive b) = Refused
 failed_by ListenSleep = Refused
 
-unfoldable pub aired_by : Rf → Pairs → Event → Aired
-aired_by rf ps Bad = Refused
-aired_by rf ps (Found a type) = found_by rf ps a type
-aired_by rf ps (Poll a) = poll_by rf a
-aired_by rf ps (Listen a) = listen_by rf a
-aired_by rf ps Failed = failed_by rf
-aired_by rf ps Sleeps = pick (is_listening rf) (Ends ListenSleep) Refused
-aired_by rf ps LinkLost = pick (is_listening rf || is_asleep rf) (Ends Discovery) Refused
-aired_by rf ps Releases = pick (is_listening rf) (Ends Discovery) Refused
-aired_by rf ps Endpoint = pick (is_active rf) Speaks Refused
+unfoldable pub aired_by : Rf → Pairs → Option Event → Aired
+aired_by rf ps None = Refused
+aired_by rf ps (Some (Found a type)) = found_by rf ps a type
+aired_by rf ps (Some (Poll a)) = poll_by rf a
+aired_by rf ps (Some (Listen a)) = listen_by rf a
+aired_by rf ps (Some Failed) = failed_by rf
+aired_by rf ps (Some Sleeps) = pick (is_listening rf) (Ends ListenSleep) Refused
+aired_by rf ps (Some LinkLost) = pick (is_listening rf || is_asleep rf) (Ends Discovery) Refused
+aired_by rf ps (Some Releases) = pick (is_listening rf) (Ends Discovery) Refused
+aired_by rf ps (Some Endpoint) = pick (is_active rf) Speaks Refused
 
 abbrev pub is_refused : Aired → Bool
 is_refused Refused = true
@@ -133,16 +133,16 @@ is_refused Speaks = false
 
 -- ---- the notification
 
-unfoldable pub air_message : Profile → Event → Octets → Message
-air_message p Bad m = nothing
-air_message p (Found a type) m = record { gid = gid_rf; oid = oid_discover; payload = discover_ntf a type (drop 5 m) }
-air_message p (Poll a) m = record { gid = gid_rf; oid = oid_activated; payload = activated_ntf a (terms_of p 0) (drop 4 m) }
-air_message p (Listen a) m = record { gid = gid_rf; oid = oid_activated; payload = activated_ntf a (terms_of p 0) (drop 4 m) }
-air_message p Failed m = record { gid = gid_core; oid = oid_generic_error; payload = generic_error_ntf }
-air_message p Sleeps m = record { gid = gid_rf; oid = oid_deactivate; payload = deactivate_ntf to_sleep endpoint_request }
-air_message p LinkLost m = record { gid = gid_rf; oid = oid_deactivate; payload = deactivate_ntf to_discovery link_loss }
-air_message p Releases m = record { gid = gid_rf; oid = oid_deactivate; payload = deactivate_ntf to_discovery endpoint_request }
-air_message p Endpoint m = nothing
+unfoldable pub air_message : Profile → Option Event → Octets → Message
+air_message p None m = nothing
+air_message p (Some (Found a type)) m = record { gid = gid_rf; oid = oid_discover; payload = discover_ntf a type (drop 5 m) }
+air_message p (Some (Poll a)) m = record { gid = gid_rf; oid = oid_activated; payload = activated_ntf a (terms_of p 0) (drop 4 m) }
+air_message p (Some (Listen a)) m = record { gid = gid_rf; oid = oid_activated; payload = activated_ntf a (terms_of p 0) (drop 4 m) }
+air_message p (Some Failed) m = record { gid = gid_core; oid = oid_generic_error; payload = generic_error_ntf }
+air_message p (Some Sleeps) m = record { gid = gid_rf; oid = oid_deactivate; payload = deactivate_ntf to_sleep endpoint_request }
+air_message p (Some LinkLost) m = record { gid = gid_rf; oid = oid_deactivate; payload = deactivate_ntf to_discovery link_loss }
+air_message p (Some Releases) m = record { gid = gid_rf; oid = oid_deactivate; payload = deactivate_ntf to_discovery endpoint_request }
+air_message p (Some Endpoint) m = nothing
 
 -- ---- the controller after it
 

@@ -18,10 +18,9 @@ use state::radio::{
 };
 use state::runs::CONTROL_LIMIT;
 
-// An event, by its kind. Bad: octets outside the limits of any. Found carries the notification type.
+// An event, by its kind; octets outside the limits of any are none. Found carries the notification type.
 #[derive(Clone, Copy)]
 pub enum Event {
-    Bad,
     Found(Activation, u8),
     Poll(Activation),
     Listen(Activation),
@@ -50,97 +49,84 @@ pub enum Aired {
     Speaks,
 }
 
-// The event where its octets are within their limits.
-fn within(ok: bool, e: Event) -> Event
-    ensures { result ≡ pick ok e Event.Bad }
-{
-    if ok { e } else { Event::Bad }
-}
-
 // ID, protocol and mode.
 fn target_of(m: &[u8]) -> Activation
     ensures { result ≡ target_of m.now }
 {
-    let id = octets::octet_at(m, 1);
-    let protocol = octets::octet_at(m, 2);
-    let mode = octets::octet_at(m, 3);
     Activation {
-        id: id,
-        protocol: protocol,
-        mode: mode,
+        id: octets::octet_at(m, 1),
+        protocol: octets::octet_at(m, 2),
+        mode: octets::octet_at(m, 3),
     }
 }
 
 // Kind 1: ID, protocol, mode, type, and up to 32 parameter octets.
-fn found_in(m: &[u8]) -> Event
+#[tactic(auto, using(crate::proofs::Picked::some_picked), unfolding(crate::specs::Air::found_in))]
+fn found_in(m: &[u8]) -> Option<Event>
     ensures { result ≡ found_in m.now }
 {
     let n = m.len();
     let a = target_of(m);
     let kind = octets::octet_at(m, 4);
-    let named = id_ok(a.id);
-    let polling = polls(a.mode);
-    within(
-        (5 <= n) & (n <= 37) & named & polling & (kind <= names::MORE_FOLLOW),
-        Event::Found(a, kind),
-    )
+    let ok = (5 <= n) & (n <= 37) & id_ok(a.id) & polls(a.mode) & (kind <= names::MORE_FOLLOW);
+    ok.then_some(Event::Found(a, kind))
 }
 
 // Kind 2: ID, protocol, mode, and up to 32 parameter octets.
-fn poll_in(m: &[u8]) -> Event
+#[tactic(auto, using(crate::proofs::Picked::some_picked), unfolding(crate::specs::Air::poll_in))]
+fn poll_in(m: &[u8]) -> Option<Event>
     ensures { result ≡ poll_in m.now }
 {
     let n = m.len();
     let a = target_of(m);
-    let named = id_ok(a.id);
-    let polling = polls(a.mode);
-    within((4 <= n) & (n <= 36) & named & polling, Event::Poll(a))
+    let ok = (4 <= n) & (n <= 36) & id_ok(a.id) & polls(a.mode);
+    ok.then_some(Event::Poll(a))
 }
 
 // Kind 3: the same with a listening mode.
-fn listen_in(m: &[u8]) -> Event
+#[tactic(auto, using(crate::proofs::Picked::some_picked), unfolding(crate::specs::Air::listen_in))]
+fn listen_in(m: &[u8]) -> Option<Event>
     ensures { result ≡ listen_in m.now }
 {
     let n = m.len();
     let a = target_of(m);
-    let named = id_ok(a.id);
-    let listening = listens(a.mode);
-    within((4 <= n) & (n <= 36) & named & listening, Event::Listen(a))
+    let ok = (4 <= n) & (n <= 36) & id_ok(a.id) & listens(a.mode);
+    ok.then_some(Event::Listen(a))
 }
 
 // The event that the octets are, the kind first.
-pub fn event_of(m: &[u8]) -> Event
+#[tactic(auto, using(crate::proofs::Picked::some_picked), unfolding(crate::specs::Air::event_of))]
+pub fn event_of(m: &[u8]) -> Option<Event>
     ensures { result ≡ event_of m.now }
 {
     let n = m.len();
-    let kind = octets::octet_at(m, 0);
-    match kind {
+    match octets::octet_at(m, 0) {
         1 => found_in(m),
         2 => poll_in(m),
         3 => listen_in(m),
-        4 => within(n == 1, Event::Failed),
-        5 => within(n == 1, Event::Sleeps),
-        6 => within(n == 1, Event::LinkLost),
-        7 => within(n == 1, Event::Releases),
-        8 => within(n <= 1025, Event::Endpoint),
-        _ => Event::Bad,
+        4 => (n == 1).then_some(Event::Failed),
+        5 => (n == 1).then_some(Event::Sleeps),
+        6 => (n == 1).then_some(Event::LinkLost),
+        7 => (n == 1).then_some(Event::Releases),
+        8 => (n <= 1025).then_some(Event::Endpoint),
+        _ => None,
     }
 }
 
 // The kind of an event, 1 to 8; 0 for octets that are none.
-pub fn kind_of(e: Event) -> u8
+pub fn kind_of(e: Option<Event>) -> u8
     ensures { result ≡ kind_of e }
 {
     match e {
-        Event::Bad => 0,
-        Event::Found(_, _) => 1,
-        Event::Poll(_) => 2,
-        Event::Listen(_) => 3,
-        Event::Failed => 4,
-        Event::Sleeps => 5,
-        Event::LinkLost => 6,
-        Event::Releases => 7,
-        Event::Endpoint => 8,
+        None => 0,
+        Some(Event::Found(_, _)) => 1,
+        Some(Event::Poll(_)) => 2,
+        Some(Event::Listen(_)) => 3,
+        Some(Event::Failed) => 4,
+        Some(Event::Sleeps) => 5,
+        Some(Event::LinkLost) => 6,
+        Some(Event::Releases) => 7,
+        Some(Event::Endpoint) => 8,
     }
 }
 
@@ -262,19 +248,23 @@ fn failed_by(rf: Rf) -> Aired
 }
 
 // What an event does in an RF state with these pairs found.
-pub fn judge_event(rf: Rf, ps: Pairs, e: Event) -> Aired
+#[tactic(auto, unfolding(crate::specs::Air::aired_by))]
+pub fn judge_event(rf: Rf, ps: Pairs, e: Option<Event>) -> Aired
     ensures { result ≡ aired_by rf ps e }
 {
     match e {
-        Event::Bad => Aired::Refused,
-        Event::Found(a, kind) => found_by(rf, ps, a, kind),
-        Event::Poll(a) => poll_by(rf, a),
-        Event::Listen(a) => listen_by(rf, a),
-        Event::Failed => failed_by(rf),
-        Event::Sleeps => taken(is_listening(rf), Aired::Ends(Rf::ListenSleep)),
-        Event::LinkLost => taken(is_listening(rf) | is_asleep(rf), Aired::Ends(Rf::Discovery)),
-        Event::Releases => taken(is_listening(rf), Aired::Ends(Rf::Discovery)),
-        Event::Endpoint => taken(is_active(rf), Aired::Speaks),
+        None => Aired::Refused,
+        Some(Event::Found(a, kind)) => found_by(rf, ps, a, kind),
+        Some(Event::Poll(a)) => poll_by(rf, a),
+        Some(Event::Listen(a)) => listen_by(rf, a),
+        Some(Event::Failed) => failed_by(rf),
+        Some(Event::Sleeps) => taken(is_listening(rf), Aired::Ends(Rf::ListenSleep)),
+        Some(Event::LinkLost) => taken(
+            is_listening(rf) | is_asleep(rf),
+            Aired::Ends(Rf::Discovery),
+        ),
+        Some(Event::Releases) => taken(is_listening(rf), Aired::Ends(Rf::Discovery)),
+        Some(Event::Endpoint) => taken(is_active(rf), Aired::Speaks),
     }
 }
 
@@ -310,19 +300,20 @@ fn active_message(out: &mut [u8; CONTROL_LIMIT], p: Profile, a: Activation, m: &
 
 // The notification that an event gives, where it gives one. That of an event that was
 // read from m is short enough for the buffer, whatever m is (`event_room`).
-pub fn air_message(out: &mut [u8; CONTROL_LIMIT], p: Profile, e: Event, m: &[u8]) -> Note
+#[tactic(auto, using(messages::proofs::Messages::put_nothing), unfolding(crate::specs::Air::air_message))]
+pub fn air_message(out: &mut [u8; CONTROL_LIMIT], p: Profile, e: Option<Event>, m: &[u8]) -> Note
     requires { length (air_message p e m.now).payload ≤ control_limit }
     ensures { Put out.old (air_message p e m.now) result out.new }
 {
     match e {
-        Event::Bad => no_message(),
-        Event::Found(a, kind) => found_message(out, a, kind, m),
-        Event::Poll(a) => active_message(out, p, a, m),
-        Event::Listen(a) => active_message(out, p, a, m),
-        Event::Failed => generic_error_ntf(out),
-        Event::Sleeps => deactivate_ntf(out, names::TO_SLEEP, names::ENDPOINT_REQUEST),
-        Event::LinkLost => deactivate_ntf(out, names::TO_DISCOVERY, names::LINK_LOSS),
-        Event::Releases => deactivate_ntf(out, names::TO_DISCOVERY, names::ENDPOINT_REQUEST),
-        Event::Endpoint => no_message(),
+        None => no_message(),
+        Some(Event::Found(a, kind)) => found_message(out, a, kind, m),
+        Some(Event::Poll(a)) => active_message(out, p, a, m),
+        Some(Event::Listen(a)) => active_message(out, p, a, m),
+        Some(Event::Failed) => generic_error_ntf(out),
+        Some(Event::Sleeps) => deactivate_ntf(out, names::TO_SLEEP, names::ENDPOINT_REQUEST),
+        Some(Event::LinkLost) => deactivate_ntf(out, names::TO_DISCOVERY, names::LINK_LOSS),
+        Some(Event::Releases) => deactivate_ntf(out, names::TO_DISCOVERY, names::ENDPOINT_REQUEST),
+        Some(Event::Endpoint) => no_message(),
     }
 }

@@ -1,6 +1,7 @@
 -- The laws of `specs/RoundTrips.antt`: octets that were made from fields are taken for written and read back as those fields, and octets that
 -- are taken for written are made from the fields that are read.
 -- Assumes nothing.
+use Rattle.std.specs.Prelude.{Some}
 use Prim.Native.Nat.{ℕ, suc, ◌+◌, ◌≤◌}
 use mathlib.Core.Path.{◌≡◌, refl, sym, ap, ◌∙◌}
 use mathlib.Core.Bool.{true}
@@ -201,19 +202,19 @@ activated_back m h =
 -- ---- the events of the air
 
 pub found_read : (a : Activation) (type : ℕ) (params : Octets) → id_ok a.id ≡ true → polls a.mode ≡ true → type ≤ 2
-    → length params ≤ 32 → event_of (found_octets a type params) ≡ Found a type
+    → length params ≤ 32 → event_of (found_octets a type params) ≡ Some (Found a type)
 unfolding event_of found_in
 found_read a type params named polling kind short =
     rw (le-leb 5 (length (found_octets a type params)) (omega arith), le-leb (length (found_octets a type params)) 37 (omega arith), named, polling, le-leb type 2 kind)
 
 pub poll_read : (a : Activation) (params : Octets) → id_ok a.id ≡ true → polls a.mode ≡ true → length params ≤ 32
-    → event_of (active_octets 2 a params) ≡ Poll a
+    → event_of (active_octets 2 a params) ≡ Some (Poll a)
 unfolding event_of poll_in
 poll_read a params named polling short =
     rw (le-leb 4 (length (active_octets 2 a params)) (omega arith), le-leb (length (active_octets 2 a params)) 36 (omega arith), named, polling)
 
 pub listen_read : (a : Activation) (params : Octets) → id_ok a.id ≡ true → listens a.mode ≡ true → length params ≤ 32
-    → event_of (active_octets 3 a params) ≡ Listen a
+    → event_of (active_octets 3 a params) ≡ Some (Listen a)
 unfolding event_of listen_in
 listen_read a params named listening short =
     rw (le-leb 4 (length (active_octets 3 a params)) (omega arith), le-leb (length (active_octets 3 a params)) 36 (omega arith), named, listening)

@@ -1,7 +1,7 @@
 -- Octets and fields, both ways: what the controller writes is what the host takes for written and reads back, and what the host takes for
 -- written is what its fields make. Every message that the controller sends has its laws here or in Backwards, and so have the air's events.
 -- Assumes nothing.
-use Rattle.std.specs.Prelude.{ℕ, zero, suc, ◌≤◌, ◌<◌, ◌≡◌, true, ◌||◌, List, [], ◌∷◌, ◌++◌, length, get_or}
+use Rattle.std.specs.Prelude.{ℕ, zero, suc, ◌≤◌, ◌<◌, ◌≡◌, true, ◌||◌, List, [], ◌∷◌, ◌++◌, length, get_or, Some}
 use Rattle.octets.specs.Octets.{Octets, pick, cut}
 use Rattle.ends.specs.Kinds.{Terms, Activation, Command}
 use Rattle.ends.specs.Kinds.command as command
@@ -126,8 +126,8 @@ pub record RoundTrips : Type 0 where
   pub deactivate_heard : (type reason : ℕ) → noticed notice.Deactivate (deactivate_ntf type reason) ≡ Deactivated
   -- the events of the air
   pub found_read : (a : Activation) (type : ℕ) (params : Octets) → id_ok a.id ≡ true → polls a.mode ≡ true → type ≤ 2
-      → length params ≤ 32 → event_of (found_octets a type params) ≡ Found a type
+      → length params ≤ 32 → event_of (found_octets a type params) ≡ Some (Found a type)
   pub poll_read : (a : Activation) (params : Octets) → id_ok a.id ≡ true → polls a.mode ≡ true → length params ≤ 32
-      → event_of (active_octets 2 a params) ≡ Poll a
+      → event_of (active_octets 2 a params) ≡ Some (Poll a)
   pub listen_read : (a : Activation) (params : Octets) → id_ok a.id ≡ true → listens a.mode ≡ true → length params ≤ 32
-      → event_of (active_octets 3 a params) ≡ Listen a
+      → event_of (active_octets 3 a params) ≡ Some (Listen a)

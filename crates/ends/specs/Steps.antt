@@ -1,6 +1,6 @@
 -- Both ends' numbers after what one of them takes: a command, a control message, an event of the air.
 -- Assumes nothing.
-use Rattle.std.specs.Prelude.{ℕ, ◌-◌, ◌≡◌, length}
+use Rattle.std.specs.Prelude.{ℕ, ◌-◌, ◌≡◌, length, Option}
 use Rattle.octets.specs.Octets.{Octets}
 use Rattle.ends.specs.Kinds.{Ends, Verdict, Event, Aired, Heard, Decision, Answered, Heeded, Met}
 use Rattle.state.specs.Conn.{open_at, held_open}
@@ -75,7 +75,7 @@ ends_aired e a n =
       conns = conns_aired e.profile e.conns a;
     }
 
-abbrev pub aired_in : Ends → Event → Aired
+abbrev pub aired_in : Ends → Option Event → Aired
 aired_in e x = aired_by e.controller.rf e.controller.pairs x
 
 -- the message is what follows the octet for the kind

@@ -9,7 +9,7 @@ use state::kinds::Ends;
 // The event, what the controller makes of it, and both ends' numbers after it.
 #[derive(Clone, Copy)]
 pub struct Met {
-    pub event: Event,
+    pub event: Option<Event>,
     pub aired: Aired,
     pub next: Ends,
 }

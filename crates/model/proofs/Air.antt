@@ -1,5 +1,6 @@
 -- air keeps the invariant.
 -- Assumes nothing.
+use Rattle.std.specs.Prelude.{Option, Some, None}
 use Prim.Native.Nat.{ℕ, ◌≤◌}
 use native.Mathlib.Omega.{arith}
 use mathlib.Core.Path.{◌≡◌, refl, sym, ap, ◌∙◌, subst}
@@ -11,7 +12,7 @@ use borrow.Author.Tests.{not-false}
 use Rattle.octets.specs.Octets.{Octets, pick}
 use Rattle.packets.specs.Segments.{segments}
 use Rattle.model.specs.Kinds.{Terms, Profile, Pairs, Rf, Controller, Event, Aired}
-use Rattle.model.specs.Kinds.event.{Bad, Found, Poll, Listen, Failed, Sleeps, LinkLost, Releases, Endpoint}
+use Rattle.model.specs.Kinds.event.{Found, Poll, Listen, Failed, Sleeps, LinkLost, Releases, Endpoint}
 use Rattle.model.specs.Kinds.aired.{Refused, Goes, Activates, Ends, Speaks}
 use Rattle.state.specs.Conn.{place_of, terms_of}
 use Rattle.state.specs.Radio.{is_active, is_listening, is_asleep}
@@ -45,87 +46,87 @@ use Rattle.model.proofs.DownAnswer.{notices_replies, notice_sound}
 
 -- ---- the kinds that the rules name
 
-abbrev pub is_bad : Event → Bool
+abbrev pub is_bad : Option Event → Bool
 is_bad e = eqb (kind_of e) 0
 
-abbrev pub notifies : Event → Bool
+abbrev pub notifies : Option Event → Bool
 notifies e = leb 1 (kind_of e) && leb (kind_of e) 7
 
-abbrev pub activates : Event → Bool
+abbrev pub activates : Option Event → Bool
 activates e = eqb (kind_of e) 2 || eqb (kind_of e) 3
 
-abbrev pub is_endpoint : Event → Bool
+abbrev pub is_endpoint : Option Event → Bool
 is_endpoint e = eqb (kind_of e) 8
 
 -- ---- an event and what it does
 
 -- only an activation opens, only kind 8 speaks
-abbrev pub Suits : Event → Aired → Type 0
+abbrev pub Suits : Option Event → Aired → Type 0
 Suits e Refused = Unit {0}
 Suits e (Goes rf l) = is_endpoint e ≡ false
 Suits e (Activates rf l) = (is_endpoint e ≡ false) × (activates e ≡ true)
 Suits e (Ends rf) = is_endpoint e ≡ false
 Suits e Speaks = is_endpoint e ≡ true
 
-pub aired_suits : (rf : Rf) (ps : Pairs) (e : Event) → Suits e (aired_by rf ps e)
+pub aired_suits : (rf : Rf) (ps : Pairs) (e : Option Event) → Suits e (aired_by rf ps e)
 unfolding aired_by
-aired_suits rf ps Bad = tt
-aired_suits rf ps (Found a type) = found_by_law (Suits (Found a type)) tt rf ps a type (λ h next l k. refl)
-aired_suits rf ps (Poll a) = poll_by_law (Suits (Poll a)) tt rf a (λ h l. (refl, refl))
-aired_suits rf ps (Listen a) = listen_by_law (Suits (Listen a)) tt rf a (λ h l. (refl, refl))
-aired_suits rf ps Failed = failed_by_law (Suits Failed) tt rf (λ h next l k. refl)
-aired_suits rf ps Sleeps = on (Suits Sleeps) (is_listening rf) (λ e. refl) (λ e. tt)
-aired_suits rf ps LinkLost = on (Suits LinkLost) (is_listening rf || is_asleep rf) (λ e. refl) (λ e. tt)
-aired_suits rf ps Releases = on (Suits Releases) (is_listening rf) (λ e. refl) (λ e. tt)
-aired_suits rf ps Endpoint = on (Suits Endpoint) (is_active rf) (λ e. refl) (λ e. tt)
+aired_suits rf ps None = tt
+aired_suits rf ps (Some (Found a type)) = found_by_law (Suits (Some (Found a type))) tt rf ps a type (λ h next l k. refl)
+aired_suits rf ps (Some (Poll a)) = poll_by_law (Suits (Some (Poll a))) tt rf a (λ h l. (refl, refl))
+aired_suits rf ps (Some (Listen a)) = listen_by_law (Suits (Some (Listen a))) tt rf a (λ h l. (refl, refl))
+aired_suits rf ps (Some Failed) = failed_by_law (Suits (Some Failed)) tt rf (λ h next l k. refl)
+aired_suits rf ps (Some Sleeps) = on (Suits (Some Sleeps)) (is_listening rf) (λ e. refl) (λ e. tt)
+aired_suits rf ps (Some LinkLost) = on (Suits (Some LinkLost)) (is_listening rf || is_asleep rf) (λ e. refl) (λ e. tt)
+aired_suits rf ps (Some Releases) = on (Suits (Some Releases)) (is_listening rf) (λ e. refl) (λ e. tt)
+aired_suits rf ps (Some Endpoint) = on (Suits (Some Endpoint)) (is_active rf) (λ e. refl) (λ e. tt)
 
 -- the observer tells kind 8 by the first octet
-pub kind_other : (m : Octets) (e : Event) → Within m e → is_bad e ≡ false → is_endpoint e ≡ false → eqb (get_or m 0 0) 8 ≡ false
-kind_other m Bad w b n = clash refl b
-kind_other m (Found a type) w b n = w.0
-kind_other m (Poll a) w b n = w.0
-kind_other m (Listen a) w b n = w.0
-kind_other m Failed w b n = w
-kind_other m Sleeps w b n = w
-kind_other m LinkLost w b n = w
-kind_other m Releases w b n = w
-kind_other m Endpoint w b n = clash refl n
+pub kind_other : (m : Octets) (e : Option Event) → Within m e → is_bad e ≡ false → is_endpoint e ≡ false → eqb (get_or m 0 0) 8 ≡ false
+kind_other m None w b n = clash refl b
+kind_other m (Some (Found a type)) w b n = w.0
+kind_other m (Some (Poll a)) w b n = w.0
+kind_other m (Some (Listen a)) w b n = w.0
+kind_other m (Some Failed) w b n = w
+kind_other m (Some Sleeps) w b n = w
+kind_other m (Some LinkLost) w b n = w
+kind_other m (Some Releases) w b n = w
+kind_other m (Some Endpoint) w b n = clash refl n
 
-pub kind_eight : (m : Octets) (e : Event) → Within m e → is_endpoint e ≡ true → (eqb (get_or m 0 0) 8 ≡ true) × (length (drop 1 m) ≤ data_limit)
-kind_eight m Bad w n = clash n refl
-kind_eight m (Found a type) w n = clash n refl
-kind_eight m (Poll a) w n = clash n refl
-kind_eight m (Listen a) w n = clash n refl
-kind_eight m Failed w n = clash n refl
-kind_eight m Sleeps w n = clash n refl
-kind_eight m LinkLost w n = clash n refl
-kind_eight m Releases w n = clash n refl
-kind_eight m Endpoint w n = w
+pub kind_eight : (m : Octets) (e : Option Event) → Within m e → is_endpoint e ≡ true → (eqb (get_or m 0 0) 8 ≡ true) × (length (drop 1 m) ≤ data_limit)
+kind_eight m None w n = clash n refl
+kind_eight m (Some (Found a type)) w n = clash n refl
+kind_eight m (Some (Poll a)) w n = clash n refl
+kind_eight m (Some (Listen a)) w n = clash n refl
+kind_eight m (Some Failed) w n = clash n refl
+kind_eight m (Some Sleeps) w n = clash n refl
+kind_eight m (Some LinkLost) w n = clash n refl
+kind_eight m (Some Releases) w n = clash n refl
+kind_eight m (Some Endpoint) w n = w
 
 -- a notification of the air is one short packet
-air_sound : (p : Profile) (m : Octets) (e : Event) → Within m e → Sound (notice_packets (air_message p e m))
+air_sound : (p : Profile) (m : Octets) (e : Option Event) → Within m e → Sound (notice_packets (air_message p e m))
 unfolding air_message
-air_sound p m Bad w = tt
-air_sound p m (Found a type) w = notice_sound 1 3 (discover_ntf a type (drop 5 m)) (omega arith) (omega arith) (simp length-append (omega (arith, w.4)))
-air_sound p m (Poll a) w = notice_sound 1 5 (activated_ntf a (terms_of p 0) (drop 4 m)) (omega arith) (omega arith) (simp length-append (omega (arith, w.3)))
-air_sound p m (Listen a) w = notice_sound 1 5 (activated_ntf a (terms_of p 0) (drop 4 m)) (omega arith) (omega arith) (simp length-append (omega (arith, w.3)))
-air_sound p m Failed w = notice_sound 0 7 generic_error_ntf (omega arith) (omega arith) (omega arith)
-air_sound p m Sleeps w = notice_sound 1 6 (deactivate_ntf 0x01 0x01) (omega arith) (omega arith) (omega arith)
-air_sound p m LinkLost w = notice_sound 1 6 (deactivate_ntf 0x03 0x02) (omega arith) (omega arith) (omega arith)
-air_sound p m Releases w = notice_sound 1 6 (deactivate_ntf 0x03 0x01) (omega arith) (omega arith) (omega arith)
-air_sound p m Endpoint w = tt
+air_sound p m None w = tt
+air_sound p m (Some (Found a type)) w = notice_sound 1 3 (discover_ntf a type (drop 5 m)) (omega arith) (omega arith) (simp length-append (omega (arith, w.4)))
+air_sound p m (Some (Poll a)) w = notice_sound 1 5 (activated_ntf a (terms_of p 0) (drop 4 m)) (omega arith) (omega arith) (simp length-append (omega (arith, w.3)))
+air_sound p m (Some (Listen a)) w = notice_sound 1 5 (activated_ntf a (terms_of p 0) (drop 4 m)) (omega arith) (omega arith) (simp length-append (omega (arith, w.3)))
+air_sound p m (Some Failed) w = notice_sound 0 7 generic_error_ntf (omega arith) (omega arith) (omega arith)
+air_sound p m (Some Sleeps) w = notice_sound 1 6 (deactivate_ntf 0x01 0x01) (omega arith) (omega arith) (omega arith)
+air_sound p m (Some LinkLost) w = notice_sound 1 6 (deactivate_ntf 0x03 0x02) (omega arith) (omega arith) (omega arith)
+air_sound p m (Some Releases) w = notice_sound 1 6 (deactivate_ntf 0x03 0x01) (omega arith) (omega arith) (omega arith)
+air_sound p m (Some Endpoint) w = tt
 
-endpoint_message : (p : Profile) (m : Octets) (e : Event) → is_endpoint e ≡ true → air_message p e m ≡ nothing
+endpoint_message : (p : Profile) (m : Octets) (e : Option Event) → is_endpoint e ≡ true → air_message p e m ≡ nothing
 unfolding air_message
-endpoint_message p m Bad n = clash n refl
-endpoint_message p m (Found a type) n = clash n refl
-endpoint_message p m (Poll a) n = clash n refl
-endpoint_message p m (Listen a) n = clash n refl
-endpoint_message p m Failed n = clash n refl
-endpoint_message p m Sleeps n = clash n refl
-endpoint_message p m LinkLost n = clash n refl
-endpoint_message p m Releases n = clash n refl
-endpoint_message p m Endpoint n = refl
+endpoint_message p m None n = clash n refl
+endpoint_message p m (Some (Found a type)) n = clash n refl
+endpoint_message p m (Some (Poll a)) n = clash n refl
+endpoint_message p m (Some (Listen a)) n = clash n refl
+endpoint_message p m (Some Failed) n = clash n refl
+endpoint_message p m (Some Sleeps) n = clash n refl
+endpoint_message p m (Some LinkLost) n = clash n refl
+endpoint_message p m (Some Releases) n = clash n refl
+endpoint_message p m (Some Endpoint) n = refl
 
 aired_plain : (t : Terms) (a : Aired) (d : ℕ) → Plain (change_aired t a d)
 aired_plain t Refused d = tt
@@ -219,7 +220,7 @@ speaks_keeps s aim l m short active silent f =
 -- ---- the call
 
 module _ (s : State) (aim : ℕ) (l : ℕ → Ledger) (m : Octets) (f : Fine s aim l) where
-  abbrev e : Event
+  abbrev e : Option Event
   e = event_of m
 
   abbrev Aims : Aired → Type 0

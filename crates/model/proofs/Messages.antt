@@ -1,6 +1,7 @@
 -- What the controller's messages say: its answer to each verdict, the notifications of the air, and the credit notice. A host that
 -- reads them does to each connection what the controller did.
 -- Assumes nothing.
+use Rattle.std.specs.Prelude.{Option, Some, None}
 use Prim.Native.Nat.{ℕ, zero, suc, ◌+◌, ◌-◌, ◌*◌, ◌<◌, ◌≤◌}
 use native.Mathlib.Omega.{arith}
 use mathlib.Core.Path.{◌≡◌, refl, sym, ap, ◌∙◌}
@@ -14,7 +15,7 @@ use Rattle.octets.specs.Octets.{Octets, pick}
 use Rattle.packets.specs.Segments.{last}
 use Rattle.model.specs.Kinds.{Terms, Profile, Activation, Pairs, Rf, Controller, Verdict, Event, Aired, Answer, Heard}
 use Rattle.model.specs.Kinds.verdict as verdict
-use Rattle.model.specs.Kinds.event.{Bad, Found, Poll, Listen, Failed, Sleeps, LinkLost, Releases, Endpoint}
+use Rattle.model.specs.Kinds.event.{Found, Poll, Listen, Failed, Sleeps, LinkLost, Releases, Endpoint}
 use Rattle.model.specs.Kinds.aired.{Refused}
 use Rattle.model.specs.Kinds.answer.{Done, ClosesAll, Sized, Opens, Closes}
 use Rattle.model.specs.Kinds.heard.{Nothing, Answered, Activated, Deactivated, Credits}
@@ -199,17 +200,17 @@ notices_verdict verdict.SetsConfig = tt
 notices_verdict verdict.GetsConfig = tt
 
 -- the notification of an event
-pub notices_air : (p : Profile) (e : Event) (m : Octets) → Notices (notice_packets (air_message p e m))
+pub notices_air : (p : Profile) (e : Option Event) (m : Octets) → Notices (notice_packets (air_message p e m))
 unfolding air_message
-notices_air p Bad m = tt
-notices_air p (Found a type) m = notices_message (air_message p (Found a type) m) (omega arith) (omega arith)
-notices_air p (Poll a) m = notices_message (air_message p (Poll a) m) (omega arith) (omega arith)
-notices_air p (Listen a) m = notices_message (air_message p (Listen a) m) (omega arith) (omega arith)
-notices_air p Failed m = notices_message (air_message p Failed m) (omega arith) (omega arith)
-notices_air p Sleeps m = notices_message (air_message p Sleeps m) (omega arith) (omega arith)
-notices_air p LinkLost m = notices_message (air_message p LinkLost m) (omega arith) (omega arith)
-notices_air p Releases m = notices_message (air_message p Releases m) (omega arith) (omega arith)
-notices_air p Endpoint m = tt
+notices_air p None m = tt
+notices_air p (Some (Found a type)) m = notices_message (air_message p (Some (Found a type)) m) (omega arith) (omega arith)
+notices_air p (Some (Poll a)) m = notices_message (air_message p (Some (Poll a)) m) (omega arith) (omega arith)
+notices_air p (Some (Listen a)) m = notices_message (air_message p (Some (Listen a)) m) (omega arith) (omega arith)
+notices_air p (Some Failed) m = notices_message (air_message p (Some Failed) m) (omega arith) (omega arith)
+notices_air p (Some Sleeps) m = notices_message (air_message p (Some Sleeps) m) (omega arith) (omega arith)
+notices_air p (Some LinkLost) m = notices_message (air_message p (Some LinkLost) m) (omega arith) (omega arith)
+notices_air p (Some Releases) m = notices_message (air_message p (Some Releases) m) (omega arith) (omega arith)
+notices_air p (Some Endpoint) m = tt
 
 -- how many they are
 pub notices_few : (m : Message) → length (notice_packets m) ≤ 1
@@ -243,11 +244,11 @@ module _ (p : Profile) (limits : ProfileWithin p) (aim d : ℕ) where
       → items_of aim d (notice_packets (record { gid = 1; oid = 6; payload = deactivate_ntf type reason })) ≡ items_by (pick (eqb 0 d) closes stays)
   ends type reason w = items_notice aim d 1 6 (deactivate_ntf type reason) (omega arith) (omega arith) Deactivated (says_deactivated aim type reason w)
 
-  pub items_aired : (rf : Rf) (ps : Pairs) (m : Octets) (e : Event) → Within m e → is_refused (aired_by rf ps e) ≡ false
+  pub items_aired : (rf : Rf) (ps : Pairs) (m : Octets) (e : Option Event) → Within m e → is_refused (aired_by rf ps e) ≡ false
       → items_of aim d (notice_packets (air_message p e m)) ≡ items_by (change_aired (terms_of p 0) (aired_by rf ps e) d)
   unfolding air_message aired_by items_of
-  items_aired rf ps m Bad w = λ e. refl
-  items_aired rf ps m (Found a type) w =
+  items_aired rf ps m None w = λ e. refl
+  items_aired rf ps m (Some (Found a type)) w =
       let params = drop 5 m in
       let packets = notice_packets (record { gid = 1; oid = 3; payload = discover_ntf a type params }) in
       let none : items_of aim d packets ≡ [] =
@@ -255,28 +256,28 @@ module _ (p : Profile) (limits : ProfileWithin p) (aim d : ℕ) where
       ∙ items_notice aim d 1 3 (discover_ntf a type params) (omega arith) (omega arith) Nothing
       (says_found aim a type params (round_trips.discover_written_law a type params w.1 w.2 w.3 w.4)) in
       found_by_law (Heeded packets) (refuse packets) rf ps a type (λ h next l k e. none)
-  items_aired rf ps m (Poll a) w =
-      let packets = notice_packets (air_message p (Poll a) m) in
+  items_aired rf ps m (Some (Poll a)) w =
+      let packets = notice_packets (air_message p (Some (Poll a)) m) in
       poll_by_law (Heeded packets) (refuse packets) rf a
       (λ h l e. activates a (drop 4 m) (record { id = w.1; mode = rw w.2 }) w.3)
-  items_aired rf ps m (Listen a) w =
-      let packets = notice_packets (air_message p (Listen a) m) in
+  items_aired rf ps m (Some (Listen a)) w =
+      let packets = notice_packets (air_message p (Some (Listen a)) m) in
       listen_by_law (Heeded packets) (refuse packets) rf a
       (λ h l e. activates a (drop 4 m) (record { id = w.1; mode = rw w.2 (or-true (polls a.mode)) }) w.3)
-  items_aired rf ps m Failed w =
-      let packets = notice_packets (air_message p Failed m) in
+  items_aired rf ps m (Some Failed) w =
+      let packets = notice_packets (air_message p (Some Failed) m) in
       failed_by_law (Heeded packets) (refuse packets) rf
       (λ h next l k e. items_notice aim d 0 7 generic_error_ntf (omega arith) (omega arith) Nothing (says_error aim))
-  items_aired rf ps m Sleeps w =
-      let packets = notice_packets (air_message p Sleeps m) in
+  items_aired rf ps m (Some Sleeps) w =
+      let packets = notice_packets (air_message p (Some Sleeps) m) in
       on (Heeded packets) (is_listening rf) (λ h e. ends 0x01 0x01 round_trips.sleeps_written) (λ h. refuse packets)
-  items_aired rf ps m LinkLost w =
-      let packets = notice_packets (air_message p LinkLost m) in
+  items_aired rf ps m (Some LinkLost) w =
+      let packets = notice_packets (air_message p (Some LinkLost) m) in
       on (Heeded packets) (is_listening rf || is_asleep rf) (λ h e. ends 0x03 0x02 round_trips.lost_written) (λ h. refuse packets)
-  items_aired rf ps m Releases w =
-      let packets = notice_packets (air_message p Releases m) in
+  items_aired rf ps m (Some Releases) w =
+      let packets = notice_packets (air_message p (Some Releases) m) in
       on (Heeded packets) (is_listening rf) (λ h e. ends 0x03 0x01 round_trips.releases_written) (λ h. refuse packets)
-  items_aired rf ps m Endpoint w = on (Heeded []) (is_active rf) (λ h e. refl) (λ h. refuse [])
+  items_aired rf ps m (Some Endpoint) w = on (Heeded []) (is_active rf) (λ h e. refl) (λ h. refuse [])
 
 -- ---- the credit notice: for each connection it has what was owed
 

@@ -1,6 +1,7 @@
 -- What the messages on the up wire say: the terms of an opening are the profile's for that connection, and the payload size of an INIT response is within
 -- its limits.
 -- Assumes nothing.
+use Rattle.std.specs.Prelude.{Option, Some, None}
 use Prim.Native.Nat.{ℕ, ◌≤◌, ◌<◌}
 use native.Mathlib.Omega.{arith}
 use mathlib.Core.Path.{◌≡◌, refl, sym, subst}
@@ -14,7 +15,7 @@ use Rattle.packets.specs.Segments.{Segment, more, last}
 use Rattle.model.specs.Kinds.{Profile, Asked, Command, Verdict, Event, Answer, Heard}
 use Rattle.model.specs.Kinds.command.{Reset, Init, ConnCreate, ConnClose, Discover, Select, Deactivate, Unknown, SetConfig, GetConfig}
 use Rattle.model.specs.Kinds.verdict as verdict
-use Rattle.model.specs.Kinds.event.{Bad, Found, Poll, Listen, Failed, Sleeps, LinkLost, Releases, Endpoint}
+use Rattle.model.specs.Kinds.event.{Found, Poll, Listen, Failed, Sleeps, LinkLost, Releases, Endpoint}
 use Rattle.model.specs.Kinds.answer.{Done, ClosesAll, Sized, Opens, Closes}
 use Rattle.model.specs.Kinds.heard.{Nothing, Dropped, Answered, Activated, Deactivated, Credits}
 use Rattle.state.specs.Conn.{place_of, terms_of}
@@ -153,17 +154,17 @@ answers_said p gid oid aim b m v l f a low small = (
   after_said p v,
 )
 
-pub air_said : (p : Profile) (m : Octets) (e : Event) → Said p (notice_packets (air_message p e m))
+pub air_said : (p : Profile) (m : Octets) (e : Option Event) → Said p (notice_packets (air_message p e m))
 unfolding air_message notice_of Said
-air_said p m Bad = tt
-air_said p m (Found a type) = notices_said p 1 3 (discover_ntf a type (drop 5 m)) (omega arith) (omega arith) tt
-air_said p m (Poll a) = notices_said p 1 5 (activated_ntf a (terms_of p 0) (drop 4 m)) (omega arith) (omega arith) refl
-air_said p m (Listen a) = notices_said p 1 5 (activated_ntf a (terms_of p 0) (drop 4 m)) (omega arith) (omega arith) refl
-air_said p m Failed = notices_said p 0 7 generic_error_ntf (omega arith) (omega arith) tt
-air_said p m Sleeps = notices_said p 1 6 (deactivate_ntf 0x01 0x01) (omega arith) (omega arith) tt
-air_said p m LinkLost = notices_said p 1 6 (deactivate_ntf 0x03 0x02) (omega arith) (omega arith) tt
-air_said p m Releases = notices_said p 1 6 (deactivate_ntf 0x03 0x01) (omega arith) (omega arith) tt
-air_said p m Endpoint = tt
+air_said p m None = tt
+air_said p m (Some (Found a type)) = notices_said p 1 3 (discover_ntf a type (drop 5 m)) (omega arith) (omega arith) tt
+air_said p m (Some (Poll a)) = notices_said p 1 5 (activated_ntf a (terms_of p 0) (drop 4 m)) (omega arith) (omega arith) refl
+air_said p m (Some (Listen a)) = notices_said p 1 5 (activated_ntf a (terms_of p 0) (drop 4 m)) (omega arith) (omega arith) refl
+air_said p m (Some Failed) = notices_said p 0 7 generic_error_ntf (omega arith) (omega arith) tt
+air_said p m (Some Sleeps) = notices_said p 1 6 (deactivate_ntf 0x01 0x01) (omega arith) (omega arith) tt
+air_said p m (Some LinkLost) = notices_said p 1 6 (deactivate_ntf 0x03 0x02) (omega arith) (omega arith) tt
+air_said p m (Some Releases) = notices_said p 1 6 (deactivate_ntf 0x03 0x01) (omega arith) (omega arith) tt
+air_said p m (Some Endpoint) = tt
 
 pub credit_said : (p : Profile) (ns : List ℕ) → Said p (notice_packet (record { gid = 0; oid = 6; payload = credits_ntf ns }) ∷ [])
 unfolding notice_of

@@ -1,5 +1,6 @@
 -- Packets that an end writes are well formed, as an invariant: what is on the wires, in the stores and in hand.
 -- Assumes nothing.
+use Rattle.std.specs.Prelude.{Option, Some, None}
 use Prim.Native.Nat.{ℕ, zero, suc, ◌+◌, ◌*◌, ◌/◌, ◌%◌, ◌≤◌, ◌<◌}
 use native.Mathlib.Omega.{arith}
 use mathlib.Core.Path.{◌≡◌, refl, sym, ap, ◌∙◌, subst}
@@ -18,7 +19,7 @@ use Rattle.packets.specs.Reserved.{rfu_by}
 use Rattle.packets.specs.Segments.{Segment, body, flag, marked, segment, segments_within, segments, segment_packet}
 use Rattle.packets.proofs.RoundTrip.{read_written, carrying_written}
 use Rattle.model.specs.Kinds.verdict as verdict
-use Rattle.model.specs.Kinds.event.{Bad, Found, Poll, Listen, Failed, Sleeps, LinkLost, Releases, Endpoint}
+use Rattle.model.specs.Kinds.event.{Found, Poll, Listen, Failed, Sleeps, LinkLost, Releases, Endpoint}
 use Rattle.state.specs.Conn.{terms_of}
 use Rattle.messages.specs.Layout.{reset_ntf, credits_ntf, generic_error_ntf, discover_ntf, activated_ntf, deactivate_ntf, response_of, notice_message}
 use Rattle.air.specs.Air.{air_message}
@@ -197,17 +198,17 @@ answers_up gid oid p b m v a low small = (
   after_up v,
 )
 
-pub air_up : (p : Profile) (m : Octets) (e : Event) → Within m e → Each UpOk (notice_packets (air_message p e m))
+pub air_up : (p : Profile) (m : Octets) (e : Option Event) → Within m e → Each UpOk (notice_packets (air_message p e m))
 unfolding air_message
-air_up p m Bad w = tt
-air_up p m (Found a type) w = notices_up 1 3 (discover_ntf a type (drop 5 m)) (omega arith) (omega arith) (simp length-append (omega (arith, w.4)))
-air_up p m (Poll a) w = notices_up 1 5 (activated_ntf a (terms_of p 0) (drop 4 m)) (omega arith) (omega arith) (simp length-append (omega (arith, w.3)))
-air_up p m (Listen a) w = notices_up 1 5 (activated_ntf a (terms_of p 0) (drop 4 m)) (omega arith) (omega arith) (simp length-append (omega (arith, w.3)))
-air_up p m Failed w = notices_up 0 7 generic_error_ntf (omega arith) (omega arith) (omega arith)
-air_up p m Sleeps w = notices_up 1 6 (deactivate_ntf 0x01 0x01) (omega arith) (omega arith) (omega arith)
-air_up p m LinkLost w = notices_up 1 6 (deactivate_ntf 0x03 0x02) (omega arith) (omega arith) (omega arith)
-air_up p m Releases w = notices_up 1 6 (deactivate_ntf 0x03 0x01) (omega arith) (omega arith) (omega arith)
-air_up p m Endpoint w = tt
+air_up p m None w = tt
+air_up p m (Some (Found a type)) w = notices_up 1 3 (discover_ntf a type (drop 5 m)) (omega arith) (omega arith) (simp length-append (omega (arith, w.4)))
+air_up p m (Some (Poll a)) w = notices_up 1 5 (activated_ntf a (terms_of p 0) (drop 4 m)) (omega arith) (omega arith) (simp length-append (omega (arith, w.3)))
+air_up p m (Some (Listen a)) w = notices_up 1 5 (activated_ntf a (terms_of p 0) (drop 4 m)) (omega arith) (omega arith) (simp length-append (omega (arith, w.3)))
+air_up p m (Some Failed) w = notices_up 0 7 generic_error_ntf (omega arith) (omega arith) (omega arith)
+air_up p m (Some Sleeps) w = notices_up 1 6 (deactivate_ntf 0x01 0x01) (omega arith) (omega arith) (omega arith)
+air_up p m (Some LinkLost) w = notices_up 1 6 (deactivate_ntf 0x03 0x02) (omega arith) (omega arith) (omega arith)
+air_up p m (Some Releases) w = notices_up 1 6 (deactivate_ntf 0x03 0x01) (omega arith) (omega arith) (omega arith)
+air_up p m (Some Endpoint) w = tt
 
 pub credit_up : (a b c d e : ℕ) → UpOk (notice_packet (record { gid = 0; oid = 6; payload = credits_ntf (a ∷ b ∷ c ∷ d ∷ e ∷ []) }))
 credit_up a b c d e =

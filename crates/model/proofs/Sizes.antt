@@ -1,5 +1,6 @@
 -- The sizes of everything that a bench holds: each call keeps them. What down does is in SizesDown.
 -- Assumes nothing.
+use Rattle.std.specs.Prelude.{Option, Some, None}
 use Prim.Native.Nat.{ℕ, ◌+◌, ◌%◌, ◌≤◌}
 use native.Mathlib.Omega.{arith}
 use mathlib.Core.Path.{◌≡◌, refl, ap}
@@ -13,7 +14,7 @@ use Rattle.packets.specs.Packet.{carrying}
 use Rattle.packets.specs.Segments.{Segment, more, last, segments, segment_packet}
 use Rattle.packets.specs.Reassembly.{Run}
 use Rattle.model.specs.Kinds.{Profile, Host, Event, Aired, Heard}
-use Rattle.model.specs.Kinds.event.{Bad, Found, Poll, Listen, Failed, Sleeps, LinkLost, Releases, Endpoint}
+use Rattle.model.specs.Kinds.event.{Found, Poll, Listen, Failed, Sleeps, LinkLost, Releases, Endpoint}
 use Rattle.model.specs.Kinds.aired.{Refused, Goes, Activates, Ends, Speaks}
 use Rattle.model.specs.Kinds.answer.{Done, ClosesAll, Sized, Opens, Closes}
 use Rattle.model.specs.Kinds.heard.{Nothing, Dropped, Answered, Activated, Deactivated, Credits}
@@ -220,20 +221,20 @@ credit_small s t m =
 -- ---- air
 
 -- a notification of the air is one packet, where there is one
-air_few : (p : Profile) (e : Event) (o : Octets) (n : ℕ) → n ≤ 16 → (notifies e && ltb 16 (n + 1)) ≡ false → n + length (notice_packets (air_message p e o)) ≤ 16
+air_few : (p : Profile) (e : Option Event) (o : Octets) (n : ℕ) → n ≤ 16 → (notifies e && ltb 16 (n + 1)) ≡ false → n + length (notice_packets (air_message p e o)) ≤ 16
 unfolding air_message
-air_few p Bad o n h e = omega arith
-air_few p (Found a type) o n h e = omega (arith, ltb-false 16 (n + 1) e, notices_few (air_message p (Found a type) o))
-air_few p (Poll a) o n h e = omega (arith, ltb-false 16 (n + 1) e, notices_few (air_message p (Poll a) o))
-air_few p (Listen a) o n h e = omega (arith, ltb-false 16 (n + 1) e, notices_few (air_message p (Listen a) o))
-air_few p Failed o n h e = omega (arith, ltb-false 16 (n + 1) e, notices_few (air_message p Failed o))
-air_few p Sleeps o n h e = omega (arith, ltb-false 16 (n + 1) e, notices_few (air_message p Sleeps o))
-air_few p LinkLost o n h e = omega (arith, ltb-false 16 (n + 1) e, notices_few (air_message p LinkLost o))
-air_few p Releases o n h e = omega (arith, ltb-false 16 (n + 1) e, notices_few (air_message p Releases o))
-air_few p Endpoint o n h e = omega arith
+air_few p None o n h e = omega arith
+air_few p (Some (Found a type)) o n h e = omega (arith, ltb-false 16 (n + 1) e, notices_few (air_message p (Some (Found a type)) o))
+air_few p (Some (Poll a)) o n h e = omega (arith, ltb-false 16 (n + 1) e, notices_few (air_message p (Some (Poll a)) o))
+air_few p (Some (Listen a)) o n h e = omega (arith, ltb-false 16 (n + 1) e, notices_few (air_message p (Some (Listen a)) o))
+air_few p (Some Failed) o n h e = omega (arith, ltb-false 16 (n + 1) e, notices_few (air_message p (Some Failed) o))
+air_few p (Some Sleeps) o n h e = omega (arith, ltb-false 16 (n + 1) e, notices_few (air_message p (Some Sleeps) o))
+air_few p (Some LinkLost) o n h e = omega (arith, ltb-false 16 (n + 1) e, notices_few (air_message p (Some LinkLost) o))
+air_few p (Some Releases) o n h e = omega (arith, ltb-false 16 (n + 1) e, notices_few (air_message p (Some Releases) o))
+air_few p (Some Endpoint) o n h e = omega arith
 
 -- the connections after it
-air_conns : (s : State) (o : Octets) (e : Event) (a : Aired) → Within o e → Suits e a → Small s
+air_conns : (s : State) (o : Octets) (e : Option Event) (a : Aired) → Within o e → Suits e a → Small s
     → (d : ℕ) → ConnSmall s.profile d (aired_conns (terms_of s.profile 0) a o s.conns d)
 unfolding place_of
 air_conns s o e Refused w t m d = m.conns d

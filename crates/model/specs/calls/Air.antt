@@ -1,6 +1,6 @@
 -- air: an event of the RF field.
 -- Assumes nothing.
-use Rattle.std.specs.Prelude.{ℕ, false, not, ◌&&◌, ◌||◌, List, [], ◌∷◌, eqb, leb, drop}
+use Rattle.std.specs.Prelude.{ℕ, false, not, ◌&&◌, ◌||◌, List, [], ◌∷◌, eqb, leb, drop, Option}
 use Rattle.octets.specs.Octets.{Octets}
 use Rattle.packets.specs.Segments.{segments}
 use Rattle.model.specs.Kinds.{Terms, Event, Aired}
@@ -26,7 +26,7 @@ aired_conns t (Activates rf l) m g = λ d. with_controller (at_controller (chang
 aired_conns t (Ends rf) m g = λ d. with_controller (at_controller (change_aired t (Ends rf) d) (g d).controller) (g d)
 aired_conns t Speaks m g = at 0 (λ k. with_controller (spoken (segments 255 (drop 1 m)) k.controller) k) g
 
-abbrev pub airing_as : Event → Aired → Octets → State → Effect
+abbrev pub airing_as : Option Event → Aired → Octets → State → Effect
 airing_as e a m s =
     putting_up false (notice_packets (air_message s.profile e m)) []
     (with_controller_state (controller_aired s.controller a) (with_conns (aired_conns (terms_of s.profile 0) a m s.conns) s))

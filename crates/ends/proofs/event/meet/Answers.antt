@@ -1,4 +1,5 @@
 -- `ends::event::meet` meets its contract: the numbers after what the controller makes of the event, then that, then the event itself.
+use Rattle.std.specs.Prelude.{Option}
 use Prim.Native.Nat.{◌-◌}
 use mathlib.Core.Path.{◌≡◌, ap, ◌∙◌}
 use native.Mathlib.Omega.{arith}
@@ -29,4 +30,4 @@ returns c =
           };
     })
     ∙ (λ i. record { event = x; aired = c.judge_event-a.ensures i; next = ends_aired e (c.judge_event-a.ensures i) (spoken i) })
-    ∙ ap (λ (y : Event). record { event = y; aired = aired_in e y; next = ends_aired e (aired_in e y) (length m - 1) }) c.event_of-x.ensures
+    ∙ ap (λ (y : Option Event). record { event = y; aired = aired_in e y; next = ends_aired e (aired_in e y) (length m - 1) }) c.event_of-x.ensures
