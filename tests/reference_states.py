@@ -102,10 +102,10 @@ def defined_events(texts, state):
 
     for kind, rule in enumerate(["found_by", "poll_by", "listen_by", "failed_by"], 1):
         said = re.findall(rf"^{rule} \(?{state}\b[^=]*= (.*)$", texts[AIR], re.M)
-        if any(rest != "Refused" for rest in said):
+        if any(rest != "None" for rest in said):
             yield kind
     for kind, name in enumerate(["Sleeps", "LinkLost", "Releases", "Endpoint"], 5):
-        tests = re.search(rf"^aired_by rf ps {name} = pick \((.*?)\) \(?[ES]", texts[AIR], re.M)[1]
+        tests = re.search(rf"^aired_by rf ps \(Some {name}\) = pick \((.*?)\) \(Some \(?[ES]", texts[AIR], re.M)[1]
         if any(holds(test.split()[0]) for test in tests.split(" || ")):
             yield kind
 

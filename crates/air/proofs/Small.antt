@@ -13,7 +13,7 @@ use Rattle.air.specs.Kinds.{Controller, Pairs, Activation, Rf, Event, Listing, A
 use Rattle.air.specs.Kinds.rf.{Idle, Discovery, W4AllDiscoveries, W4HostSelect, PollActive, ListenActive, ListenSleep}
 use Rattle.air.specs.Kinds.event.{Found, Poll, Listen, Failed, Sleeps, LinkLost, Releases, Endpoint}
 use Rattle.air.specs.Kinds.listing.{Keeps, Starts, Adds}
-use Rattle.air.specs.Kinds.aired.{Refused, Goes, Activates, Ends, Speaks}
+use Rattle.air.specs.Kinds.aired.{Goes, Activates, Ends, Speaks}
 use Rattle.state.specs.Radio.{is_listening, is_asleep, is_active, polls, listens, id_ok, pair_of, same_pair, no_pairs, added_to}
 use Rattle.state.proofs.Chains.{on}
 use Rattle.state.proofs.Small.{PairSmall, TargetSmall, RfSmall, PairsSmall, RadioSmall, nones_small, set_small}
@@ -35,12 +35,12 @@ ListingSmall Keeps = Unit {0}
 ListingSmall (Starts p) = PairSmall p
 ListingSmall (Adds p) = PairSmall p
 
-abbrev pub AiredSmall : Aired → Type 0
-AiredSmall Refused = Unit {0}
-AiredSmall (Goes rf l) = RfSmall rf × ListingSmall l
-AiredSmall (Activates rf l) = RfSmall rf × ListingSmall l
-AiredSmall (Ends rf) = RfSmall rf
-AiredSmall Speaks = Unit {0}
+abbrev pub AiredSmall : Option Aired → Type 0
+AiredSmall None = Unit {0}
+AiredSmall (Some (Goes rf l)) = RfSmall rf × ListingSmall l
+AiredSmall (Some (Activates rf l)) = RfSmall rf × ListingSmall l
+AiredSmall (Some (Ends rf)) = RfSmall rf
+AiredSmall (Some Speaks) = Unit {0}
 
 -- ---- the event
 
@@ -137,10 +137,10 @@ listing_small ps (Starts p) s h = set_small no_pairs.list 0 p s nones_small
 listing_small ps (Adds p) s h =
     on (λ (x : Pairs). PairsSmall x.list) (ltb ps.count 8) (λ e. set_small ps.list ps.count p s h) (λ e. h)
 
-pub aired_small : (k : Controller) (a : Aired) → AiredSmall a → RadioSmall k → RadioSmall (controller_aired k a)
+pub aired_small : (k : Controller) (a : Option Aired) → AiredSmall a → RadioSmall k → RadioSmall (controller_aired k a)
 unfolding controller_aired
-aired_small k Refused s h = h
-aired_small k (Goes rf l) s h = record { rf = s.0; pairs = listing_small k.pairs l s.1 h.pairs }
-aired_small k (Activates rf l) s h = record { rf = s.0; pairs = listing_small k.pairs l s.1 h.pairs }
-aired_small k (Ends rf) s h = record { rf = s; pairs = h.pairs }
-aired_small k Speaks s h = h
+aired_small k None s h = h
+aired_small k (Some (Goes rf l)) s h = record { rf = s.0; pairs = listing_small k.pairs l s.1 h.pairs }
+aired_small k (Some (Activates rf l)) s h = record { rf = s.0; pairs = listing_small k.pairs l s.1 h.pairs }
+aired_small k (Some (Ends rf)) s h = record { rf = s; pairs = h.pairs }
+aired_small k (Some Speaks) s h = h

@@ -15,7 +15,7 @@ use Rattle.air.specs.Kinds.{Profile, Pairs, Activation, Rf, Event, Listing, Aire
 use Rattle.air.specs.Kinds.rf.{Idle, Discovery, W4AllDiscoveries, W4HostSelect, PollActive, ListenActive, ListenSleep}
 use Rattle.air.specs.Kinds.event.{Found, Poll, Listen, Failed, Sleeps, LinkLost, Releases, Endpoint}
 use Rattle.air.specs.Kinds.listing.{Keeps, Starts, Adds}
-use Rattle.air.specs.Kinds.aired.{Refused, Goes, Activates, Ends, Speaks}
+use Rattle.air.specs.Kinds.aired.{Goes, Activates, Ends, Speaks}
 use Rattle.state.specs.Conn.{terms_of}
 use Rattle.state.specs.Radio.{is_active, is_listening, is_asleep, polls, listens, id_ok, pair_of, same_pair}
 use Rattle.state.proofs.Chains.{on}
@@ -64,12 +64,12 @@ SmallListing Keeps = Unit {0}
 SmallListing (Starts p) = SmallPair p
 SmallListing (Adds p) = SmallPair p
 
-abbrev pub SmallAired : Aired → Type 0
-SmallAired Refused = Unit {0}
-SmallAired (Goes rf l) = SmallRf rf × SmallListing l
-SmallAired (Activates rf l) = SmallRf rf × SmallListing l
-SmallAired (Ends rf) = SmallRf rf
-SmallAired Speaks = Unit {0}
+abbrev pub SmallAired : Option Aired → Type 0
+SmallAired None = Unit {0}
+SmallAired (Some (Goes rf l)) = SmallRf rf × SmallListing l
+SmallAired (Some (Activates rf l)) = SmallRf rf × SmallListing l
+SmallAired (Some (Ends rf)) = SmallRf rf
+SmallAired (Some Speaks) = Unit {0}
 
 found_small : (rf : Rf) (ps : Pairs) (a : Activation) (type : ℕ) → SmallTarget a → SmallAired (found_by rf ps a type)
 unfolding found_by

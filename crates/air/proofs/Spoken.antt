@@ -11,7 +11,7 @@ use borrow.Author.Tests.{ne_eqb}
 use Rattle.octets.specs.Octets.{Octets}
 use Rattle.air.specs.Kinds.{Profile, Pairs, Rf, Event, Aired}
 use Rattle.air.specs.Kinds.event.{Found, Poll, Listen, Failed, Sleeps, LinkLost, Releases, Endpoint}
-use Rattle.air.specs.Kinds.aired.{Refused, Goes, Activates, Ends, Speaks}
+use Rattle.air.specs.Kinds.aired.{Goes, Activates, Ends, Speaks}
 use Rattle.state.specs.Radio.{is_active, is_listening, is_asleep}
 use Rattle.state.proofs.Chains.{on}
 use Rattle.air.specs.Air.{event_of, kind_of, aired_by, is_refused, air_message}
@@ -47,12 +47,12 @@ spoken_short m k = go (event_of m) (event_within m) k
 -- ---- an event that is taken
 
 -- the endpoint speaks where the kind is 8, and only there
-abbrev pub Spoken : Option Event → Aired → Type 0
-Spoken e Refused = Unit {0}
-Spoken e (Goes rf l) = eqb (kind_of e) 8 ≡ false
-Spoken e (Activates rf l) = eqb (kind_of e) 8 ≡ false
-Spoken e (Ends rf) = eqb (kind_of e) 8 ≡ false
-Spoken e Speaks = eqb (kind_of e) 8 ≡ true
+abbrev pub Spoken : Option Event → Option Aired → Type 0
+Spoken e None = Unit {0}
+Spoken e (Some (Goes rf l)) = eqb (kind_of e) 8 ≡ false
+Spoken e (Some (Activates rf l)) = eqb (kind_of e) 8 ≡ false
+Spoken e (Some (Ends rf)) = eqb (kind_of e) 8 ≡ false
+Spoken e (Some Speaks) = eqb (kind_of e) 8 ≡ true
 
 pub aired_spoken : (rf : Rf) (ps : Pairs) (e : Option Event) → Spoken e (aired_by rf ps e)
 unfolding aired_by

@@ -15,7 +15,7 @@ use Rattle.air.specs.Kinds.{Controller, Pairs, Activation, Rf, Event, Listing, A
 use Rattle.air.specs.Kinds.rf.{Idle, Discovery, W4AllDiscoveries, W4HostSelect, PollActive, ListenActive, ListenSleep}
 use Rattle.air.specs.Kinds.event.{Found, Poll, Listen, Failed, Sleeps, LinkLost, Releases, Endpoint}
 use Rattle.air.specs.Kinds.listing.{Keeps, Starts, Adds}
-use Rattle.air.specs.Kinds.aired.{Refused, Goes, Activates, Ends, Speaks}
+use Rattle.air.specs.Kinds.aired.{Goes, Activates, Ends, Speaks}
 use Rattle.state.specs.Radio.{is_active, is_listening, is_asleep, polls, listens, id_ok, pair_of, same_pair, added_to}
 use Rattle.state.proofs.Chains.{every_at, on}
 use Rattle.state.proofs.Steady.{Steady}
@@ -87,9 +87,9 @@ found_to_law type = on (λ (rf : Rf). is_active rf ≡ false) (eqb type 2) (λ e
 
 -- each event is refused, or is the one thing that it can be: an endpoint found, or a selection that failed, moves between states that
 -- are not active, and an activation leaves one
-module _ (P : Aired → Type 0) (no-event : P Refused) where
+module _ (P : Option Aired → Type 0) (no-event : P None) where
   pub found_by_law : (rf : Rf) (ps : Pairs) (a : Activation) (type : ℕ)
-      → (is_active rf ≡ false → (next : Rf) (l : Listing) → is_active next ≡ false → P (Goes next l)) → P (found_by rf ps a type)
+      → (is_active rf ≡ false → (next : Rf) (l : Listing) → is_active next ≡ false → P (Some (Goes next l))) → P (found_by rf ps a type)
   unfolding found_by
   found_by_law Idle ps a type f = no-event
   found_by_law Discovery ps a type f = on P (eqb type 2) (λ e. f refl W4AllDiscoveries (Starts (pair_of a)) refl) (λ e. no-event)
@@ -99,7 +99,7 @@ module _ (P : Aired → Type 0) (no-event : P Refused) where
   found_by_law (ListenActive b) ps a type f = no-event
   found_by_law ListenSleep ps a type f = no-event
 
-  pub poll_by_law : (rf : Rf) (a : Activation) → (is_active rf ≡ false → (l : Listing) → P (Activates (PollActive a) l)) → P (poll_by rf a)
+  pub poll_by_law : (rf : Rf) (a : Activation) → (is_active rf ≡ false → (l : Listing) → P (Some (Activates (PollActive a) l))) → P (poll_by rf a)
   unfolding poll_by
   poll_by_law Idle a f = no-event
   poll_by_law Discovery a f = f refl (Starts (pair_of a))
@@ -110,7 +110,7 @@ module _ (P : Aired → Type 0) (no-event : P Refused) where
   poll_by_law (ListenActive b) a f = no-event
   poll_by_law ListenSleep a f = no-event
 
-  pub listen_by_law : (rf : Rf) (a : Activation) → (is_active rf ≡ false → (l : Listing) → P (Activates (ListenActive a) l)) → P (listen_by rf a)
+  pub listen_by_law : (rf : Rf) (a : Activation) → (is_active rf ≡ false → (l : Listing) → P (Some (Activates (ListenActive a) l))) → P (listen_by rf a)
   unfolding listen_by
   listen_by_law Idle a f = no-event
   listen_by_law Discovery a f = f refl Keeps
@@ -120,7 +120,7 @@ module _ (P : Aired → Type 0) (no-event : P Refused) where
   listen_by_law (ListenActive b) a f = no-event
   listen_by_law ListenSleep a f = f refl Keeps
 
-  pub failed_by_law : (rf : Rf) → (is_active rf ≡ false → (next : Rf) (l : Listing) → is_active next ≡ false → P (Goes next l)) → P (failed_by rf)
+  pub failed_by_law : (rf : Rf) → (is_active rf ≡ false → (next : Rf) (l : Listing) → is_active next ≡ false → P (Some (Goes next l))) → P (failed_by rf)
   unfolding failed_by
   failed_by_law Idle f = no-event
   failed_by_law Discovery f = no-event
@@ -132,12 +132,12 @@ module _ (P : Aired → Type 0) (no-event : P Refused) where
   failed_by_law ListenSleep f = no-event
 
 -- an activation comes in a state that is not active, a deactivation leads to one, and the endpoint speaks in an active one
-abbrev pub AirLegal : Rf → Aired → Type 0
-AirLegal rf Refused = Unit {0}
-AirLegal rf (Goes next l) = (is_active rf ≡ false) × (is_active next ≡ false)
-AirLegal rf (Activates next l) = (is_active rf ≡ false) × (is_active next ≡ true)
-AirLegal rf (Ends next) = is_active next ≡ false
-AirLegal rf Speaks = is_active rf ≡ true
+abbrev pub AirLegal : Rf → Option Aired → Type 0
+AirLegal rf None = Unit {0}
+AirLegal rf (Some (Goes next l)) = (is_active rf ≡ false) × (is_active next ≡ false)
+AirLegal rf (Some (Activates next l)) = (is_active rf ≡ false) × (is_active next ≡ true)
+AirLegal rf (Some (Ends next)) = is_active next ≡ false
+AirLegal rf (Some Speaks) = is_active rf ≡ true
 
 pub aired_legal : (rf : Rf) (ps : Pairs) (e : Option Event) → AirLegal rf (aired_by rf ps e)
 unfolding aired_by
@@ -161,10 +161,10 @@ listed_pairs ps (Adds p) h e =
     on (λ (x : Pairs). (x.count ≤ 8) × (length x.list ≡ 8)) (ltb ps.count 8)
     (λ z. let low = ltb-true ps.count 8 z in (omega arith, length-set ps.list ps.count p ∙ e)) (λ z. (h, e))
 
-pub aired_steady : (k : Controller) (a : Aired) → Steady k → Steady (controller_aired k a)
+pub aired_steady : (k : Controller) (a : Option Aired) → Steady k → Steady (controller_aired k a)
 unfolding controller_aired
-aired_steady k Refused m = m
-aired_steady k (Goes rf l) m = let q = listed_pairs k.pairs l m.pairs m.places in record { given = m.given; pairs = q.0; places = q.1 }
-aired_steady k (Activates rf l) m = let q = listed_pairs k.pairs l m.pairs m.places in record { given = m.given; pairs = q.0; places = q.1 }
-aired_steady k (Ends rf) m = record { given = m.given; pairs = m.pairs; places = m.places }
-aired_steady k Speaks m = m
+aired_steady k None m = m
+aired_steady k (Some (Goes rf l)) m = let q = listed_pairs k.pairs l m.pairs m.places in record { given = m.given; pairs = q.0; places = q.1 }
+aired_steady k (Some (Activates rf l)) m = let q = listed_pairs k.pairs l m.pairs m.places in record { given = m.given; pairs = q.0; places = q.1 }
+aired_steady k (Some (Ends rf)) m = record { given = m.given; pairs = m.pairs; places = m.places }
+aired_steady k (Some Speaks) m = m

@@ -1,13 +1,13 @@
 -- The air (document 01, "The air"; 003, 5.2): the octets of an event, whether it is taken, its notification and the state after.
 -- Assumes nothing.
-use Rattle.std.specs.Prelude.{ℕ, Bool, true, false, ◌&&◌, ◌||◌, List, length, get_or, drop, eqb, leb, Some, None, Option}
+use Rattle.std.specs.Prelude.{ℕ, Bool, ◌&&◌, ◌||◌, List, length, get_or, drop, eqb, leb, Option, Some, None, is_none}
 use Rattle.octets.specs.Octets.{Octets, pick}
 use Rattle.state.specs.Names.{gid_core, gid_rf, oid_generic_error, oid_discover, oid_activated, oid_deactivate, more_follow, to_sleep, to_discovery, endpoint_request, link_loss}
 use Rattle.air.specs.Kinds.{Hand, Profile, Pair, Pairs, Activation, Rf, Controller, Counts, Event, Listing, Aired}
 use Rattle.air.specs.Kinds.rf.{Idle, Discovery, W4AllDiscoveries, W4HostSelect, PollActive, ListenActive, ListenSleep}
 use Rattle.air.specs.Kinds.event.{Found, Poll, Listen, Failed, Sleeps, LinkLost, Releases, Endpoint}
 use Rattle.air.specs.Kinds.listing.{Keeps, Starts, Adds}
-use Rattle.air.specs.Kinds.aired.{Refused, Goes, Activates, Ends, Speaks}
+use Rattle.air.specs.Kinds.aired.{Goes, Activates, Ends, Speaks}
 use Rattle.state.specs.Conn.{terms_of, controller_opened_at, controller_closed_at, empty, hand_with}
 use Rattle.state.specs.Radio.{is_listening, is_asleep, is_active, polls, listens, id_ok, pair_of, same_pair, listed, started_with, added_to}
 use Rattle.messages.specs.Layout.{Message, nothing, generic_error_ntf, discover_ntf, activated_ntf, deactivate_ntf}
@@ -73,63 +73,59 @@ no_room ps p type = listed ps p || leb 8 ps.count || (eqb type more_follow && le
 abbrev pub found_to : ℕ → Rf
 found_to type = pick (eqb type more_follow) W4AllDiscoveries (W4HostSelect None)
 
-unfoldable pub found_by : Rf → Pairs → Activation → ℕ → Aired
-found_by Idle ps a type = Refused
-found_by Discovery ps a type = pick (eqb type more_follow) (Goes W4AllDiscoveries (Starts (pair_of a))) Refused
-found_by W4AllDiscoveries ps a type = pick (no_room ps (pair_of a) type) Refused (Goes (found_to type) (Adds (pair_of a)))
-found_by (W4HostSelect s) ps a type = Refused
-found_by (PollActive b) ps a type = Refused
-found_by (ListenActive b) ps a type = Refused
-found_by ListenSleep ps a type = Refused
+unfoldable pub found_by : Rf → Pairs → Activation → ℕ → Option Aired
+found_by Idle ps a type = None
+found_by Discovery ps a type = pick (eqb type more_follow) (Some (Goes W4AllDiscoveries (Starts (pair_of a)))) None
+found_by W4AllDiscoveries ps a type = pick (no_room ps (pair_of a) type) None (Some (Goes (found_to type) (Adds (pair_of a))))
+found_by (W4HostSelect s) ps a type = None
+found_by (PollActive b) ps a type = None
+found_by (ListenActive b) ps a type = None
+found_by ListenSleep ps a type = None
 
 -- from W4_HOST_SELECT an activation is that of the selection
-unfoldable pub poll_by : Rf → Activation → Aired
-poll_by Idle a = Refused
-poll_by Discovery a = Activates (PollActive a) (Starts (pair_of a))
-poll_by W4AllDiscoveries a = Refused
-poll_by (W4HostSelect None) a = Refused
-poll_by (W4HostSelect (Some p)) a = pick (same_pair p (pair_of a)) (Activates (PollActive a) Keeps) Refused
-poll_by (PollActive b) a = Refused
-poll_by (ListenActive b) a = Refused
-poll_by ListenSleep a = Refused
+unfoldable pub poll_by : Rf → Activation → Option Aired
+poll_by Idle a = None
+poll_by Discovery a = Some (Activates (PollActive a) (Starts (pair_of a)))
+poll_by W4AllDiscoveries a = None
+poll_by (W4HostSelect None) a = None
+poll_by (W4HostSelect (Some p)) a = pick (same_pair p (pair_of a)) (Some (Activates (PollActive a) Keeps)) None
+poll_by (PollActive b) a = None
+poll_by (ListenActive b) a = None
+poll_by ListenSleep a = None
 
-unfoldable pub listen_by : Rf → Activation → Aired
-listen_by Idle a = Refused
-listen_by Discovery a = Activates (ListenActive a) Keeps
-listen_by W4AllDiscoveries a = Refused
-listen_by (W4HostSelect s) a = Refused
-listen_by (PollActive b) a = Refused
-listen_by (ListenActive b) a = Refused
-listen_by ListenSleep a = Activates (ListenActive a) Keeps
+unfoldable pub listen_by : Rf → Activation → Option Aired
+listen_by Idle a = None
+listen_by Discovery a = Some (Activates (ListenActive a) Keeps)
+listen_by W4AllDiscoveries a = None
+listen_by (W4HostSelect s) a = None
+listen_by (PollActive b) a = None
+listen_by (ListenActive b) a = None
+listen_by ListenSleep a = Some (Activates (ListenActive a) Keeps)
 
 -- the selection ends
-unfoldable pub failed_by : Rf → Aired
-failed_by Idle = Refused
-failed_by Discovery = Refused
-failed_by W4AllDiscoveries = Refused
-failed_by (W4HostSelect None) = Refused
-failed_by (W4HostSelect (Some p)) = Goes (W4HostSelect None) Keeps
-failed_by (PollActive b) = Refused
-failed_by (ListenActive b) = Refused
-failed_by ListenSleep = Refused
+unfoldable pub failed_by : Rf → Option Aired
+failed_by Idle = None
+failed_by Discovery = None
+failed_by W4AllDiscoveries = None
+failed_by (W4HostSelect None) = None
+failed_by (W4HostSelect (Some p)) = Some (Goes (W4HostSelect None) Keeps)
+failed_by (PollActive b) = None
+failed_by (ListenActive b) = None
+failed_by ListenSleep = None
 
-unfoldable pub aired_by : Rf → Pairs → Option Event → Aired
-aired_by rf ps None = Refused
+unfoldable pub aired_by : Rf → Pairs → Option Event → Option Aired
+aired_by rf ps None = None
 aired_by rf ps (Some (Found a type)) = found_by rf ps a type
 aired_by rf ps (Some (Poll a)) = poll_by rf a
 aired_by rf ps (Some (Listen a)) = listen_by rf a
 aired_by rf ps (Some Failed) = failed_by rf
-aired_by rf ps (Some Sleeps) = pick (is_listening rf) (Ends ListenSleep) Refused
-aired_by rf ps (Some LinkLost) = pick (is_listening rf || is_asleep rf) (Ends Discovery) Refused
-aired_by rf ps (Some Releases) = pick (is_listening rf) (Ends Discovery) Refused
-aired_by rf ps (Some Endpoint) = pick (is_active rf) Speaks Refused
+aired_by rf ps (Some Sleeps) = pick (is_listening rf) (Some (Ends ListenSleep)) None
+aired_by rf ps (Some LinkLost) = pick (is_listening rf || is_asleep rf) (Some (Ends Discovery)) None
+aired_by rf ps (Some Releases) = pick (is_listening rf) (Some (Ends Discovery)) None
+aired_by rf ps (Some Endpoint) = pick (is_active rf) (Some Speaks) None
 
-abbrev pub is_refused : Aired → Bool
-is_refused Refused = true
-is_refused (Goes rf l) = false
-is_refused (Activates rf l) = false
-is_refused (Ends rf) = false
-is_refused Speaks = false
+abbrev pub is_refused : Option Aired → Bool
+is_refused a = is_none a
 
 -- ---- the notification
 
@@ -154,25 +150,25 @@ listed_after ps (Adds p) = added_to ps p
 abbrev pub moved_to : Controller → Rf → Pairs → Controller
 moved_to k rf ps = record { phase = k.phase; given = k.given; rf = rf; pairs = ps }
 
-unfoldable pub controller_aired : Controller → Aired → Controller
-controller_aired k Refused = k
-controller_aired k (Goes rf l) = moved_to k rf (listed_after k.pairs l)
-controller_aired k (Activates rf l) = moved_to k rf (listed_after k.pairs l)
-controller_aired k (Ends rf) = moved_to k rf k.pairs
-controller_aired k Speaks = k
+unfoldable pub controller_aired : Controller → Option Aired → Controller
+controller_aired k None = k
+controller_aired k (Some (Goes rf l)) = moved_to k rf (listed_after k.pairs l)
+controller_aired k (Some (Activates rf l)) = moved_to k rf (listed_after k.pairs l)
+controller_aired k (Some (Ends rf)) = moved_to k rf k.pairs
+controller_aired k (Some Speaks) = k
 
 -- connection 0 opens with the activation and closes with the deactivation
-unfoldable pub conns_aired : Profile → List Counts → Aired → List Counts
-conns_aired p conns Refused = conns
-conns_aired p conns (Goes rf l) = conns
-conns_aired p conns (Activates rf l) = controller_opened_at conns 0 (terms_of p 0)
-conns_aired p conns (Ends rf) = controller_closed_at conns 0
-conns_aired p conns Speaks = conns
+unfoldable pub conns_aired : Profile → List Counts → Option Aired → List Counts
+conns_aired p conns None = conns
+conns_aired p conns (Some (Goes rf l)) = conns
+conns_aired p conns (Some (Activates rf l)) = controller_opened_at conns 0 (terms_of p 0)
+conns_aired p conns (Some (Ends rf)) = controller_closed_at conns 0
+conns_aired p conns (Some Speaks) = conns
 
 -- the endpoint's message in hand, n being the octets of the one that an event of kind 8 brings; connection 0 opens and closes with none
-unfoldable pub endpoint_aired : Hand → Aired → ℕ → Hand
-endpoint_aired h Refused n = h
-endpoint_aired h (Goes rf l) n = h
-endpoint_aired h (Activates rf l) n = empty
-endpoint_aired h (Ends rf) n = empty
-endpoint_aired h Speaks n = hand_with n
+unfoldable pub endpoint_aired : Hand → Option Aired → ℕ → Hand
+endpoint_aired h None n = h
+endpoint_aired h (Some (Goes rf l)) n = h
+endpoint_aired h (Some (Activates rf l)) n = empty
+endpoint_aired h (Some (Ends rf)) n = empty
+endpoint_aired h (Some Speaks) n = hand_with n

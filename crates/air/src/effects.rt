@@ -18,56 +18,43 @@ fn listed_after(ps: Pairs, l: Listing) -> Pairs
     }
 }
 
-// The controller in another RF state, with these pairs.
-fn moved_to(k: Controller, rf: Rf, ps: Pairs) -> Controller
-    ensures { result ≡ moved_to k rf ps }
-{
-    let phase = k.phase;
-    Controller {
-        phase: phase,
-        given: k.given,
-        rf: rf,
-        pairs: ps,
-    }
-}
-
 // The controller after an event.
-pub fn controller_aired(k: Controller, a: Aired) -> Controller
+#[tactic(auto, unfolding(crate::specs::Air::controller_aired))]
+pub fn controller_aired(k: Controller, a: Option<Aired>) -> Controller
     ensures { result ≡ controller_aired k a }
 {
-    let ps = k.pairs;
     match a {
-        Aired::Refused => k,
-        Aired::Goes(rf, l) => moved_to(k, rf, listed_after(ps, l)),
-        Aired::Activates(rf, l) => moved_to(k, rf, listed_after(ps, l)),
-        Aired::Ends(rf) => moved_to(k, rf, ps),
-        Aired::Speaks => k,
+        Some(Aired::Goes(rf, l) | Aired::Activates(rf, l)) => Controller {
+            rf,
+            pairs: listed_after(k.pairs, l),
+            ..k
+        },
+        Some(Aired::Ends(rf)) => Controller { rf, ..k },
+        None | Some(Aired::Speaks) => k,
     }
 }
 
 // The connections after an event: connection 0 opens with an activation and closes with a deactivation.
-pub fn conns_aired(p: Profile, conns: [Counts; 5], a: Aired) -> [Counts; 5]
+#[tactic(auto, unfolding(crate::specs::Air::conns_aired))]
+pub fn conns_aired(p: Profile, conns: [Counts; 5], a: Option<Aired>) -> [Counts; 5]
     ensures { result ≡ conns_aired p conns a }
 {
     match a {
-        Aired::Refused => conns,
-        Aired::Goes(_, _) => conns,
-        Aired::Activates(_, _) => controller_opened_at(conns, 0, terms_of(p, 0)),
-        Aired::Ends(_) => controller_closed_at(conns, 0),
-        Aired::Speaks => conns,
+        Some(Aired::Activates(_, _)) => controller_opened_at(conns, 0, terms_of(p, 0)),
+        Some(Aired::Ends(_)) => controller_closed_at(conns, 0),
+        None | Some(Aired::Goes(_, _) | Aired::Speaks) => conns,
     }
 }
 
 // The endpoint's message after an event, n being the octets of the one that it brings: connection 0 opens and closes with
 // none in hand.
-pub fn endpoint_aired(h: Hand, a: Aired, n: usize) -> Hand
+#[tactic(auto, unfolding(crate::specs::Air::endpoint_aired))]
+pub fn endpoint_aired(h: Hand, a: Option<Aired>, n: usize) -> Hand
     ensures { result ≡ endpoint_aired h a n }
 {
     match a {
-        Aired::Refused => h,
-        Aired::Goes(_, _) => h,
-        Aired::Activates(_, _) => empty_hand(),
-        Aired::Ends(_) => empty_hand(),
-        Aired::Speaks => hand_with(n),
+        None | Some(Aired::Goes(_, _)) => h,
+        Some(Aired::Activates(_, _) | Aired::Ends(_)) => empty_hand(),
+        Some(Aired::Speaks) => hand_with(n),
     }
 }

@@ -1,8 +1,9 @@
 // The air (document 01, "The air"): the octets of an event, whether the state takes it, and its notification. What it does is in effects.
-ghost use Rattle.std.specs.Prelude.{◌≡◌, ◌+◌, ◌≤◌, length, drop};
+ghost use Rattle.std.specs.Prelude.{◌≡◌, ◌+◌, ◌≤◌, ◌&&◌, length, get_or, leb, drop, Some, None};
 ghost use Rattle.octets.specs.Octets.{pick};
 ghost use Rattle.state.specs.Names.{gid_rf, oid_discover, oid_activated};
 ghost use Rattle.state.specs.Conn.{terms_of};
+ghost use Rattle.state.specs.Radio.{id_ok};
 ghost use Rattle.state.specs.Runs.{control_limit};
 ghost use Rattle.messages.specs.Layout.{Put, discover_ntf, activated_ntf};
 ghost use Rattle.air.specs.Air.{target_of, found_in, poll_in, listen_in, event_of, kind_of, no_room, found_to, found_by, poll_by, listen_by, failed_by, aired_by, is_refused, air_message};
@@ -39,10 +40,9 @@ pub enum Listing {
     Adds(Pair),
 }
 
-// What an event does. Goes: to a state. Activates: connection 0 opens. Ends: it closes. Speaks: the endpoint has a message.
+// What an event does where the state takes it. Goes: to a state. Activates: connection 0 opens. Ends: it closes. Speaks: the endpoint has a message.
 #[derive(Clone, Copy)]
 pub enum Aired {
-    Refused,
     Goes(Rf, Listing),
     Activates(Rf, Listing),
     Ends(Rf),
@@ -72,38 +72,26 @@ fn found_in(m: &[u8]) -> Option<Event>
     ok.then_some(Event::Found(a, kind))
 }
 
-// Kind 2: ID, protocol, mode, and up to 32 parameter octets.
-#[tactic(auto, using(crate::proofs::Picked::some_picked), unfolding(crate::specs::Air::poll_in))]
-fn poll_in(m: &[u8]) -> Option<Event>
-    ensures { result ≡ poll_in m.now }
+// Kinds 2 and 3: ID, protocol, a mode of the kind, and up to 32 parameter octets.
+fn active_in(m: &[u8], in_mode: bool, e: Event) -> Option<Event>
+    ensures { result ≡ pick (leb 4 (length m.now) && leb (length m.now) 36 && id_ok (get_or m.now 1 0) && in_mode) (Some e) None }
 {
     let n = m.len();
-    let a = target_of(m);
-    let ok = (4 <= n) & (n <= 36) & id_ok(a.id) & polls(a.mode);
-    ok.then_some(Event::Poll(a))
-}
-
-// Kind 3: the same with a listening mode.
-#[tactic(auto, using(crate::proofs::Picked::some_picked), unfolding(crate::specs::Air::listen_in))]
-fn listen_in(m: &[u8]) -> Option<Event>
-    ensures { result ≡ listen_in m.now }
-{
-    let n = m.len();
-    let a = target_of(m);
-    let ok = (4 <= n) & (n <= 36) & id_ok(a.id) & listens(a.mode);
-    ok.then_some(Event::Listen(a))
+    let ok = (4 <= n) & (n <= 36) & id_ok(octets::octet_at(m, 1)) & in_mode;
+    ok.then_some(e)
 }
 
 // The event that the octets are, the kind first.
-#[tactic(auto, using(crate::proofs::Picked::some_picked), unfolding(crate::specs::Air::event_of))]
+#[tactic(auto, using(crate::proofs::Picked::some_picked), unfolding(crate::specs::Air::event_of, crate::specs::Air::poll_in, crate::specs::Air::listen_in))]
 pub fn event_of(m: &[u8]) -> Option<Event>
     ensures { result ≡ event_of m.now }
 {
     let n = m.len();
+    let a = target_of(m);
     match octets::octet_at(m, 0) {
         1 => found_in(m),
-        2 => poll_in(m),
-        3 => listen_in(m),
+        2 => active_in(m, polls(a.mode), Event::Poll(a)),
+        3 => active_in(m, listens(a.mode), Event::Listen(a)),
         4 => (n == 1).then_some(Event::Failed),
         5 => (n == 1).then_some(Event::Sleeps),
         6 => (n == 1).then_some(Event::LinkLost),
@@ -130,13 +118,6 @@ pub fn kind_of(e: Option<Event>) -> u8
     }
 }
 
-// What an event does where the state takes it, and Refused elsewhere.
-fn taken(ok: bool, a: Aired) -> Aired
-    ensures { result ≡ pick ok a Aired.Refused }
-{
-    if ok { a } else { Aired::Refused }
-}
-
 // A repeated pair, an eighth with type 2, or a list with no place left.
 fn no_room(ps: Pairs, p: Pair, kind: u8) -> bool
     ensures { result ≡ no_room ps p kind }
@@ -157,127 +138,83 @@ fn found_to(kind: u8) -> Rf
     }
 }
 
-// A target is found, in W4_ALL_DISCOVERIES.
-fn found_more(ps: Pairs, p: Pair, kind: u8) -> Aired
-    ensures { result ≡ pick (no_room ps p kind) Aired.Refused (Aired.Goes (found_to kind) (Listing.Adds p)) }
-{
-    let full = no_room(ps, p, kind);
-    let rf = found_to(kind);
-    if full {
-        Aired::Refused
-    } else {
-        Aired::Goes(rf, Listing::Adds(p))
-    }
-}
-
 // A target is found.
-fn found_by(rf: Rf, ps: Pairs, a: Activation, kind: u8) -> Aired
+#[tactic(auto, unfolding(crate::specs::Air::found_by))]
+fn found_by(rf: Rf, ps: Pairs, a: Activation, kind: u8) -> Option<Aired>
     ensures { result ≡ found_by rf ps a kind }
 {
     let p = pair_of(a);
     match rf {
-        Rf::Idle => Aired::Refused,
-        Rf::Discovery => {
-            if kind == names::MORE_FOLLOW {
-                Aired::Goes(Rf::W4AllDiscoveries, Listing::Starts(p))
-            } else {
-                Aired::Refused
-            }
-        }
-        Rf::W4AllDiscoveries => found_more(ps, p, kind),
-        Rf::W4HostSelect(_) => Aired::Refused,
-        Rf::PollActive(_) => Aired::Refused,
-        Rf::ListenActive(_) => Aired::Refused,
-        Rf::ListenSleep => Aired::Refused,
+        Rf::Discovery if kind == names::MORE_FOLLOW => Some(Aired::Goes(
+            Rf::W4AllDiscoveries,
+            Listing::Starts(p),
+        )),
+        Rf::W4AllDiscoveries if !no_room(ps, p, kind) => Some(Aired::Goes(
+            found_to(kind),
+            Listing::Adds(p),
+        )),
+        _ => None,
     }
 }
 
 // A poll activation; from W4_HOST_SELECT it is that of the selection.
-fn poll_by(rf: Rf, a: Activation) -> Aired
+#[tactic(auto, unfolding(crate::specs::Air::poll_by))]
+fn poll_by(rf: Rf, a: Activation) -> Option<Aired>
     ensures { result ≡ poll_by rf a }
 {
     let p = pair_of(a);
     match rf {
-        Rf::Idle => Aired::Refused,
-        Rf::Discovery => Aired::Activates(Rf::PollActive(a), Listing::Starts(p)),
-        Rf::W4AllDiscoveries => Aired::Refused,
-        Rf::W4HostSelect(s) => match s {
-            None => Aired::Refused,
-            Some(q) => taken(
-                same_pair(q, p),
-                Aired::Activates(Rf::PollActive(a), Listing::Keeps),
-            ),
-        },
-        Rf::PollActive(_) => Aired::Refused,
-        Rf::ListenActive(_) => Aired::Refused,
-        Rf::ListenSleep => Aired::Refused,
+        Rf::Discovery => Some(Aired::Activates(Rf::PollActive(a), Listing::Starts(p))),
+        Rf::W4HostSelect(Some(q)) if same_pair(q, p) => Some(Aired::Activates(
+            Rf::PollActive(a),
+            Listing::Keeps,
+        )),
+        _ => None,
     }
 }
 
 // A listen activation.
-fn listen_by(rf: Rf, a: Activation) -> Aired
+#[tactic(auto, unfolding(crate::specs::Air::listen_by))]
+fn listen_by(rf: Rf, a: Activation) -> Option<Aired>
     ensures { result ≡ listen_by rf a }
 {
     match rf {
-        Rf::Idle => Aired::Refused,
-        Rf::Discovery => Aired::Activates(Rf::ListenActive(a), Listing::Keeps),
-        Rf::W4AllDiscoveries => Aired::Refused,
-        Rf::W4HostSelect(_) => Aired::Refused,
-        Rf::PollActive(_) => Aired::Refused,
-        Rf::ListenActive(_) => Aired::Refused,
-        Rf::ListenSleep => Aired::Activates(Rf::ListenActive(a), Listing::Keeps),
+        Rf::Discovery | Rf::ListenSleep => Some(Aired::Activates(
+            Rf::ListenActive(a),
+            Listing::Keeps,
+        )),
+        _ => None,
     }
 }
 
 // The selected target failed: the selection ends.
-fn failed_by(rf: Rf) -> Aired
+#[tactic(auto, unfolding(crate::specs::Air::failed_by))]
+fn failed_by(rf: Rf) -> Option<Aired>
     ensures { result ≡ failed_by rf }
 {
     match rf {
-        Rf::Idle => Aired::Refused,
-        Rf::Discovery => Aired::Refused,
-        Rf::W4AllDiscoveries => Aired::Refused,
-        Rf::W4HostSelect(s) => match s {
-            None => Aired::Refused,
-            Some(_) => Aired::Goes(Rf::W4HostSelect(None), Listing::Keeps),
-        },
-        Rf::PollActive(_) => Aired::Refused,
-        Rf::ListenActive(_) => Aired::Refused,
-        Rf::ListenSleep => Aired::Refused,
+        Rf::W4HostSelect(Some(_)) => Some(Aired::Goes(
+            Rf::W4HostSelect(None),
+            Listing::Keeps,
+        )),
+        _ => None,
     }
 }
 
-// What an event does in an RF state with these pairs found.
-#[tactic(auto, unfolding(crate::specs::Air::aired_by))]
-pub fn judge_event(rf: Rf, ps: Pairs, e: Option<Event>) -> Aired
+// What an event does in an RF state with these pairs found, where the state takes it.
+#[tactic(auto, using(crate::proofs::Picked::some_picked), unfolding(crate::specs::Air::aired_by))]
+pub fn judge_event(rf: Rf, ps: Pairs, e: Option<Event>) -> Option<Aired>
     ensures { result ≡ aired_by rf ps e }
 {
-    match e {
-        None => Aired::Refused,
-        Some(Event::Found(a, kind)) => found_by(rf, ps, a, kind),
-        Some(Event::Poll(a)) => poll_by(rf, a),
-        Some(Event::Listen(a)) => listen_by(rf, a),
-        Some(Event::Failed) => failed_by(rf),
-        Some(Event::Sleeps) => taken(is_listening(rf), Aired::Ends(Rf::ListenSleep)),
-        Some(Event::LinkLost) => taken(
-            is_listening(rf) | is_asleep(rf),
-            Aired::Ends(Rf::Discovery),
-        ),
-        Some(Event::Releases) => taken(is_listening(rf), Aired::Ends(Rf::Discovery)),
-        Some(Event::Endpoint) => taken(is_active(rf), Aired::Speaks),
-    }
-}
-
-// Whether the state does not take the event.
-pub fn is_refused(a: Aired) -> bool
-    ensures { result ≡ is_refused a }
-{
-    match a {
-        Aired::Refused => true,
-        Aired::Goes(_, _) => false,
-        Aired::Activates(_, _) => false,
-        Aired::Ends(_) => false,
-        Aired::Speaks => false,
+    match e? {
+        Event::Found(a, kind) => found_by(rf, ps, a, kind),
+        Event::Poll(a) => poll_by(rf, a),
+        Event::Listen(a) => listen_by(rf, a),
+        Event::Failed => failed_by(rf),
+        Event::Sleeps => is_listening(rf).then_some(Aired::Ends(Rf::ListenSleep)),
+        Event::LinkLost => (is_listening(rf) | is_asleep(rf)).then_some(Aired::Ends(Rf::Discovery)),
+        Event::Releases => is_listening(rf).then_some(Aired::Ends(Rf::Discovery)),
+        Event::Endpoint => is_active(rf).then_some(Aired::Speaks),
     }
 }
 

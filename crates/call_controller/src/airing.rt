@@ -13,6 +13,7 @@ ghost use Rattle.calls.specs.Outcome.{Lowest};
 ghost use Rattle.calls.specs.calls.Air.{speaks, aired_record, aired_slot, aired_area, aired_word, Airable};
 
 use air::events;
+use air::events::Event;
 use area::{map, movers, ring};
 use ends::event;
 use octets::choose;
@@ -22,6 +23,7 @@ use state::kinds::{Profile, Record};
 use state::runs::CONTROL_LIMIT;
 
 // The number for which an event is not taken, 0 for none: the first of the model's rules, whatever the area's octets are.
+#[tactic(auto, using(calls::proofs::Air::air_tests_law), unfolding(calls::specs::Outcome::lowest))]
 pub fn refusal(r: Record, m: &[u8]) -> u8
     ensures { Lowest (λ a. air_rules m.now (view a r)) result }
 {
@@ -34,7 +36,7 @@ pub fn refusal(r: Record, m: &[u8]) -> u8
     let e = events::event_of(m);
     let kind = events::kind_of(e);
     let aired = events::judge_event(rf, controller.pairs, e);
-    let refused = events::is_refused(aired);
+    let refused = aired.is_none();
     let activates = (kind == 2) | (kind == 3);
     let fourteen = choose(activates & ((down != 0) | (up != 0)), 14, 0);
     let eleven = choose(refused, 11, fourteen);
@@ -47,9 +49,7 @@ pub fn refusal(r: Record, m: &[u8]) -> u8
 fn spoken_in(m: &[u8]) -> bool
     ensures { result ≡ speaks m.now }
 {
-    let e = events::event_of(m);
-    let kind = events::kind_of(e);
-    kind == 8
+    matches!(events::event_of(m), Some(Event::Endpoint))
 }
 
 // The record after an event.

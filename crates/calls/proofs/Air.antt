@@ -1,5 +1,6 @@
 -- air: the tests of its rules on numbers, what is known where none applies, and that it is the model's air.
 -- Assumes nothing.
+use Rattle.std.specs.Prelude.{Option}
 use Prim.Native.Nat.{◌≤◌}
 use native.Mathlib.Omega.{arith}
 use mathlib.Core.Path.{◌≡◌, refl, sym, ap, ◌∙◌, subst}
@@ -90,7 +91,7 @@ air_facts r m f t =
 -- ---- an event that is taken
 
 module _ (a out : Octets) (r : Record) (m : Octets) (s : Sound a r) (small : Small r) (o : Octal m) (p : Airable r m) where
-  abbrev x : Aired
+  abbrev x : Option Aired
   x = aired_in r.ends (event_of m)
 
   abbrev message : Message

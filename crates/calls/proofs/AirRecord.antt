@@ -1,5 +1,6 @@
 -- The record after an event of the air was met: it is one that row 1 lets pass, of octets, and stands for what the model makes of the event.
 -- Assumes nothing.
+use Rattle.std.specs.Prelude.{Option, Some, None}
 use Prim.Native.Nat.{ℕ, ◌-◌, ◌<◌}
 use native.Mathlib.Omega.{arith}
 use mathlib.Core.Path.{◌≡◌, refl, sym, ◌∙◌, subst}
@@ -11,7 +12,7 @@ use Rattle.octets.specs.Octets.{Octets, splice}
 use Rattle.octets.specs.Octal.{Octal}
 use Rattle.calls.specs.Kinds.{Hand, Record, Controller, Pairs, Terms, Listing, Aired}
 use Rattle.calls.specs.Kinds.listing.{Keeps, Starts, Adds}
-use Rattle.calls.specs.Kinds.aired.{Refused, Goes, Activates, Ends, Speaks}
+use Rattle.calls.specs.Kinds.aired.{Goes, Activates, Ends, Speaks}
 use Rattle.state.specs.Conn.{place_of, terms_of, counts_of, hand_with}
 use Rattle.state.proofs.Chains.{on}
 use Rattle.state.proofs.SmallVerdicts.{SmallTerms}
@@ -46,34 +47,34 @@ use Rattle.calls.proofs.ControllerChange.{changed_fit, SmallChange, changed_smal
 -- ---- what an event does to a connection
 
 -- what it opens has the profile's terms
-change_small : (t : Terms) (x : Aired) → SmallTerms t → (d : ℕ) → SmallChange (change_aired t x d)
-change_small t Refused s d = tt
-change_small t (Goes rf l) s d = tt
-change_small t (Activates rf l) s d = on SmallChange (eqb 0 d) (λ _. s.credits) (λ _. tt)
-change_small t (Ends rf) s d = on SmallChange (eqb 0 d) (λ _. tt) (λ _. tt)
-change_small t Speaks s d = tt
+change_small : (t : Terms) (x : Option Aired) → SmallTerms t → (d : ℕ) → SmallChange (change_aired t x d)
+change_small t None s d = tt
+change_small t (Some (Goes rf l)) s d = tt
+change_small t (Some (Activates rf l)) s d = on SmallChange (eqb 0 d) (λ _. s.credits) (λ _. tt)
+change_small t (Some (Ends rf)) s d = on SmallChange (eqb 0 d) (λ _. tt) (λ _. tt)
+change_small t (Some Speaks) s d = tt
 
 -- it opens connection 0, which has a place
 abbrev Leaves : Change → Type 0
 Leaves x = at_controller x closed_controller ≡ closed_controller
 
-none_opens : (t : Terms) (x : Aired) (d : ℕ) → (place_of d < places → ⊥) → Leaves (change_aired t x d)
+none_opens : (t : Terms) (x : Option Aired) (d : ℕ) → (place_of d < places → ⊥) → Leaves (change_aired t x d)
 unfolding place_of
-none_opens t Refused d h = refl
-none_opens t (Goes rf l) d h = refl
-none_opens t (Activates rf l) d h =
+none_opens t None d h = refl
+none_opens t (Some (Goes rf l)) d h = refl
+none_opens t (Some (Activates rf l)) d h =
     on Leaves (eqb 0 d) (λ e. absurd (h (subst (λ (c : ℕ). place_of c < places) (eqb-true 0 d e) (omega arith)))) (λ _. refl)
-none_opens t (Ends rf) d h = on Leaves (eqb 0 d) (λ _. refl) (λ _. refl)
-none_opens t Speaks d h = refl
+none_opens t (Some (Ends rf)) d h = on Leaves (eqb 0 d) (λ _. refl) (λ _. refl)
+none_opens t (Some Speaks) d h = refl
 
 -- ---- the endpoint's message in hand
 
-spoken_fit : (m : Octets) (x : Aired) (h : Hand) → Spoken (event_of m) x → FitHand h → FitHand (spoken_by x (length m - 1) h)
-spoken_fit m Refused h w f = f
-spoken_fit m (Goes rf l) h w f = f
-spoken_fit m (Activates rf l) h w f = f
-spoken_fit m (Ends rf) h w f = f
-spoken_fit m Speaks h w f = record { len = omega (arith, spoken_short m w, length-drop 1 m); at = omega arith }
+spoken_fit : (m : Octets) (x : Option Aired) (h : Hand) → Spoken (event_of m) x → FitHand h → FitHand (spoken_by x (length m - 1) h)
+spoken_fit m None h w f = f
+spoken_fit m (Some (Goes rf l)) h w f = f
+spoken_fit m (Some (Activates rf l)) h w f = f
+spoken_fit m (Some (Ends rf)) h w f = f
+spoken_fit m (Some Speaks) h w f = record { len = omega (arith, spoken_short m w, length-drop 1 m); at = omega arith }
 
 -- ---- the controller's own octets
 
@@ -82,13 +83,13 @@ listed_octal ps Keeps n s o = o
 listed_octal ps (Starts p) n s o = started_octal p s
 listed_octal ps (Adds p) n s o = added_octal ps p n s o
 
-aired_controller : (k : Controller) (x : Aired) → length k.pairs.list ≡ pairs_room → SmallAired x → SmallController k → SmallController (controller_aired k x)
+aired_controller : (k : Controller) (x : Option Aired) → length k.pairs.list ≡ pairs_room → SmallAired x → SmallController k → SmallController (controller_aired k x)
 unfolding controller_aired
-aired_controller k Refused n s o = o
-aired_controller k (Goes rf l) n s o = record { given = o.given; rf = rf_octal rf s.0; pairs = listed_octal k.pairs l n s.1 o.pairs }
-aired_controller k (Activates rf l) n s o = record { given = o.given; rf = rf_octal rf s.0; pairs = listed_octal k.pairs l n s.1 o.pairs }
-aired_controller k (Ends rf) n s o = record { given = o.given; rf = rf_octal rf s; pairs = o.pairs }
-aired_controller k Speaks n s o = o
+aired_controller k None n s o = o
+aired_controller k (Some (Goes rf l)) n s o = record { given = o.given; rf = rf_octal rf s.0; pairs = listed_octal k.pairs l n s.1 o.pairs }
+aired_controller k (Some (Activates rf l)) n s o = record { given = o.given; rf = rf_octal rf s.0; pairs = listed_octal k.pairs l n s.1 o.pairs }
+aired_controller k (Some (Ends rf)) n s o = record { given = o.given; rf = rf_octal rf s; pairs = o.pairs }
+aired_controller k (Some Speaks) n s o = o
 
 -- ---- the record after an event m was met
 
@@ -96,7 +97,7 @@ abbrev pub met_record : Record → Octets → Record
 met_record r m = with_ends (met r.ends m).next r
 
 module _ (a : Octets) (r : Record) (s : Sound a r) (small : Small r) (m : Octets) (o : Octal m) where
-  abbrev x : Aired
+  abbrev x : Option Aired
   x = aired_in r.ends (event_of m)
 
   abbrev t : Terms
@@ -166,17 +167,17 @@ module _ (a : Octets) (r : Record) (s : Sound a r) (small : Small r) (m : Octets
 -- ---- what it stands for
 
 -- both ends after the event, in the model
-abbrev pub stands : Octets → Record → Octets → Aired → bench.State
+abbrev pub stands : Octets → Record → Octets → Option Aired → bench.State
 stands a r m x =
     bench.with_controller_state (controller_aired r.ends.controller x)
     (bench.with_conns (aired_conns (terms_of r.ends.profile 0) x m (view a r).conns) (view a r))
 
 module _ (a : Octets) (r : Record) (s : Sound a r) (m : Octets) where
-  abbrev after : Aired → Record
+  abbrev after : Option Aired → Record
   after x = with_ends (ends_aired r.ends x (length m - 1)) r
 
   -- the message in hand follows connection 0 where the endpoint does not speak
-  changed : (x : Aired) → endpoint_aired r.ends.endpoint x (length m - 1) ≡ endpoint_by (change_aired (terms_of r.ends.profile 0) x 0) r.ends.endpoint
+  changed : (x : Option Aired) → endpoint_aired r.ends.endpoint x (length m - 1) ≡ endpoint_by (change_aired (terms_of r.ends.profile 0) x 0) r.ends.endpoint
       → view a (after x)
       ≡ bench.with_controller_state (controller_aired r.ends.controller x)
       (bench.with_conns (λ d. with_controller (at_controller (change_aired (terms_of r.ends.profile 0) x d) ((view a r).conns d).controller) ((view a r).conns d)) (view a r))
@@ -190,21 +191,21 @@ module _ (a : Octets) (r : Record) (s : Sound a r) (m : Octets) where
       λ i. bench.with_controller_state (controller_aired r.ends.controller x) (all i)
 
   -- an event that is notified
-  pub told_view : (x : Aired) → is_refused x ≡ false → Spoken (event_of m) x → eqb (kind_of (event_of m)) 8 ≡ false → view a (after x) ≡ stands a r m x
+  pub told_view : (x : Option Aired) → is_refused x ≡ false → Spoken (event_of m) x → eqb (kind_of (event_of m)) 8 ≡ false → view a (after x) ≡ stands a r m x
   unfolding endpoint_aired
-  told_view Refused t w k = absurd (false≢true (sym t))
-  told_view (Goes rf l) t w k = changed (Goes rf l) refl
-  told_view (Activates rf l) t w k = changed (Activates rf l) refl
-  told_view (Ends rf) t w k = changed (Ends rf) refl
-  told_view Speaks t w k = absurd (false≢true (sym k ∙ w))
+  told_view None t w k = absurd (false≢true (sym t))
+  told_view (Some (Goes rf l)) t w k = changed (Some (Goes rf l)) refl
+  told_view (Some (Activates rf l)) t w k = changed (Some (Activates rf l)) refl
+  told_view (Some (Ends rf)) t w k = changed (Some (Ends rf)) refl
+  told_view (Some Speaks) t w k = absurd (false≢true (sym k ∙ w))
 
   -- the endpoint's message, in its place
-  pub spoken_view : (x : Aired) → is_refused x ≡ false → Spoken (event_of m) x → eqb (kind_of (event_of m)) 8 ≡ true → view (splice a endpoint_at (drop 1 m)) (after x) ≡ stands a r m x
+  pub spoken_view : (x : Option Aired) → is_refused x ≡ false → Spoken (event_of m) x → eqb (kind_of (event_of m)) 8 ≡ true → view (splice a endpoint_at (drop 1 m)) (after x) ≡ stands a r m x
   unfolding controller_aired conns_aired endpoint_aired
-  spoken_view Refused t w k = absurd (false≢true (sym t))
-  spoken_view (Goes rf l) t w k = absurd (false≢true (sym w ∙ k))
-  spoken_view (Activates rf l) t w k = absurd (false≢true (sym w ∙ k))
-  spoken_view (Ends rf) t w k = absurd (false≢true (sym w ∙ k))
-  spoken_view Speaks t w k =
+  spoken_view None t w k = absurd (false≢true (sym t))
+  spoken_view (Some (Goes rf l)) t w k = absurd (false≢true (sym w ∙ k))
+  spoken_view (Some (Activates rf l)) t w k = absurd (false≢true (sym w ∙ k))
+  spoken_view (Some (Ends rf)) t w k = absurd (false≢true (sym w ∙ k))
+  spoken_view (Some Speaks) t w k =
       (λ i. view (splice a endpoint_at (drop 1 m)) (with_endpoint (hand_with (sym (length-drop 1 m) i)) r))
       ∙ (moves a r s).put_endpoint (drop 1 m) (spoken_short m k)

@@ -1,6 +1,7 @@
 -- The array of connections changes as each connection does: after a verdict, an event of the air, what the host heard, and a credit notice.
 -- Of an ID that no connection has, `past_five` of state: it has the counts of a closed one before and after.
 -- Assumes nothing.
+use Rattle.std.specs.Prelude.{Option, Some, None}
 use Prim.Native.Nat.{ℕ, ◌+◌, ◌%◌, ◌<◌, ◌≤◌}
 use native.Mathlib.Omega.{arith}
 use mathlib.Core.Path.{◌≡◌, refl, sym, ◌∙◌}
@@ -12,7 +13,7 @@ use borrow.Author.Tests.{eqb-true}
 use Rattle.octets.specs.Octets.{Octets, pick}
 use Rattle.ends.specs.Kinds.{Terms, Profile, Hand, HostSide, ControllerSide, Counts, Verdict, Aired, Heard}
 use Rattle.ends.specs.Kinds.verdict as verdict
-use Rattle.ends.specs.Kinds.aired.{Refused, Goes, Activates, Ends, Speaks}
+use Rattle.ends.specs.Kinds.aired.{Goes, Activates, Ends, Speaks}
 use Rattle.ends.specs.Kinds.answer.{Done, ClosesAll, Sized, Opens, Closes}
 use Rattle.ends.specs.Kinds.heard.{Nothing, Dropped, Answered, Activated, Deactivated, Credits}
 use Rattle.state.specs.Conn.{place_of, terms_of, flows, credit_sum, counts_of, empty, closed_controller, opened_controller, closed_host, opened_host, noticed_side, all_noticed}
@@ -89,13 +90,13 @@ module _ (conns : List Counts) (d : ℕ) (five : length conns ≡ 5) (one : plac
 
   -- ---- after an event of the air
 
-  pub counts_aired : (p : Profile) (a : Aired) → counts_of (conns_aired p conns a) d ≡ counts_at_controller (change_aired (terms_of p 0) a d) (counts_of conns d)
+  pub counts_aired : (p : Profile) (a : Option Aired) → counts_of (conns_aired p conns a) d ≡ counts_at_controller (change_aired (terms_of p 0) a d) (counts_of conns d)
   unfolding conns_aired
-  counts_aired p Refused = refl
-  counts_aired p (Goes rf l) = refl
-  counts_aired p (Activates rf l) = opens_controller 0 (terms_of p 0)
-  counts_aired p (Ends rf) = closes_controller 0
-  counts_aired p Speaks = refl
+  counts_aired p None = refl
+  counts_aired p (Some (Goes rf l)) = refl
+  counts_aired p (Some (Activates rf l)) = opens_controller 0 (terms_of p 0)
+  counts_aired p (Some (Ends rf)) = closes_controller 0
+  counts_aired p (Some Speaks) = refl
 
   -- ---- after what the host heard; the credits held are an octet
 
@@ -135,13 +136,13 @@ length_after conns (verdict.Deactivates type rf) = length_one (with_controller c
 length_after conns verdict.SetsConfig = refl
 length_after conns verdict.GetsConfig = refl
 
-pub length_aired : (p : Profile) (conns : List Counts) (a : Aired) → length (conns_aired p conns a) ≡ length conns
+pub length_aired : (p : Profile) (conns : List Counts) (a : Option Aired) → length (conns_aired p conns a) ≡ length conns
 unfolding conns_aired
-length_aired p conns Refused = refl
-length_aired p conns (Goes rf l) = refl
-length_aired p conns (Activates rf l) = length_one (with_controller (opened_controller (terms_of p 0))) conns 0
-length_aired p conns (Ends rf) = length_one (with_controller closed_controller) conns 0
-length_aired p conns Speaks = refl
+length_aired p conns None = refl
+length_aired p conns (Some (Goes rf l)) = refl
+length_aired p conns (Some (Activates rf l)) = length_one (with_controller (opened_controller (terms_of p 0))) conns 0
+length_aired p conns (Some (Ends rf)) = length_one (with_controller closed_controller) conns 0
+length_aired p conns (Some Speaks) = refl
 
 pub length_heard : (conns : List Counts) (m : Octets) (x : Heard) → length (conns_heard conns m x) ≡ length conns
 unfolding conns_heard
@@ -178,10 +179,10 @@ endpoint_after_law h (verdict.Deactivates type rf) = refl
 endpoint_after_law h verdict.SetsConfig = refl
 endpoint_after_law h verdict.GetsConfig = refl
 
-pub endpoint_aired_law : (t : Terms) (h : Hand) (a : Aired) (n : ℕ) → endpoint_aired h a n ≡ spoken_by a n (endpoint_by (change_aired t a 0) h)
+pub endpoint_aired_law : (t : Terms) (h : Hand) (a : Option Aired) (n : ℕ) → endpoint_aired h a n ≡ spoken_by a n (endpoint_by (change_aired t a 0) h)
 unfolding endpoint_aired
-endpoint_aired_law t h Refused n = refl
-endpoint_aired_law t h (Goes rf l) n = refl
-endpoint_aired_law t h (Activates rf l) n = refl
-endpoint_aired_law t h (Ends rf) n = refl
-endpoint_aired_law t h Speaks n = refl
+endpoint_aired_law t h None n = refl
+endpoint_aired_law t h (Some (Goes rf l)) n = refl
+endpoint_aired_law t h (Some (Activates rf l)) n = refl
+endpoint_aired_law t h (Some (Ends rf)) n = refl
+endpoint_aired_law t h (Some Speaks) n = refl

@@ -1,10 +1,10 @@
 -- What opens and closes a connection at either end, what gives it credits, and its counts after it.
 -- Assumes nothing.
-use Rattle.std.specs.Prelude.{ℕ, eqb}
+use Rattle.std.specs.Prelude.{ℕ, eqb, Option, Some, None}
 use Rattle.octets.specs.Octets.{Octets, pick}
 use Rattle.ends.specs.Kinds.{Terms, Hand, HostSide, ControllerSide, Counts, Verdict, Aired, Answer, Heard}
 use Rattle.ends.specs.Kinds.verdict as verdict
-use Rattle.ends.specs.Kinds.aired.{Refused, Goes, Activates, Ends, Speaks}
+use Rattle.ends.specs.Kinds.aired.{Goes, Activates, Ends, Speaks}
 use Rattle.ends.specs.Kinds.answer.{Done, ClosesAll, Sized, Opens, Closes}
 use Rattle.ends.specs.Kinds.heard.{Nothing, Dropped, Answered, Activated, Deactivated, Credits}
 use Rattle.state.specs.Conn.{empty, hand_with, closed_host, opened_host, closed_controller, opened_controller}
@@ -33,12 +33,12 @@ change_by verdict.SetsConfig d = stays
 change_by verdict.GetsConfig d = stays
 
 -- at the controller, by an event of the air: an activation opens connection 0 with the profile's terms
-abbrev pub change_aired : Terms → Aired → ℕ → Change
-change_aired t Refused d = stays
-change_aired t (Goes rf l) d = stays
-change_aired t (Activates rf l) d = pick (eqb 0 d) (opens t) stays
-change_aired t (Ends rf) d = pick (eqb 0 d) closes stays
-change_aired t Speaks d = stays
+abbrev pub change_aired : Terms → Option Aired → ℕ → Change
+change_aired t None d = stays
+change_aired t (Some (Goes rf l)) d = stays
+change_aired t (Some (Activates rf l)) d = pick (eqb 0 d) (opens t) stays
+change_aired t (Some (Ends rf)) d = pick (eqb 0 d) closes stays
+change_aired t (Some Speaks) d = stays
 
 -- at the host, by what it heard
 abbrev pub change_answered : Answer → ℕ → Change
@@ -95,9 +95,9 @@ endpoint_by closes h = empty
 endpoint_by (gives n) h = h
 
 -- and what the endpoint says, n octets
-abbrev pub spoken_by : Aired → ℕ → Hand → Hand
-spoken_by Refused n h = h
-spoken_by (Goes rf l) n h = h
-spoken_by (Activates rf l) n h = h
-spoken_by (Ends rf) n h = h
-spoken_by Speaks n h = hand_with n
+abbrev pub spoken_by : Option Aired → ℕ → Hand → Hand
+spoken_by None n h = h
+spoken_by (Some (Goes rf l)) n h = h
+spoken_by (Some (Activates rf l)) n h = h
+spoken_by (Some (Ends rf)) n h = h
+spoken_by (Some Speaks) n h = hand_with n

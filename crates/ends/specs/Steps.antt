@@ -63,7 +63,7 @@ heeded e mt gid oid m =
 -- ---- an event of the air
 
 -- n octets of the endpoint's message
-abbrev pub ends_aired : Ends → Aired → ℕ → Ends
+abbrev pub ends_aired : Ends → Option Aired → ℕ → Ends
 ends_aired e a n =
     record {
       profile = e.profile;
@@ -75,7 +75,7 @@ ends_aired e a n =
       conns = conns_aired e.profile e.conns a;
     }
 
-abbrev pub aired_in : Ends → Option Event → Aired
+abbrev pub aired_in : Ends → Option Event → Option Aired
 aired_in e x = aired_by e.controller.rf e.controller.pairs x
 
 -- the message is what follows the octet for the kind

@@ -10,7 +10,7 @@ use state::kinds::Ends;
 #[derive(Clone, Copy)]
 pub struct Met {
     pub event: Option<Event>,
-    pub aired: Aired,
+    pub aired: Option<Aired>,
     pub next: Ends,
 }
 
@@ -18,20 +18,13 @@ pub struct Met {
 pub fn meet(e: Ends, m: &[u8]) -> Met
     ensures { result ≡ met e m.now }
 {
-    let conns = e.conns;
-    let controller = e.controller;
-    let rf = controller.rf;
-    let x = events::event_of(m);
-    let a = events::judge_event(rf, controller.pairs, x);
-    let after = effects::conns_aired(e.profile, conns, a);
-    let spoken = if m.len() == 0 { 0 } else { m.len() - 1 };
-    let mut next = e;
-    next.controller = effects::controller_aired(controller, a);
-    next.endpoint = effects::endpoint_aired(e.endpoint, a, spoken);
-    next.conns = after;
-    Met {
-        event: x,
-        aired: a,
-        next: next,
-    }
+    let event = events::event_of(m);
+    let aired = events::judge_event(e.controller.rf, e.controller.pairs, event);
+    let next = Ends {
+        controller: effects::controller_aired(e.controller, aired),
+        endpoint: effects::endpoint_aired(e.endpoint, aired, m.len().saturating_sub(1)),
+        conns: effects::conns_aired(e.profile, e.conns, aired),
+        ..e
+    };
+    Met { event, aired, next }
 }

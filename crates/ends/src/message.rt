@@ -18,18 +18,15 @@ pub struct Heeded {
 pub fn heed(e: Ends, mt: u8, gid: u8, oid: u8, m: &[u8]) -> Heeded
     ensures { result ≡ heeded e mt gid oid m.now }
 {
-    let conns = e.conns;
-    let host = e.host;
-    let pending = host.pending;
-    let x = host::hear(pending, mt, gid, oid, m);
-    let dropped = host::drop_heard(conns, m, x);
-    let after = host::conns_heard(conns, m, x);
-    let mut next = e;
-    next.host = host::host_after(host, x);
-    next.conns = after;
+    let heard = host::hear(e.host.pending, mt, gid, oid, m);
+    let next = Ends {
+        host: host::host_after(e.host, heard),
+        conns: host::conns_heard(e.conns, m, heard),
+        ..e
+    };
     Heeded {
-        heard: x,
-        dropped: dropped,
-        next: next,
+        heard,
+        dropped: host::drop_heard(e.conns, m, heard),
+        next,
     }
 }

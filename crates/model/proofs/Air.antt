@@ -13,7 +13,7 @@ use Rattle.octets.specs.Octets.{Octets, pick}
 use Rattle.packets.specs.Segments.{segments}
 use Rattle.model.specs.Kinds.{Terms, Profile, Pairs, Rf, Controller, Event, Aired}
 use Rattle.model.specs.Kinds.event.{Found, Poll, Listen, Failed, Sleeps, LinkLost, Releases, Endpoint}
-use Rattle.model.specs.Kinds.aired.{Refused, Goes, Activates, Ends, Speaks}
+use Rattle.model.specs.Kinds.aired.{Goes, Activates, Ends, Speaks}
 use Rattle.state.specs.Conn.{place_of, terms_of}
 use Rattle.state.specs.Radio.{is_active, is_listening, is_asleep}
 use Rattle.state.specs.Runs.{data_limit}
@@ -61,12 +61,12 @@ is_endpoint e = eqb (kind_of e) 8
 -- ---- an event and what it does
 
 -- only an activation opens, only kind 8 speaks
-abbrev pub Suits : Option Event → Aired → Type 0
-Suits e Refused = Unit {0}
-Suits e (Goes rf l) = is_endpoint e ≡ false
-Suits e (Activates rf l) = (is_endpoint e ≡ false) × (activates e ≡ true)
-Suits e (Ends rf) = is_endpoint e ≡ false
-Suits e Speaks = is_endpoint e ≡ true
+abbrev pub Suits : Option Event → Option Aired → Type 0
+Suits e None = Unit {0}
+Suits e (Some (Goes rf l)) = is_endpoint e ≡ false
+Suits e (Some (Activates rf l)) = (is_endpoint e ≡ false) × (activates e ≡ true)
+Suits e (Some (Ends rf)) = is_endpoint e ≡ false
+Suits e (Some Speaks) = is_endpoint e ≡ true
 
 pub aired_suits : (rf : Rf) (ps : Pairs) (e : Option Event) → Suits e (aired_by rf ps e)
 unfolding aired_by
@@ -128,32 +128,32 @@ endpoint_message p m (Some LinkLost) n = clash n refl
 endpoint_message p m (Some Releases) n = clash n refl
 endpoint_message p m (Some Endpoint) n = refl
 
-aired_plain : (t : Terms) (a : Aired) (d : ℕ) → Plain (change_aired t a d)
-aired_plain t Refused d = tt
-aired_plain t (Goes rf l) d = tt
-aired_plain t (Activates rf l) d = on Plain (eqb 0 d) (λ e. tt) (λ e. tt)
-aired_plain t (Ends rf) d = on Plain (eqb 0 d) (λ e. tt) (λ e. tt)
-aired_plain t Speaks d = tt
+aired_plain : (t : Terms) (a : Option Aired) (d : ℕ) → Plain (change_aired t a d)
+aired_plain t None d = tt
+aired_plain t (Some (Goes rf l)) d = tt
+aired_plain t (Some (Activates rf l)) d = on Plain (eqb 0 d) (λ e. tt) (λ e. tt)
+aired_plain t (Some (Ends rf)) d = on Plain (eqb 0 d) (λ e. tt) (λ e. tt)
+aired_plain t (Some Speaks) d = tt
 
 -- an event says nothing of the dynamic connections
-aired_dynamic : (t : Terms) (a : Aired) (d : ℕ) → eqb 0 d ≡ false → change_aired t a d ≡ stays
-aired_dynamic t Refused d z = refl
-aired_dynamic t (Goes rf l) d z = refl
-aired_dynamic t (Activates rf l) d z = rw z
-aired_dynamic t (Ends rf) d z = rw z
-aired_dynamic t Speaks d z = refl
+aired_dynamic : (t : Terms) (a : Option Aired) (d : ℕ) → eqb 0 d ≡ false → change_aired t a d ≡ stays
+aired_dynamic t None d z = refl
+aired_dynamic t (Some (Goes rf l)) d z = refl
+aired_dynamic t (Some (Activates rf l)) d z = rw z
+aired_dynamic t (Some (Ends rf)) d z = rw z
+aired_dynamic t (Some Speaks) d z = refl
 
-pub aired_ok : (p : Profile) (a : Aired) (d : ℕ) → ChangeOk p d (change_aired (terms_of p 0) a d)
+pub aired_ok : (p : Profile) (a : Option Aired) (d : ℕ) → ChangeOk p d (change_aired (terms_of p 0) a d)
 unfolding place_of
-aired_ok p Refused d = tt
-aired_ok p (Goes rf l) d = tt
-aired_ok p (Activates rf l) d = each 0 (λ d b. ChangeOk p d (pick b (opens (terms_of p 0)) stays)) (refl, refl) (λ d. tt) d
-aired_ok p (Ends rf) d = on (ChangeOk p d) (eqb 0 d) (λ e. tt) (λ e. tt)
-aired_ok p Speaks d = tt
+aired_ok p None d = tt
+aired_ok p (Some (Goes rf l)) d = tt
+aired_ok p (Some (Activates rf l)) d = each 0 (λ d b. ChangeOk p d (pick b (opens (terms_of p 0)) stays)) (refl, refl) (λ d. tt) d
+aired_ok p (Some (Ends rf)) d = on (ChangeOk p d) (eqb 0 d) (λ e. tt) (λ e. tt)
+aired_ok p (Some Speaks) d = tt
 
 -- ---- an event that opens or closes connection 0, or neither
 
-module _ (s : State) (aim : ℕ) (l : ℕ → Ledger) (ps : List Octets) (a : Aired) (k : Controller)
+module _ (s : State) (aim : ℕ) (l : ℕ → Ledger) (ps : List Octets) (a : Option Aired) (k : Controller)
     (items : (d : ℕ) → items_of aim d ps ≡ items_by (change_aired (terms_of s.profile 0) a d)) (notes : Notices ps) (sound : Sound ps)
     (may : (d : ℕ) → MayPut (s.conns d) (segs_of d s.down) (items_of aim d s.up) (items_by (change_aired (terms_of s.profile 0) a d)))
     (there : is_active k.rf ≡ (at_controller (change_aired (terms_of s.profile 0) a 0) (s.conns 0).controller).opened)
@@ -223,7 +223,7 @@ module _ (s : State) (aim : ℕ) (l : ℕ → Ledger) (m : Octets) (f : Fine s a
   abbrev e : Option Event
   e = event_of m
 
-  abbrev Aims : Aired → Type 0
+  abbrev Aims : Option Aired → Type 0
   Aims a = Kept (airing_as e a m s).next (puts_up (notice_packets (air_message s.profile e m)) (record { down = s.down; up = s.up; aim = aim; ledger = aired_l m l; stray = [] }))
 
   -- where an activation comes, both wires are empty and connection 0 is closed
@@ -250,30 +250,30 @@ module _ (s : State) (aim : ℕ) (l : ℕ → Ledger) (m : Octets) (f : Fine s a
       → Kept n (puts_up ps (record { down = s.down; up = s.up; aim = aim; ledger = aired_l m l; stray = [] }))
   other b n ps h = rw (kind_other m e (event_within m) b n) h
 
-  items : (a : Aired) → airing s m ≡ a → is_refused a ≡ false → (d : ℕ)
+  items : (a : Option Aired) → airing s m ≡ a → is_refused a ≡ false → (d : ℕ)
       → items_of aim d (notice_packets (air_message s.profile e m)) ≡ items_by (change_aired (terms_of s.profile 0) a d)
   items a q r d = rw (← q) (items_aired s.profile f.limits aim d s.controller.rf s.controller.pairs m e (event_within m) (rw q r))
 
-  aims : (a : Aired) → airing s m ≡ a → is_bad e ≡ false → is_refused a ≡ false → AirLegal s.controller.rf a → Suits e a
+  aims : (a : Option Aired) → airing s m ≡ a → is_bad e ≡ false → is_refused a ≡ false → AirLegal s.controller.rf a → Suits e a
       → (is_endpoint e && not (is_nil (s.conns 0).controller.speech)) ≡ false
       → (activates e && (not (is_nil s.down) || not (is_nil s.up))) ≡ false
       → Aims a
   unfolding controller_aired aired_next change
-  aims Refused q b r g t i h = clash refl r
-  aims (Goes rf ls) q b r g t i h =
+  aims None q b r g t i h = clash refl r
+  aims (Some (Goes rf ls)) q b r g t i h =
       other b t (notice_packets (air_message s.profile e m))
-      (aired_keeps s aim l (notice_packets (air_message s.profile e m)) (Goes rf ls) (controller_aired s.controller (Goes rf ls))
-      (items (Goes rf ls) q r) (notices_air s.profile e m) (air_sound s.profile m e (event_within m)) (λ d. tt) (g.1 ∙ sym g.0 ∙ f.standing.air) f)
-  aims (Activates rf ls) q b r g t i h =
+      (aired_keeps s aim l (notice_packets (air_message s.profile e m)) (Some (Goes rf ls)) (controller_aired s.controller (Some (Goes rf ls)))
+      (items (Some (Goes rf ls)) q r) (notices_air s.profile e m) (air_sound s.profile m e (event_within m)) (λ d. tt) (g.1 ∙ sym g.0 ∙ f.standing.air) f)
+  aims (Some (Activates rf ls)) q b r g t i h =
       other b t.0 (notice_packets (air_message s.profile e m))
-      (aired_keeps s aim l (notice_packets (air_message s.profile e m)) (Activates rf ls) (controller_aired s.controller (Activates rf ls))
-      (items (Activates rf ls) q r) (notices_air s.profile e m) (air_sound s.profile m e (event_within m)) (opens_may g.0 (empty_wires t.1 h) (terms_of s.profile 0)) g.1 f)
-  aims (Ends rf) q b r g t i h =
+      (aired_keeps s aim l (notice_packets (air_message s.profile e m)) (Some (Activates rf ls)) (controller_aired s.controller (Some (Activates rf ls)))
+      (items (Some (Activates rf ls)) q r) (notices_air s.profile e m) (air_sound s.profile m e (event_within m)) (opens_may g.0 (empty_wires t.1 h) (terms_of s.profile 0)) g.1 f)
+  aims (Some (Ends rf)) q b r g t i h =
       other b t (notice_packets (air_message s.profile e m))
-      (aired_keeps s aim l (notice_packets (air_message s.profile e m)) (Ends rf) (controller_aired s.controller (Ends rf))
-      (items (Ends rf) q r) (notices_air s.profile e m) (air_sound s.profile m e (event_within m))
+      (aired_keeps s aim l (notice_packets (air_message s.profile e m)) (Some (Ends rf)) (controller_aired s.controller (Some (Ends rf)))
+      (items (Some (Ends rf)) q r) (notices_air s.profile e m) (air_sound s.profile m e (event_within m))
       (λ d. on (λ (c : Change). MayPut (s.conns d) (segs_of d s.down) (items_of aim d s.up) (items_by c)) (eqb 0 d) (λ y. tt) (λ y. tt)) g f)
-  aims Speaks q b r g t i h =
+  aims (Some Speaks) q b r g t i h =
       let eight = kind_eight m e (event_within m) t in
       let silent : (s.conns 0).controller.speech ≡ [] = nil_of _ (not-false _ (rw t at i)) in
       rw (endpoint_message s.profile m e t, eight.0) (speaks_keeps s aim l (drop 1 m) eight.1 g silent f)

@@ -1,5 +1,6 @@
 -- What a response discards from hand was taken before its command: each call keeps the diary's invariant, and the claim follows from it.
 -- Assumes nothing.
+use Rattle.std.specs.Prelude.{Option, Some, None}
 use Prim.Native.Nat.{ℕ, ◌+◌, ◌<◌}
 use native.Mathlib.Omega.{arith}
 use mathlib.Core.Path.{◌≡◌, refl, sym, ap, ◌∙◌, subst}
@@ -14,7 +15,7 @@ use Rattle.octets.specs.Octets.{Octets, pick}
 use Rattle.packets.specs.Segments.{Segment, more, last, segments}
 use Rattle.model.specs.Kinds.{Profile, Asked, Heard, Aired}
 use Rattle.model.specs.Kinds.heard.{Answered}
-use Rattle.model.specs.Kinds.aired.{Refused, Goes, Activates, Ends, Speaks}
+use Rattle.model.specs.Kinds.aired.{Goes, Activates, Ends, Speaks}
 use Rattle.state.specs.Conn.{flows, terms_of}
 use Rattle.state.specs.Profile.{profile_in, profile_octets_ok}
 use Rattle.dh.specs.Contents.{written}
@@ -126,12 +127,12 @@ consume_aside c [] s = (refl, λ d. refl)
 consume_aside c (p ∷ st) s =
     (refl, host_kept c (λ k. with_controller (echoed (is_loop c) (joined_end (segment_in (meaning p)) st k.controller)) k) s.conns (λ k. refl))
 
-air_hosts : (s : State) (a : Aired) (m : Octets) (d : ℕ) → (aired_conns (terms_of s.profile 0) a m s.conns d).host ≡ (s.conns d).host
-air_hosts s Refused m d = refl
-air_hosts s (Goes rf l) m d = refl
-air_hosts s (Activates rf l) m d = refl
-air_hosts s (Ends rf) m d = refl
-air_hosts s Speaks m d = host_kept 0 (λ k. with_controller (spoken (segments 255 (drop 1 m)) k.controller) k) s.conns (λ k. refl) d
+air_hosts : (s : State) (a : Option Aired) (m : Octets) (d : ℕ) → (aired_conns (terms_of s.profile 0) a m s.conns d).host ≡ (s.conns d).host
+air_hosts s None m d = refl
+air_hosts s (Some (Goes rf l)) m d = refl
+air_hosts s (Some (Activates rf l)) m d = refl
+air_hosts s (Some (Ends rf)) m d = refl
+air_hosts s (Some Speaks) m d = host_kept 0 (λ k. with_controller (spoken (segments 255 (drop 1 m)) k.controller) k) s.conns (λ k. refl) d
 
 reply_aside : (ss : List Segment) (s : State) → Aside s (replying ss s)
 reply_aside [] s = (refl, λ d. refl)

@@ -16,7 +16,6 @@ use Rattle.packets.specs.Segments.{last}
 use Rattle.model.specs.Kinds.{Terms, Profile, Activation, Pairs, Rf, Controller, Verdict, Event, Aired, Answer, Heard}
 use Rattle.model.specs.Kinds.verdict as verdict
 use Rattle.model.specs.Kinds.event.{Found, Poll, Listen, Failed, Sleeps, LinkLost, Releases, Endpoint}
-use Rattle.model.specs.Kinds.aired.{Refused}
 use Rattle.model.specs.Kinds.answer.{Done, ClosesAll, Sized, Opens, Closes}
 use Rattle.model.specs.Kinds.heard.{Nothing, Answered, Activated, Deactivated, Credits}
 use Rattle.state.specs.Conn.{place_of, conn_of, terms_of}
@@ -225,10 +224,10 @@ notice_one gid oid x l = rw (eqb-suc-zero (length l))
 
 module _ (p : Profile) (limits : ProfileWithin p) (aim d : ℕ) where
   -- the packets w say what an event does, unless it is refused
-  abbrev Heeded : List Octets → Aired → Type 0
+  abbrev Heeded : List Octets → Option Aired → Type 0
   Heeded w a = is_refused a ≡ false → items_of aim d w ≡ items_by (change_aired (terms_of p 0) a d)
 
-  refuse : (w : List Octets) → Heeded w Refused
+  refuse : (w : List Octets) → Heeded w None
   refuse w e = absurd (true≢false e)
 
   -- an activation opens connection 0, and a deactivation closes it

@@ -1,5 +1,6 @@
 -- After every list of calls a loopback owes nothing: each call that is taken keeps it so.
 -- Assumes nothing.
+use Rattle.std.specs.Prelude.{Option, Some, None}
 use Prim.Native.Nat.{ℕ, ◌-◌, ◌%◌, ◌+◌}
 use mathlib.Core.Path.{◌≡◌, refl, ◌∙◌}
 use mathlib.Core.Bool.{Bool, true, false, ◌&&◌}
@@ -12,7 +13,7 @@ use Rattle.packets.specs.Segments.{Segment, segments}
 use Rattle.state.specs.Conn.{terms_of, flows, carriable}
 use Rattle.state.proofs.Chains.{on}
 use Rattle.model.specs.Kinds.{Profile, Aired}
-use Rattle.model.specs.Kinds.aired.{Refused, Goes, Activates, Ends, Speaks}
+use Rattle.model.specs.Kinds.aired.{Goes, Activates, Ends, Speaks}
 use Rattle.nfcc.specs.Controller.{judge_of}
 use Rattle.ends.specs.Changes.{Change, stays, opens, closes, gives, change_by, change_aired}
 use Rattle.model.specs.Connection.{ControllerEnd, Connection, with_host, with_controller, sent, pushed, heard_data, credited, stored, paid, spoken}
@@ -98,12 +99,12 @@ down_paid s (p ∷ w) h = arriving_paid (with_down w s) (meaning p) p h
 credit_paid : (s : State) → LoopbacksPaid s → LoopbacksPaid (act credit s).next
 credit_paid s h d l = on (λ (n : ℕ). n ≡ 0) ((s.conns d).controller.opened && flows (s.conns d).controller.grant) (λ _. refl) (λ _. h d l)
 
-air_paid : (s : State) (a : Aired) (m : Octets) → LoopbacksPaid s → PaidIn (aired_conns (terms_of s.profile 0) a m s.conns)
-air_paid s Refused m h = h
-air_paid s (Goes rf l) m h = h
-air_paid s (Activates rf l) m h = λ d o. change_paid (change_aired (terms_of s.profile 0) (Activates rf l) d) (s.conns d).controller (h d o)
-air_paid s (Ends rf) m h = λ d o. change_paid (change_aired (terms_of s.profile 0) (Ends rf) d) (s.conns d).controller (h d o)
-air_paid s Speaks m h = zero_paid (λ k. with_controller (spoken (segments 255 (drop 1 m)) k.controller) k) s.conns h
+air_paid : (s : State) (a : Option Aired) (m : Octets) → LoopbacksPaid s → PaidIn (aired_conns (terms_of s.profile 0) a m s.conns)
+air_paid s None m h = h
+air_paid s (Some (Goes rf l)) m h = h
+air_paid s (Some (Activates rf l)) m h = λ d o. change_paid (change_aired (terms_of s.profile 0) (Some (Activates rf l)) d) (s.conns d).controller (h d o)
+air_paid s (Some (Ends rf)) m h = λ d o. change_paid (change_aired (terms_of s.profile 0) (Some (Ends rf)) d) (s.conns d).controller (h d o)
+air_paid s (Some Speaks) m h = zero_paid (λ k. with_controller (spoken (segments 255 (drop 1 m)) k.controller) k) s.conns h
 
 reply_paid : (s : State) (ss : List Segment) → LoopbacksPaid s → LoopbacksPaid (replying ss s).next
 reply_paid s [] h = h

@@ -15,7 +15,7 @@ use Rattle.packets.specs.Segments.{Segment, more, last, segments, segment_packet
 use Rattle.packets.specs.Reassembly.{Run}
 use Rattle.model.specs.Kinds.{Profile, Host, Event, Aired, Heard}
 use Rattle.model.specs.Kinds.event.{Found, Poll, Listen, Failed, Sleeps, LinkLost, Releases, Endpoint}
-use Rattle.model.specs.Kinds.aired.{Refused, Goes, Activates, Ends, Speaks}
+use Rattle.model.specs.Kinds.aired.{Goes, Activates, Ends, Speaks}
 use Rattle.model.specs.Kinds.answer.{Done, ClosesAll, Sized, Opens, Closes}
 use Rattle.model.specs.Kinds.heard.{Nothing, Dropped, Answered, Activated, Deactivated, Credits}
 use Rattle.state.specs.Conn.{place_of, terms_of}
@@ -234,16 +234,16 @@ air_few p (Some Releases) o n h e = omega (arith, ltb-false 16 (n + 1) e, notice
 air_few p (Some Endpoint) o n h e = omega arith
 
 -- the connections after it
-air_conns : (s : State) (o : Octets) (e : Option Event) (a : Aired) → Within o e → Suits e a → Small s
+air_conns : (s : State) (o : Octets) (e : Option Event) (a : Option Aired) → Within o e → Suits e a → Small s
     → (d : ℕ) → ConnSmall s.profile d (aired_conns (terms_of s.profile 0) a o s.conns d)
 unfolding place_of
-air_conns s o e Refused w t m d = m.conns d
-air_conns s o e (Goes rf ls) w t m d = m.conns d
-air_conns s o e (Activates rf ls) w t m d =
-    change_controller d (pick (eqb 0 d) (opens (terms_of s.profile 0)) stays) (s.conns d) (aired_ok s.profile (Activates rf ls) d) (m.conns d)
-air_conns s o e (Ends rf) w t m d =
-    change_controller d (pick (eqb 0 d) closes stays) (s.conns d) (aired_ok s.profile (Ends rf) d) (m.conns d)
-air_conns s o e Speaks w t m d =
+air_conns s o e None w t m d = m.conns d
+air_conns s o e (Some (Goes rf ls)) w t m d = m.conns d
+air_conns s o e (Some (Activates rf ls)) w t m d =
+    change_controller d (pick (eqb 0 d) (opens (terms_of s.profile 0)) stays) (s.conns d) (aired_ok s.profile (Some (Activates rf ls)) d) (m.conns d)
+air_conns s o e (Some (Ends rf)) w t m d =
+    change_controller d (pick (eqb 0 d) closes stays) (s.conns d) (aired_ok s.profile (Some (Ends rf)) d) (m.conns d)
+air_conns s o e (Some Speaks) w t m d =
     at_small 0 (λ k. with_controller (spoken (segments 255 (drop 1 o)) k.controller) k) s.conns refl (m.conns 0).host
     (record {
       stored = (m.conns 0).controller.stored;

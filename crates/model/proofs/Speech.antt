@@ -1,5 +1,6 @@
 -- The endpoint's segments that are still to go are those counted from the calls: each call keeps it so.
 -- Assumes nothing.
+use Rattle.std.specs.Prelude.{Option, Some, None}
 use Prim.Native.Nat.{ℕ}
 use native.Mathlib.Omega.{arith}
 use mathlib.Core.Path.{◌≡◌, refl, sym, ap, ◌∙◌, subst}
@@ -20,7 +21,7 @@ use Rattle.ends.specs.Changes.{Change, stays, opens, closes, gives, change_by}
 use Rattle.wires.specs.Meaning.{Meaning, datum, control, junk, meaning}
 use Rattle.model.specs.Kinds.{Rf, Verdict, Aired}
 use Rattle.model.specs.Kinds.verdict as verdict
-use Rattle.model.specs.Kinds.aired.{Refused, Goes, Activates, Ends, Speaks}
+use Rattle.model.specs.Kinds.aired.{Goes, Activates, Ends, Speaks}
 use Rattle.model.specs.Connection.{ControllerEnd, Connection, with_host, with_controller, sent, pushed, heard_data, credited, stored}
 use Rattle.model.specs.State.{State, is_open, at, with_down, with_up, with_asking, with_hearing}
 use Rattle.model.specs.Effects.{Call, fresh, power, command, send, push, down, consume, credit, air, reply, up, report, Effect, Result, taken, refused}
@@ -157,14 +158,14 @@ module _ (s : State) (aim : ℕ) (l : ℕ → observer.Ledger) (f : Fine s aim l
       → (at_controller x (s.conns 0).controller).opened ≡ true → said_by (air m) n ≡ length (at_controller x (s.conns 0).controller).speech
   other x e a o = rw e (changed x (s.conns 0).controller n a (f.good 0).pipes.speech h o)
 
-  aired : (a : Aired) → is_bad (event_of m) ≡ false → is_refused a ≡ false → AirLegal s.controller.rf a → Suits (event_of m) a
+  aired : (a : Option Aired) → is_bad (event_of m) ≡ false → is_refused a ≡ false → AirLegal s.controller.rf a → Suits (event_of m) a
       → WhileOpen (airing_as (event_of m) a m s).next (said_by (air m) n)
-  aired Refused b r g u o = clash refl r
-  aired (Goes rf ls) b r g u o = other stays (kind_other m (event_of m) (event_within m) b u) tt o
-  aired (Activates rf ls) b r g u o =
+  aired None b r g u o = clash refl r
+  aired (Some (Goes rf ls)) b r g u o = other stays (kind_other m (event_of m) (event_within m) b u) tt o
+  aired (Some (Activates rf ls)) b r g u o =
       other (opens (terms_of s.profile 0)) (kind_other m (event_of m) (event_within m) b u.0) (sym f.standing.air ∙ g.0) o
-  aired (Ends rf) b r g u o = clash o refl
-  aired Speaks b r g u o = rw (kind_eight m (event_of m) (event_within m) u).0 refl
+  aired (Some (Ends rf)) b r g u o = clash o refl
+  aired (Some Speaks) b r g u o = rw (kind_eight m (event_of m) (event_within m) u).0 refl
 
   air_counted : WhileOpen (act (air m) s).next (said_by (air m) n)
   air_counted =

@@ -1,5 +1,6 @@
 -- Every packet on a wire is well formed: each call keeps it so.
 -- Assumes nothing.
+use Rattle.std.specs.Prelude.{Option, Some, None}
 use Prim.Native.Nat.{ℕ, ◌<◌}
 use native.Mathlib.Omega.{arith}
 use mathlib.Core.Path.{◌≡◌, refl}
@@ -16,7 +17,7 @@ use Rattle.packets.specs.Reassembly.{Fit}
 use Rattle.state.specs.Runs.{control_limit}
 use Rattle.model.specs.Kinds.{Profile, Verdict, Aired}
 use Rattle.model.specs.Kinds.way as way
-use Rattle.model.specs.Kinds.aired.{Refused, Goes, Activates, Ends, Speaks}
+use Rattle.model.specs.Kinds.aired.{Goes, Activates, Ends, Speaks}
 use Rattle.state.specs.Conn.{place_of, terms_of}
 use Rattle.state.specs.Profile.{profile_in, ProfileWithin}
 use Rattle.nfcc.specs.Controller.{judge_of}
@@ -213,12 +214,12 @@ reply_shaped s m = go (s.conns 0).controller.speech refl
 
 -- ---- air
 
-air_conns : (s : State) (o : Octets) (a : Aired) → Shaped s → (d : ℕ) → ConnShaped (aired_conns (terms_of s.profile 0) a o s.conns d)
-air_conns s o Refused m d = m.conns d
-air_conns s o (Goes rf ls) m d = m.conns d
-air_conns s o (Activates rf ls) m d = controller_shaped (change_aired (terms_of s.profile 0) (Activates rf ls) d) (s.conns d) (m.conns d)
-air_conns s o (Ends rf) m d = controller_shaped (change_aired (terms_of s.profile 0) (Ends rf) d) (s.conns d) (m.conns d)
-air_conns s o Speaks m d =
+air_conns : (s : State) (o : Octets) (a : Option Aired) → Shaped s → (d : ℕ) → ConnShaped (aired_conns (terms_of s.profile 0) a o s.conns d)
+air_conns s o None m d = m.conns d
+air_conns s o (Some (Goes rf ls)) m d = m.conns d
+air_conns s o (Some (Activates rf ls)) m d = controller_shaped (change_aired (terms_of s.profile 0) (Some (Activates rf ls)) d) (s.conns d) (m.conns d)
+air_conns s o (Some (Ends rf)) m d = controller_shaped (change_aired (terms_of s.profile 0) (Some (Ends rf)) d) (s.conns d) (m.conns d)
+air_conns s o (Some Speaks) m d =
     at_shaped 0 (λ k. with_controller (spoken (segments 255 (drop 1 o)) k.controller) k) s.conns
     (record { store = (m.conns 0).store; hand = (m.conns 0).hand; speech = short_segments 255 (drop 1 o) (omega arith) (omega arith) }) m.conns d
 

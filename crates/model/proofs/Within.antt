@@ -1,5 +1,6 @@
 -- On any bench, whether calls made it or not: a call that number 13 would not have refused leaves credits within the grants.
 -- Assumes nothing.
+use Rattle.std.specs.Prelude.{Option, Some, None}
 use Prim.Native.Nat.{ℕ, ◌+◌, ◌≤◌}
 use native.Mathlib.Omega.{arith}
 use mathlib.Core.Path.{◌≡◌, refl}
@@ -11,7 +12,7 @@ use borrow.Author.Tests.{leb-false, ltb-false}
 use Rattle.octets.specs.Octets.{Octets, pick}
 use Rattle.packets.specs.Segments.{Segment, segments}
 use Rattle.model.specs.Kinds.{Aired, Heard}
-use Rattle.model.specs.Kinds.aired.{Refused, Goes, Activates, Ends, Speaks}
+use Rattle.model.specs.Kinds.aired.{Goes, Activates, Ends, Speaks}
 use Rattle.state.specs.Conn.{place_of, terms_of, flows, credit_sum}
 use Rattle.state.proofs.Chains.{on, or_left, or_right}
 use Rattle.state.proofs.Places.{each_conn}
@@ -159,12 +160,12 @@ credit_within s h d five =
     let k = (s.conns d).controller in
     record { held = w.held; owed = on (λ (n : ℕ). n ≤ k.grant) (k.opened && flows k.grant) (λ _. omega arith) (λ _. w.owed) }
 
-air_within : (s : State) (a : Aired) (m : Octets) → WithinGrants s → GrantsIn (aired_conns (terms_of s.profile 0) a m s.conns)
-air_within s Refused m h = h
-air_within s (Goes rf l) m h = h
-air_within s (Activates rf l) m h = λ d five. controller_within (change_aired (terms_of s.profile 0) (Activates rf l) d) (s.conns d) (h d five)
-air_within s (Ends rf) m h = λ d five. controller_within (change_aired (terms_of s.profile 0) (Ends rf) d) (s.conns d) (h d five)
-air_within s Speaks m h =
+air_within : (s : State) (a : Option Aired) (m : Octets) → WithinGrants s → GrantsIn (aired_conns (terms_of s.profile 0) a m s.conns)
+air_within s None m h = h
+air_within s (Some (Goes rf l)) m h = h
+air_within s (Some (Activates rf l)) m h = λ d five. controller_within (change_aired (terms_of s.profile 0) (Some (Activates rf l)) d) (s.conns d) (h d five)
+air_within s (Some (Ends rf)) m h = λ d five. controller_within (change_aired (terms_of s.profile 0) (Some (Ends rf)) d) (s.conns d) (h d five)
+air_within s (Some Speaks) m h =
     at_within 0 (λ k. with_controller (spoken (segments 255 (drop 1 m)) k.controller) k) s.conns (λ w. record { held = w.held; owed = w.owed }) h
 
 reply_within : (s : State) (ss : List Segment) → WithinGrants s → WithinGrants (replying ss s).next
