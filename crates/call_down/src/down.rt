@@ -22,7 +22,7 @@ use octets::choose;
 use packets::{Header, Way};
 use record::{parameters, write};
 use state::kinds::{ControlRun, Record, Ring};
-use state::verdict::Verdict;
+use state::verdict::{Status, Verdict};
 use state::{conn, runs};
 
 // ---- what refuses it
@@ -200,7 +200,7 @@ fn put_answers(
 
 // The configuration after the verdict v on the command m, in place of the one before it. It goes through a local array, since it is
 // read and written.
-fn settle(area: &mut [u8], m: &[u8], v: Verdict)
+fn settle(area: &mut [u8], m: &[u8], v: Result<Verdict, Status>)
     requires { area_size ≤ length area.old }
     ensures { area.new ≡ configured area.old (config_by (config_octets area.old) m.now v) }
 {

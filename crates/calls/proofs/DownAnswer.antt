@@ -7,13 +7,15 @@ use mathlib.Core.Bool.{false}
 use mathlib.Core.List.{List, [], ◌∷◌, ◌++◌}
 use lib.ListN.{length, length-take}
 use lib.Dec.{eqb}
+use Rattle.std.specs.Prelude.{Ok}
 use Rattle.octets.specs.Octets.{Octets, cut, pick}
 use Rattle.octets.specs.Octal.{Octal}
 use Rattle.octets.proofs.Octets.{cut_same}
 use Rattle.packets.specs.Packet.{packet_of}
 use Rattle.packets.specs.Headers.{control_header}
-use Rattle.calls.specs.Kinds.{Header, Ends, Record, Verdict, Note, Answered}
+use Rattle.calls.specs.Kinds.{Header, Ends, Record, Note, Answered}
 use Rattle.calls.specs.Kinds.verdict as verdict
+use Rattle.state.specs.Judgement.{Judgement}
 use Rattle.state.specs.Runs.{control_limit}
 use Rattle.state.proofs.Chains.{on}
 use Rattle.nfcc.specs.Controller.{config_by}
@@ -85,7 +87,7 @@ pub answers_short : (e : Ends) (gid oid : ℕ) (b m : Octets) (r : Answered) (rs
     → Answers e gid oid b m (decided e gid oid m) r rsp ntf rsp' ntf'
     → (r.response.len ≤ control_size) × (r.notice.len ≤ control_size)
 answers_short e gid oid b m r rsp ntf rsp' ntf' few w =
-    let v : Verdict = verdict_of e gid oid m in (
+    let v : Judgement = verdict_of e gid oid m in (
       omega (arith, note_length rsp rsp' (response_message gid oid e.profile b m v) r.response w.response, response_short e.profile b m v (verdict_whole e gid oid m few)),
       omega (arith, note_length ntf ntf' (notice_message v) r.notice w.notice, notice_short v),
     )
@@ -107,7 +109,7 @@ answer_made t h m m' a b x y c r rsp ntf rsp' ntf' n w same few stored made lr l
     let old : Octets = config_octets a in
     let asks : Octets → Octets → Type 0 = λ l k. Answers t.ends h.id h.oid l k (decided t.ends h.id h.oid k) r rsp ntf rsp' ntf' in
     let told : asks old m = subst (λ (l : Octets). asks l m) stored (subst (asks b) same made) in
-    let v : Verdict = verdict_of t.ends h.id h.oid m in
+    let v : Judgement = verdict_of t.ends h.id h.oid m in
     let whole = verdict_whole t.ends h.id h.oid m few in
     let response : Message = response_message h.id h.oid t.ends.profile old m v in
     let ps : note_packets r.response rsp' r.notice ntf' ≡ answers_to t h old m v =
@@ -125,14 +127,14 @@ answer_made t h m m' a b x y c r rsp ntf rsp' ntf' n w same few stored made lr l
     λ out i. outcome (word i) (area i) out
 
 -- at most two, each of octets and short enough for a slot
-answers_few : (gid oid : ℕ) (t : Record) (b m : Octets) (v : Verdict) → length (answers gid oid t.ends.profile b m v) ≤ 2
+answers_few : (gid oid : ℕ) (t : Record) (b m : Octets) (v : Judgement) → length (answers gid oid t.ends.profile b m v) ≤ 2
 answers_few gid oid t b m v =
     on (λ (l : List Octets). length (response_packet (response_message gid oid t.ends.profile b m v) ∷ l) ≤ 2) (eqb (length (notice_message v).payload) 0) (λ _. omega arith) (λ _. omega arith)
 
 -- ---- the command is answered
 
 module _ (a out : Octets) (t : Record) (s : Sound a t) (small : Small t) (o : Octal a) (h : Header) (m : Octets) (om : Octal m) (fits : length m ≤ control_size) (two : t.up.count + 2 ≤ wire_slots) where
-  abbrev v : Verdict
+  abbrev v : Judgement
   v = verdict_of t.ends h.id h.oid m
 
   -- the configuration before the command, and after it
@@ -152,7 +154,7 @@ module _ (a out : Octets) (t : Record) (s : Sound a t) (small : Small t) (o : Oc
   few : length ps ≤ 2
   few = answers_few h.id h.oid t b m v
 
-  whole : v ≡ verdict.SetsConfig → param_at m (count_in m) ≤ control_limit
+  whole : v ≡ Ok verdict.SetsConfig → param_at m (count_in m) ≤ control_limit
   whole = verdict_whole t.ends h.id h.oid m fits
 
   b_long : length b ≡ config_size

@@ -7,14 +7,16 @@ use mathlib.Core.Path.{◌≡◌, refl, ◌∙◌}
 use mathlib.Core.List.{List, [], ◌∷◌}
 use lib.ListN.{length}
 use lib.Dec.{eqb}
+use Rattle.std.specs.Prelude.{Ok}
 use Rattle.octets.specs.Octets.{Octets, splice}
 use Rattle.octets.specs.Octal.{Octal}
 use Rattle.octets.proofs.Octets.{cut_after}
 use Rattle.octets.proofs.Octal.{octal_cut}
 use Rattle.packets.specs.Headers.{control_header}
 use Rattle.packets.proofs.Packet.{length_packet}
-use Rattle.calls.specs.Kinds.{Ring, Profile, Ends, Verdict}
+use Rattle.calls.specs.Kinds.{Ring, Profile, Ends}
 use Rattle.calls.specs.Kinds.verdict as verdict
+use Rattle.state.specs.Judgement.{Judgement}
 use Rattle.state.specs.Conn.{open_at}
 use Rattle.state.specs.Runs.{control_limit}
 use Rattle.state.proofs.Chains.{on}
@@ -37,14 +39,14 @@ use Rattle.model.specs.calls.Down.{answers}
 
 -- ---- the configuration after a verdict
 
-pub config_long : (b m : Octets) (v : Verdict) → length b ≡ config_size → length (config_by b m v) ≡ config_size
+pub config_long : (b m : Octets) (v : Judgement) → length b ≡ config_size → length (config_by b m v) ≡ config_size
 config_long b m v long = after_verdict (λ x. length x ≡ config_size) b m refl long (set_long b m (count_in m) ∙ long) v
 
 -- of an area too short there are fewer
-pub config_few : (b m : Octets) (v : Verdict) → length b ≤ config_size → length (config_by b m v) ≤ config_size
+pub config_few : (b m : Octets) (v : Judgement) → length b ≤ config_size → length (config_by b m v) ≤ config_size
 config_few b m v few = after_verdict (λ x. length x ≤ config_size) b m (omega arith) few (omega (arith, few, set_long b m (count_in m))) v
 
-pub config_octal : (b m : Octets) (v : Verdict) → Octal b → Octal m → Octal (config_by b m v)
+pub config_octal : (b m : Octets) (v : Judgement) → Octal b → Octal m → Octal (config_by b m v)
 config_octal b m v ob om = after_verdict Octal b m defaults_octal ob (set_first_octal ob om (count_in m)) v
 
 pub octal_config : {a : Octets} → Octal a → Octal (config_octets a)
@@ -53,11 +55,11 @@ octal_config o = octal_cut config_at config_size o
 
 -- ---- a set that is taken is whole, so its response fits
 
-pub verdict_whole : (e : Ends) (gid oid : ℕ) (m : Octets) → length m ≤ control_size → verdict_of e gid oid m ≡ verdict.SetsConfig → param_at m (count_in m) ≤ control_limit
+pub verdict_whole : (e : Ends) (gid oid : ℕ) (m : Octets) → length m ≤ control_size → verdict_of e gid oid m ≡ Ok verdict.SetsConfig → param_at m (count_in m) ≤ control_limit
 verdict_whole e gid oid m few is = omega (arith, few, judge_whole e.profile e.controller (open_at e.conns) gid oid m is)
 
 -- each packet of the answer has room in a slot
-pub answers_fit : (gid oid : ℕ) (p : Profile) (b m : Octets) (v : Verdict) → (v ≡ verdict.SetsConfig → param_at m (count_in m) ≤ control_limit)
+pub answers_fit : (gid oid : ℕ) (p : Profile) (b m : Octets) (v : Judgement) → (v ≡ Ok verdict.SetsConfig → param_at m (count_in m) ≤ control_limit)
     → Each (λ x. length x ≤ slot_size) (answers gid oid p b m v)
 answers_fit gid oid p b m v whole = (
   omega (arith, length_packet (control_header 2 gid oid) (response_of p b m v), response_short p b m v whole),

@@ -5,10 +5,12 @@ use native.Mathlib.Omega.{arith}
 use mathlib.Core.Path.{◌≡◌, refl, sym, ◌∙◌, subst}
 use lib.Dec.{eqb}
 use borrow.Author.Tests.{eqb-true}
+use Rattle.std.specs.Prelude.{Ok, Err}
 use Rattle.octets.specs.Octets.{Octets}
+use Rattle.state.specs.Judgement.{Judgement}
 use Rattle.state.specs.Commands.{aim_in}
 use Rattle.octets.specs.Octal.{Octal}
-use Rattle.calls.specs.Kinds.{Record, Verdict, Profile, Controller, Pairs, Rf}
+use Rattle.calls.specs.Kinds.{Record, Profile, Controller, Pairs, Rf}
 use Rattle.calls.specs.Kinds.verdict as verdict
 use Rattle.state.specs.Conn.{place_of, counts_of, open_at}
 use Rattle.state.specs.Radio.{is_idle}
@@ -39,36 +41,36 @@ use Rattle.calls.proofs.ControllerConns.{controllers_changed}
 
 -- ---- what a verdict does
 
-change_small : (v : Verdict) → SmallVerdict v → (d : ℕ) → SmallChange (change_by v d)
-change_small (verdict.Refuses status) s d = tt
-change_small (verdict.Resets type) s d = tt
-change_small verdict.Initialises s d = tt
-change_small (verdict.Opens c t) s d = on SmallChange (eqb c d) (λ _. s.1.credits) (λ _. tt)
-change_small (verdict.Closes c) s d = on SmallChange (eqb c d) (λ _. tt) (λ _. tt)
-change_small (verdict.Turns rf) s d = tt
-change_small (verdict.Selects pair) s d = tt
-change_small (verdict.Deactivates type rf) s d = on SmallChange (eqb 0 d) (λ _. tt) (λ _. tt)
-change_small verdict.SetsConfig s d = tt
-change_small verdict.GetsConfig s d = tt
+change_small : (v : Judgement) → SmallVerdict v → (d : ℕ) → SmallChange (change_by v d)
+change_small (Err status) s d = tt
+change_small (Ok (verdict.Resets type)) s d = tt
+change_small (Ok verdict.Initialises) s d = tt
+change_small (Ok (verdict.Opens c t)) s d = on SmallChange (eqb c d) (λ _. s.1.credits) (λ _. tt)
+change_small (Ok (verdict.Closes c)) s d = on SmallChange (eqb c d) (λ _. tt) (λ _. tt)
+change_small (Ok (verdict.Turns rf)) s d = tt
+change_small (Ok (verdict.Selects pair)) s d = tt
+change_small (Ok (verdict.Deactivates type rf)) s d = on SmallChange (eqb 0 d) (λ _. tt) (λ _. tt)
+change_small (Ok verdict.SetsConfig) s d = tt
+change_small (Ok verdict.GetsConfig) s d = tt
 
 -- what it opens is a connection that there is
 abbrev Leaves : Change → Type 0
 Leaves x = at_controller x closed_controller ≡ closed_controller
 
-none_opens : (gid oid aim : ℕ) (p : Profile) (v : Verdict) → Fits gid oid aim p v → (d : ℕ) → (place_of d < places → ⊥) → Leaves (change_by v d)
-none_opens gid oid aim p (verdict.Refuses status) f d h = refl
-none_opens gid oid aim p (verdict.Resets type) f d h = refl
-none_opens gid oid aim p verdict.Initialises f d h = refl
-none_opens gid oid aim p (verdict.Opens c t) f d h =
+none_opens : (gid oid aim : ℕ) (p : Profile) (v : Judgement) → Fits gid oid aim p v → (d : ℕ) → (place_of d < places → ⊥) → Leaves (change_by v d)
+none_opens gid oid aim p (Err status) f d h = refl
+none_opens gid oid aim p (Ok (verdict.Resets type)) f d h = refl
+none_opens gid oid aim p (Ok verdict.Initialises) f d h = refl
+none_opens gid oid aim p (Ok (verdict.Opens c t)) f d h =
     on Leaves (eqb c d)
     (λ e. absurd (h (subst (λ (x : ℕ). place_of x < places) (eqb-true c d e) (dynamic_place c f.2 f.3))))
     (λ _. refl)
-none_opens gid oid aim p (verdict.Closes c) f d h = on Leaves (eqb c d) (λ _. refl) (λ _. refl)
-none_opens gid oid aim p (verdict.Turns rf) f d h = refl
-none_opens gid oid aim p (verdict.Selects pair) f d h = refl
-none_opens gid oid aim p (verdict.Deactivates type rf) f d h = on Leaves (eqb 0 d) (λ _. refl) (λ _. refl)
-none_opens gid oid aim p verdict.SetsConfig f d h = refl
-none_opens gid oid aim p verdict.GetsConfig f d h = refl
+none_opens gid oid aim p (Ok (verdict.Closes c)) f d h = on Leaves (eqb c d) (λ _. refl) (λ _. refl)
+none_opens gid oid aim p (Ok (verdict.Turns rf)) f d h = refl
+none_opens gid oid aim p (Ok (verdict.Selects pair)) f d h = refl
+none_opens gid oid aim p (Ok (verdict.Deactivates type rf)) f d h = on Leaves (eqb 0 d) (λ _. refl) (λ _. refl)
+none_opens gid oid aim p (Ok verdict.SetsConfig) f d h = refl
+none_opens gid oid aim p (Ok verdict.GetsConfig) f d h = refl
 
 -- ---- the controller's own octets
 
@@ -76,23 +78,23 @@ turned_small : (k : Controller) (rf : Rf) → Octal (rf_octets rf) → SmallCont
 turned_small k rf o s =
     record { given = s.given; rf = o; pairs = on (λ (ps : Pairs). Octal (pairs_octets ps)) (is_idle rf) (λ _. none_octal) (λ _. s.pairs) }
 
-after_small : (k : Controller) (v : Verdict) → SmallVerdict v → SmallController k → SmallController (controller_after k v)
+after_small : (k : Controller) (v : Judgement) → SmallVerdict v → SmallController k → SmallController (controller_after k v)
 unfolding controller_after
-after_small k (verdict.Refuses status) w s = s
-after_small k (verdict.Resets type) w s = record { given = omega arith; rf = bare_octal _ tt; pairs = none_octal }
-after_small k verdict.Initialises w s = record { given = s.given; rf = s.rf; pairs = s.pairs }
-after_small k (verdict.Opens c t) w s = record { given = w.0; rf = s.rf; pairs = s.pairs }
-after_small k (verdict.Closes c) w s = s
-after_small k (verdict.Turns rf) w s = turned_small k rf (bare_octal rf w) s
-after_small k (verdict.Selects pair) w s = turned_small k _ (chosen_octal pair w.0 w.1) s
-after_small k (verdict.Deactivates type rf) w s = turned_small k rf (bare_octal rf w.1) s
-after_small k verdict.SetsConfig w s = s
-after_small k verdict.GetsConfig w s = s
+after_small k (Err status) w s = s
+after_small k (Ok (verdict.Resets type)) w s = record { given = omega arith; rf = bare_octal _ tt; pairs = none_octal }
+after_small k (Ok verdict.Initialises) w s = record { given = s.given; rf = s.rf; pairs = s.pairs }
+after_small k (Ok (verdict.Opens c t)) w s = record { given = w.0; rf = s.rf; pairs = s.pairs }
+after_small k (Ok (verdict.Closes c)) w s = s
+after_small k (Ok (verdict.Turns rf)) w s = turned_small k rf (bare_octal rf w) s
+after_small k (Ok (verdict.Selects pair)) w s = turned_small k _ (chosen_octal pair w.0 w.1) s
+after_small k (Ok (verdict.Deactivates type rf)) w s = turned_small k rf (bare_octal rf w.1) s
+after_small k (Ok verdict.SetsConfig) w s = s
+after_small k (Ok verdict.GetsConfig) w s = s
 
 -- ---- the record after a command m was decided
 
 module _ (a : Octets) (t : Record) (s : Sound a t) (small : Small t) (gid oid : ℕ) (m : Octets) (o : Octal m) where
-  abbrev v : Verdict
+  abbrev v : Judgement
   v = verdict_of t.ends gid oid m
 
   abbrev pub decided_record : Record

@@ -15,6 +15,7 @@ use Rattle.packets.specs.Segments.{Segment, body, flag, segment_at, segment_pack
 use Rattle.packets.specs.Headers.{control_header, data_header}
 use Rattle.packets.proofs.Packet.{length_packet, length_carrying}
 use Rattle.packets.proofs.Segments.{body_segment}
+use Rattle.state.specs.Judgement.{Judgement}
 use Rattle.state.specs.Conn.{place_of, open_at, carried_by}
 use Rattle.state.specs.Runs.{within}
 use Rattle.state.proofs.Chains.{and_right, or_right, on}
@@ -26,7 +27,7 @@ use Rattle.ends.specs.Steps.{verdict_of}
 use Rattle.air.specs.Air.{event_of, air_message}
 use Rattle.air.proofs.Room.{message_short}
 use Rattle.air.proofs.Spoken.{spoken_short}
-use Rattle.calls.specs.Kinds.{Ring, Progress, Record, Reading, Verdict, Header}
+use Rattle.calls.specs.Kinds.{Ring, Progress, Record, Reading, Header}
 use Rattle.std.specs.Prelude.{Some, None}
 use Rattle.state.proofs.Progress.{within_room}
 use Rattle.area.specs.Map.{area_size, record_at, slot_size, wire_slots, message_size, payload_size, control_size, up_at, down_at, hand_at, endpoint_at, asking_at, hearing_at}
@@ -219,7 +220,7 @@ down_leaves t slot (Some (h, n)) a out =
     m : Octets
     m = command_in ((asked_run t h n).base + n) x
 
-    v : Verdict
+    v : Judgement
     v = verdict_of (asked_record t h n).ends h.id h.oid m
 
     joins : Reaches a (asked_area t slot h n a)

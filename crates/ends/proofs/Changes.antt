@@ -10,12 +10,14 @@ use mathlib.Core.List.{List}
 use lib.ListN.{length}
 use lib.Dec.{eqb}
 use borrow.Author.Tests.{eqb-true}
+use Rattle.std.specs.Prelude.{Ok, Err}
 use Rattle.octets.specs.Octets.{Octets, pick}
-use Rattle.ends.specs.Kinds.{Terms, Profile, Hand, HostSide, ControllerSide, Counts, Verdict, Aired, Heard}
+use Rattle.ends.specs.Kinds.{Terms, Profile, Hand, HostSide, ControllerSide, Counts, Aired, Heard}
 use Rattle.ends.specs.Kinds.verdict as verdict
 use Rattle.ends.specs.Kinds.aired.{Goes, Activates, Ends, Speaks}
 use Rattle.ends.specs.Kinds.answer.{Done, ClosesAll, Sized, Opens, Closes}
 use Rattle.ends.specs.Kinds.heard.{Nothing, Dropped, Answered, Activated, Deactivated, Credits}
+use Rattle.state.specs.Judgement.{Judgement}
 use Rattle.state.specs.Conn.{place_of, terms_of, flows, credit_sum, counts_of, empty, closed_controller, opened_controller, closed_host, opened_host, noticed_side, all_noticed}
 use Rattle.state.proofs.Conns.{changed_at, length_one, length_all, one_at, all_at}
 use Rattle.nfcc.specs.Controller.{conns_after, endpoint_after}
@@ -75,18 +77,18 @@ module _ (conns : List Counts) (d : ℕ) (five : length conns ≡ 5) (one : plac
 
   -- ---- each connection after a verdict
 
-  pub counts_after : (v : Verdict) → counts_of (conns_after conns v) d ≡ counts_at_controller (change_by v d) (counts_of conns d)
+  pub counts_after : (v : Judgement) → counts_of (conns_after conns v) d ≡ counts_at_controller (change_by v d) (counts_of conns d)
   unfolding conns_after
-  counts_after (verdict.Refuses status) = refl
-  counts_after (verdict.Resets type) = all_at (with_controller closed_controller) conns d five one
-  counts_after verdict.Initialises = refl
-  counts_after (verdict.Opens c t) = opens_controller c t
-  counts_after (verdict.Closes c) = closes_controller c
-  counts_after (verdict.Turns rf) = refl
-  counts_after (verdict.Selects pair) = refl
-  counts_after (verdict.Deactivates type rf) = closes_controller 0
-  counts_after verdict.SetsConfig = refl
-  counts_after verdict.GetsConfig = refl
+  counts_after (Err status) = refl
+  counts_after (Ok (verdict.Resets type)) = all_at (with_controller closed_controller) conns d five one
+  counts_after (Ok verdict.Initialises) = refl
+  counts_after (Ok (verdict.Opens c t)) = opens_controller c t
+  counts_after (Ok (verdict.Closes c)) = closes_controller c
+  counts_after (Ok (verdict.Turns rf)) = refl
+  counts_after (Ok (verdict.Selects pair)) = refl
+  counts_after (Ok (verdict.Deactivates type rf)) = closes_controller 0
+  counts_after (Ok verdict.SetsConfig) = refl
+  counts_after (Ok verdict.GetsConfig) = refl
 
   -- ---- after an event of the air
 
@@ -123,18 +125,18 @@ module _ (conns : List Counts) (d : ℕ) (five : length conns ≡ 5) (one : plac
 
 -- ---- there are as many as before
 
-pub length_after : (conns : List Counts) (v : Verdict) → length (conns_after conns v) ≡ length conns
+pub length_after : (conns : List Counts) (v : Judgement) → length (conns_after conns v) ≡ length conns
 unfolding conns_after
-length_after conns (verdict.Refuses status) = refl
-length_after conns (verdict.Resets type) = length_all (with_controller closed_controller) conns
-length_after conns verdict.Initialises = refl
-length_after conns (verdict.Opens c t) = length_one (with_controller (opened_controller t)) conns c
-length_after conns (verdict.Closes c) = length_one (with_controller closed_controller) conns c
-length_after conns (verdict.Turns rf) = refl
-length_after conns (verdict.Selects pair) = refl
-length_after conns (verdict.Deactivates type rf) = length_one (with_controller closed_controller) conns 0
-length_after conns verdict.SetsConfig = refl
-length_after conns verdict.GetsConfig = refl
+length_after conns (Err status) = refl
+length_after conns (Ok (verdict.Resets type)) = length_all (with_controller closed_controller) conns
+length_after conns (Ok verdict.Initialises) = refl
+length_after conns (Ok (verdict.Opens c t)) = length_one (with_controller (opened_controller t)) conns c
+length_after conns (Ok (verdict.Closes c)) = length_one (with_controller closed_controller) conns c
+length_after conns (Ok (verdict.Turns rf)) = refl
+length_after conns (Ok (verdict.Selects pair)) = refl
+length_after conns (Ok (verdict.Deactivates type rf)) = length_one (with_controller closed_controller) conns 0
+length_after conns (Ok verdict.SetsConfig) = refl
+length_after conns (Ok verdict.GetsConfig) = refl
 
 pub length_aired : (p : Profile) (conns : List Counts) (a : Option Aired) → length (conns_aired p conns a) ≡ length conns
 unfolding conns_aired
@@ -166,18 +168,18 @@ empty_pick : (b : Bool) (x : Change) (h : Hand) → endpoint_by x h ≡ empty �
 empty_pick true x h e = sym e
 empty_pick false x h e = refl
 
-pub endpoint_after_law : (h : Hand) (v : Verdict) → endpoint_after h v ≡ endpoint_by (change_by v 0) h
+pub endpoint_after_law : (h : Hand) (v : Judgement) → endpoint_after h v ≡ endpoint_by (change_by v 0) h
 unfolding endpoint_after
-endpoint_after_law h (verdict.Refuses status) = refl
-endpoint_after_law h (verdict.Resets type) = refl
-endpoint_after_law h verdict.Initialises = refl
-endpoint_after_law h (verdict.Opens c t) = empty_pick (eqb c 0) (opens t) h refl
-endpoint_after_law h (verdict.Closes c) = empty_pick (eqb c 0) closes h refl
-endpoint_after_law h (verdict.Turns rf) = refl
-endpoint_after_law h (verdict.Selects pair) = refl
-endpoint_after_law h (verdict.Deactivates type rf) = refl
-endpoint_after_law h verdict.SetsConfig = refl
-endpoint_after_law h verdict.GetsConfig = refl
+endpoint_after_law h (Err status) = refl
+endpoint_after_law h (Ok (verdict.Resets type)) = refl
+endpoint_after_law h (Ok verdict.Initialises) = refl
+endpoint_after_law h (Ok (verdict.Opens c t)) = empty_pick (eqb c 0) (opens t) h refl
+endpoint_after_law h (Ok (verdict.Closes c)) = empty_pick (eqb c 0) closes h refl
+endpoint_after_law h (Ok (verdict.Turns rf)) = refl
+endpoint_after_law h (Ok (verdict.Selects pair)) = refl
+endpoint_after_law h (Ok (verdict.Deactivates type rf)) = refl
+endpoint_after_law h (Ok verdict.SetsConfig) = refl
+endpoint_after_law h (Ok verdict.GetsConfig) = refl
 
 pub endpoint_aired_law : (t : Terms) (h : Hand) (a : Option Aired) (n : ℕ) → endpoint_aired h a n ≡ spoken_by a n (endpoint_by (change_aired t a 0) h)
 unfolding endpoint_aired

@@ -1,12 +1,13 @@
 -- What opens and closes a connection at either end, what gives it credits, and its counts after it.
 -- Assumes nothing.
-use Rattle.std.specs.Prelude.{ℕ, eqb, Option, Some, None}
+use Rattle.std.specs.Prelude.{ℕ, eqb, Option, Some, None, Ok, Err}
 use Rattle.octets.specs.Octets.{Octets, pick}
-use Rattle.ends.specs.Kinds.{Terms, Hand, HostSide, ControllerSide, Counts, Verdict, Aired, Answer, Heard}
+use Rattle.ends.specs.Kinds.{Terms, Hand, HostSide, ControllerSide, Counts, Aired, Answer, Heard}
 use Rattle.ends.specs.Kinds.verdict as verdict
 use Rattle.ends.specs.Kinds.aired.{Goes, Activates, Ends, Speaks}
 use Rattle.ends.specs.Kinds.answer.{Done, ClosesAll, Sized, Opens, Closes}
 use Rattle.ends.specs.Kinds.heard.{Nothing, Dropped, Answered, Activated, Deactivated, Credits}
+use Rattle.state.specs.Judgement.{Judgement}
 use Rattle.state.specs.Conn.{empty, hand_with, closed_host, opened_host, closed_controller, opened_controller}
 use Rattle.dh.specs.Host.{credits_for, credited}
 
@@ -20,17 +21,17 @@ pub data Change : Type 0 where
 -- ---- what changes it
 
 -- at the controller, by its verdict on a command
-abbrev pub change_by : Verdict → ℕ → Change
-change_by (verdict.Refuses status) d = stays
-change_by (verdict.Resets type) d = closes
-change_by verdict.Initialises d = stays
-change_by (verdict.Opens c t) d = pick (eqb c d) (opens t) stays
-change_by (verdict.Closes c) d = pick (eqb c d) closes stays
-change_by (verdict.Turns rf) d = stays
-change_by (verdict.Selects pair) d = stays
-change_by (verdict.Deactivates type rf) d = pick (eqb 0 d) closes stays
-change_by verdict.SetsConfig d = stays
-change_by verdict.GetsConfig d = stays
+abbrev pub change_by : Judgement → ℕ → Change
+change_by (Err status) d = stays
+change_by (Ok (verdict.Resets type)) d = closes
+change_by (Ok verdict.Initialises) d = stays
+change_by (Ok (verdict.Opens c t)) d = pick (eqb c d) (opens t) stays
+change_by (Ok (verdict.Closes c)) d = pick (eqb c d) closes stays
+change_by (Ok (verdict.Turns rf)) d = stays
+change_by (Ok (verdict.Selects pair)) d = stays
+change_by (Ok (verdict.Deactivates type rf)) d = pick (eqb 0 d) closes stays
+change_by (Ok verdict.SetsConfig) d = stays
+change_by (Ok verdict.GetsConfig) d = stays
 
 -- at the controller, by an event of the air: an activation opens connection 0 with the profile's terms
 abbrev pub change_aired : Terms → Option Aired → ℕ → Change

@@ -2,7 +2,8 @@
 -- Assumes nothing.
 use Rattle.std.specs.Prelude.{ℕ, ◌-◌, ◌≡◌, length, Option}
 use Rattle.octets.specs.Octets.{Octets}
-use Rattle.ends.specs.Kinds.{Ends, Verdict, Event, Aired, Heard, Decision, Answered, Heeded, Met}
+use Rattle.ends.specs.Kinds.{Ends, Event, Aired, Heard, Decision, Answered, Heeded, Met}
+use Rattle.state.specs.Judgement.{Judgement}
 use Rattle.state.specs.Conn.{open_at, held_open}
 use Rattle.nfcc.specs.Controller.{judge_of, controller_after, conns_after, endpoint_after}
 use Rattle.messages.specs.Layout.{Put, response_message, notice_message}
@@ -11,7 +12,7 @@ use Rattle.dh.specs.Host.{hear_of, host_after, conns_heard, drop_heard}
 
 -- ---- the controller takes a command
 
-abbrev pub ends_after : Ends → Verdict → Ends
+abbrev pub ends_after : Ends → Judgement → Ends
 ends_after e v =
     record {
       profile = e.profile;
@@ -23,7 +24,7 @@ ends_after e v =
       conns = conns_after e.conns v;
     }
 
-abbrev pub verdict_of : Ends → ℕ → ℕ → Octets → Verdict
+abbrev pub verdict_of : Ends → ℕ → ℕ → Octets → Judgement
 verdict_of e gid oid m = judge_of e.profile e.controller (open_at e.conns) gid oid m
 
 abbrev pub decided : Ends → ℕ → ℕ → Octets → Decision

@@ -9,12 +9,12 @@ use messages::layout::Note;
 use nfcc::{controller, effects};
 use state::kinds::Ends;
 use state::runs::CONTROL_LIMIT;
-use state::verdict::Verdict;
+use state::verdict::{Status, Verdict};
 
 // The verdict on a command, and both ends' numbers after it.
 #[derive(Clone, Copy)]
 pub struct Decision {
-    pub verdict: Verdict,
+    pub verdict: Result<Verdict, Status>,
     pub next: Ends,
 }
 

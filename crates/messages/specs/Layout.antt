@@ -1,15 +1,15 @@
 -- The octets of every message that the controller sends (document 01, "What the controller answers" and "The air"; 003's tables as named).
 -- Assumes nothing.
-use Rattle.std.specs.Prelude.{ℕ, suc, ◌+◌, ◌≡◌, List, [], ◌∷◌, ◌++◌, map, length, eqb}
+use Rattle.std.specs.Prelude.{ℕ, suc, ◌+◌, ◌≡◌, List, [], ◌∷◌, ◌++◌, map, length, eqb, Ok, Err}
 use Rattle.octets.specs.Octets.{Octets, pick, splice}
+use Rattle.state.specs.Judgement.{Judgement, octet_of}
 use Rattle.state.specs.Names.{gid_core, gid_rf, oid_reset, oid_conn_credits, oid_deactivate, status_ok, frame_interface, host_request, activation_failed}
 use Rattle.state.specs.declared.kinds.Terms.{Terms}
 use Rattle.state.specs.declared.kinds.Profile.{Profile}
 use Rattle.state.specs.declared.kinds.Activation.{Activation}
 use Rattle.state.specs.declared.kinds.ControllerSide.{ControllerSide}
 use Rattle.state.specs.declared.kinds.Counts.{Counts}
-use Rattle.state.specs.declared.verdict.Verdict.{Verdict}
-use Rattle.state.specs.declared.verdict.Verdict.TheVariants.{Refuses, Resets, Initialises, Opens, Closes, Turns, Selects, Deactivates, SetsConfig, GetsConfig}
+use Rattle.state.specs.declared.verdict.Verdict.TheVariants.{Resets, Initialises, Opens, Closes, Turns, Selects, Deactivates, SetsConfig, GetsConfig}
 use Rattle.messages.specs.declared.layout.Note.{Note}
 use Rattle.state.specs.Conn.{conn_of, owing}
 use Rattle.config.specs.Commands.{set_rsp, get_rsp}
@@ -94,31 +94,31 @@ deactivate_ntf type reason = type ∷ reason ∷ []
 -- ---- what a verdict is answered with
 
 -- status first; a status other than 00 stands alone but for 09 of the configuration commands, which lists. b has the values before the command, m is its payload
-unfoldable pub response_of : Profile → Octets → Octets → Verdict → Octets
-response_of p b m (Refuses status) = status ∷ []
-response_of p b m (Resets type) = status_ok ∷ []
-response_of p b m Initialises = init_rsp p.control
-response_of p b m (Opens id t) = create_rsp t id
-response_of p b m (Closes id) = status_ok ∷ []
-response_of p b m (Turns rf) = status_ok ∷ []
-response_of p b m (Selects pair) = status_ok ∷ []
-response_of p b m (Deactivates type rf) = status_ok ∷ []
-response_of p b m SetsConfig = set_rsp m
-response_of p b m GetsConfig = get_rsp b m
+unfoldable pub response_of : Profile → Octets → Octets → Judgement → Octets
+response_of p b m (Err status) = octet_of status ∷ []
+response_of p b m (Ok (Resets type)) = status_ok ∷ []
+response_of p b m (Ok Initialises) = init_rsp p.control
+response_of p b m (Ok (Opens id t)) = create_rsp t id
+response_of p b m (Ok (Closes id)) = status_ok ∷ []
+response_of p b m (Ok (Turns rf)) = status_ok ∷ []
+response_of p b m (Ok (Selects pair)) = status_ok ∷ []
+response_of p b m (Ok (Deactivates type rf)) = status_ok ∷ []
+response_of p b m (Ok SetsConfig) = set_rsp m
+response_of p b m (Ok GetsConfig) = get_rsp b m
 
 -- the same GID and OID as the command's
-abbrev pub response_message : ℕ → ℕ → Profile → Octets → Octets → Verdict → Message
+abbrev pub response_message : ℕ → ℕ → Profile → Octets → Octets → Judgement → Message
 response_message gid oid p b m v = record { gid = gid; oid = oid; payload = response_of p b m v }
 
 -- the notification after the response
-unfoldable pub notice_message : Verdict → Message
-notice_message (Refuses status) = nothing
-notice_message (Resets type) = record { gid = gid_core; oid = oid_reset; payload = reset_ntf type }
-notice_message Initialises = nothing
-notice_message (Opens id t) = nothing
-notice_message (Closes id) = nothing
-notice_message (Turns rf) = nothing
-notice_message (Selects pair) = nothing
-notice_message (Deactivates type rf) = record { gid = gid_rf; oid = oid_deactivate; payload = deactivate_ntf type host_request }
-notice_message SetsConfig = nothing
-notice_message GetsConfig = nothing
+unfoldable pub notice_message : Judgement → Message
+notice_message (Err status) = nothing
+notice_message (Ok (Resets type)) = record { gid = gid_core; oid = oid_reset; payload = reset_ntf type }
+notice_message (Ok Initialises) = nothing
+notice_message (Ok (Opens id t)) = nothing
+notice_message (Ok (Closes id)) = nothing
+notice_message (Ok (Turns rf)) = nothing
+notice_message (Ok (Selects pair)) = nothing
+notice_message (Ok (Deactivates type rf)) = record { gid = gid_rf; oid = oid_deactivate; payload = deactivate_ntf type host_request }
+notice_message (Ok SetsConfig) = nothing
+notice_message (Ok GetsConfig) = nothing

@@ -12,7 +12,7 @@ use config::{get, set};
 use state::conn::{conn_of, owing};
 use state::kinds::{Activation, Counts, Profile, Terms};
 use state::runs::CONTROL_LIMIT;
-use state::verdict::Verdict;
+use state::verdict::{Status, Verdict};
 use state::{fields, names};
 
 // A message that was written: its GID and OID, and its length; length 0 is no message.
@@ -112,6 +112,7 @@ fn get_config_rsp(out: &mut [u8; CONTROL_LIMIT], gid: u8, oid: u8, b: &[u8], m: 
 }
 
 // The response to a command: its GID and OID, and what the verdict is answered with. b has the values, m is the command's payload.
+#[tactic(auto, unfolding(crate::specs::Layout::response_of))]
 pub fn response(
     out: &mut [u8; CONTROL_LIMIT],
     gid: u8,
@@ -119,22 +120,18 @@ pub fn response(
     p: Profile,
     b: &[u8],
     m: &[u8],
-    v: Verdict,
+    v: Result<Verdict, Status>,
 ) -> Note
-    requires { (length b.now ≡ config_size) × (v ≡ Verdict.SetsConfig → param_at m.now (count_in m.now) ≤ control_limit) }
+    requires { (length b.now ≡ config_size) × (v ≡ Ok Verdict.SetsConfig → param_at m.now (count_in m.now) ≤ control_limit) }
     ensures { Put out.old (response_message gid oid p b.now m.now v) result out.new }
 {
     match v {
-        Verdict::Refuses(s) => status(out, gid, oid, s),
-        Verdict::Resets(_) => status(out, gid, oid, names::STATUS_OK),
-        Verdict::Initialises => init_rsp(out, gid, oid, p.control),
-        Verdict::Opens(id, t) => create_rsp(out, gid, oid, t, id),
-        Verdict::Closes(_) => status(out, gid, oid, names::STATUS_OK),
-        Verdict::Turns(_) => status(out, gid, oid, names::STATUS_OK),
-        Verdict::Selects(_) => status(out, gid, oid, names::STATUS_OK),
-        Verdict::Deactivates(_, _) => status(out, gid, oid, names::STATUS_OK),
-        Verdict::SetsConfig => set_config_rsp(out, gid, oid, m),
-        Verdict::GetsConfig => get_config_rsp(out, gid, oid, b, m),
+        Ok(Verdict::Initialises) => init_rsp(out, gid, oid, p.control),
+        Ok(Verdict::Opens(id, t)) => create_rsp(out, gid, oid, t, id),
+        Ok(Verdict::SetsConfig) => set_config_rsp(out, gid, oid, m),
+        Ok(Verdict::GetsConfig) => get_config_rsp(out, gid, oid, b, m),
+        Ok(_) => status(out, gid, oid, names::STATUS_OK),
+        Err(s) => status(out, gid, oid, s.into()),
     }
 }
 
@@ -171,20 +168,14 @@ pub fn deactivate_ntf(out: &mut [u8; CONTROL_LIMIT], kind: u8, reason: u8) -> No
 }
 
 // The notification that follows a verdict's response, where there is one.
-pub fn notice(out: &mut [u8; CONTROL_LIMIT], v: Verdict) -> Note
+#[tactic(auto, unfolding(crate::specs::Layout::notice_message), using(crate::proofs::Messages::put_nothing))]
+pub fn notice(out: &mut [u8; CONTROL_LIMIT], v: Result<Verdict, Status>) -> Note
     ensures { Put out.old (notice_message v) result out.new }
 {
     match v {
-        Verdict::Refuses(_) => no_message(),
-        Verdict::Resets(kind) => reset_ntf(out, kind),
-        Verdict::Initialises => no_message(),
-        Verdict::Opens(_, _) => no_message(),
-        Verdict::Closes(_) => no_message(),
-        Verdict::Turns(_) => no_message(),
-        Verdict::Selects(_) => no_message(),
-        Verdict::Deactivates(kind, _) => deactivate_ntf(out, kind, names::HOST_REQUEST),
-        Verdict::SetsConfig => no_message(),
-        Verdict::GetsConfig => no_message(),
+        Ok(Verdict::Resets(kind)) => reset_ntf(out, kind),
+        Ok(Verdict::Deactivates(kind, _)) => deactivate_ntf(out, kind, names::HOST_REQUEST),
+        Ok(_) | Err(_) => no_message(),
     }
 }
 

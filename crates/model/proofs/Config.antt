@@ -8,10 +8,12 @@ use mathlib.Core.List.{List, [], ◌∷◌, ◌++◌, cons≢nil, head-eq_of_con
 use lib.Dec.{eqb}
 use lib.ListN.{length, get_or}
 use borrow.Author.Tests.{eqb-true}
+use Rattle.std.specs.Prelude.{Ok, Err}
 use Rattle.octets.specs.Octets.{Octets, pick}
 use Rattle.packets.specs.Segments.{Segment, more, last}
 use Rattle.packets.specs.Reassembly.{Run, run, grown, finished, flagged}
 use Rattle.packets.proofs.Reassembly.{within}
+use Rattle.state.specs.Judgement.{Judgement}
 use Rattle.state.specs.Names.{status_ok, invalid_param}
 use Rattle.state.specs.Commands.{aim_in}
 use Rattle.state.specs.Runs.{control_limit}
@@ -22,7 +24,7 @@ use Rattle.config.specs.Stored.{value_in, defaults}
 use Rattle.config.specs.Commands.{count_in, invalid_in, set_rsp}
 use Rattle.config.specs.Accepted.{all_restored, showing}
 use Rattle.config.proofs.Accepted.{set_accepted, get_ok_shows, defaults_restored}
-use Rattle.model.specs.Kinds.{Profile, Controller, Verdict}
+use Rattle.model.specs.Kinds.{Profile, Controller}
 use Rattle.model.specs.Kinds.verdict as verdict
 use Rattle.nfcc.specs.Controller.{judge_of, config_by}
 use Rattle.nfcc.proofs.Verdicts.{Fits, judge_fits}
@@ -61,7 +63,7 @@ use Rattle.model.proofs.Always.{Noting, always_noted}
 module _ (p : Profile) (k : Controller) (is_open : ℕ → Bool) (b m : Octets) (n : Diary) (long : length b ≡ config_size) (same : m ≡ n.payload)
     (id : ℕ) (known : known_row (row_of id) ≡ true) (before : value_in b (row_of id) ≡ n.values id) where
   -- where the response to this command says so
-  abbrev Tells : ℕ → ℕ → Verdict → Type 0
+  abbrev Tells : ℕ → ℕ → Judgement → Type 0
   Tells gid oid v = value_in (config_by b m v) (row_of id) ≡ values_by gid oid (response_of p b m v) n id
 
   set_tells : Tells 0 2 (judge_of p k is_open 0 2 m)
@@ -88,18 +90,18 @@ module _ (p : Profile) (k : Controller) (is_open : ℕ → Bool) (b m : Octets) 
       go false = before
 
   -- any other command leaves both as they are
-  other_tells : (gid oid : ℕ) → (eqb gid 0 && eqb oid 2) ≡ false → (eqb gid 0 && eqb oid 0) ≡ false → (v : Verdict) → (aim : ℕ) → Fits gid oid aim p v → Tells gid oid v
+  other_tells : (gid oid : ℕ) → (eqb gid 0 && eqb oid 2) ≡ false → (eqb gid 0 && eqb oid 0) ≡ false → (v : Judgement) → (aim : ℕ) → Fits gid oid aim p v → Tells gid oid v
   unfolding config_by response_of
-  other_tells gid oid x y (verdict.Refuses status) aim f = rw (x, y) before
-  other_tells gid oid x y (verdict.Resets type) aim f = clash (rw (f.0, f.1) refl) y
-  other_tells gid oid x y verdict.Initialises aim f = rw (x, y) before
-  other_tells gid oid x y (verdict.Opens c t) aim f = rw (x, y) before
-  other_tells gid oid x y (verdict.Closes c) aim f = rw (x, y) before
-  other_tells gid oid x y (verdict.Turns rf) aim f = rw (x, y) before
-  other_tells gid oid x y (verdict.Selects pair) aim f = rw (x, y) before
-  other_tells gid oid x y (verdict.Deactivates type rf) aim f = rw (x, y) before
-  other_tells gid oid x y verdict.SetsConfig aim f = clash (rw (f.0, f.1) refl) x
-  other_tells gid oid x y verdict.GetsConfig aim f = rw (x, y) before
+  other_tells gid oid x y (Err status) aim f = rw (x, y) before
+  other_tells gid oid x y (Ok (verdict.Resets type)) aim f = clash (rw (f.0, f.1) refl) y
+  other_tells gid oid x y (Ok verdict.Initialises) aim f = rw (x, y) before
+  other_tells gid oid x y (Ok (verdict.Opens c t)) aim f = rw (x, y) before
+  other_tells gid oid x y (Ok (verdict.Closes c)) aim f = rw (x, y) before
+  other_tells gid oid x y (Ok (verdict.Turns rf)) aim f = rw (x, y) before
+  other_tells gid oid x y (Ok (verdict.Selects pair)) aim f = rw (x, y) before
+  other_tells gid oid x y (Ok (verdict.Deactivates type rf)) aim f = rw (x, y) before
+  other_tells gid oid x y (Ok verdict.SetsConfig) aim f = clash (rw (f.0, f.1) refl) x
+  other_tells gid oid x y (Ok verdict.GetsConfig) aim f = rw (x, y) before
 
   command_tells : (gid oid : ℕ) → Tells gid oid (judge_of p k is_open gid oid m)
   command_tells gid oid = go (eqb gid 0 && eqb oid 2) refl (eqb gid 0 && eqb oid 0) refl
@@ -144,7 +146,7 @@ none_told n = record { shown = λ p behind b e. absurd (cons≢nil (sym e)); lis
 module _ (s : State) (n : Diary) (long : length s.config ≡ config_size)
     (values : (id : ℕ) → known_row (row_of id) ≡ true → value_in s.config (row_of id) ≡ n.values id) (way : OnItsWay (Last n) s.asking s.down)
     (gid oid : ℕ) (low : gid < 16) (small : oid < 64) (m : Octets) (asked : Last n (named gid oid) m) where
-  abbrev v : Verdict
+  abbrev v : Judgement
   v = judge_of s.profile s.controller (is_open s) gid oid m
 
   abbrev response : Octets

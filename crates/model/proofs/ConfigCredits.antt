@@ -10,10 +10,11 @@ use mathlib.Core.List.{List, [], ◌∷◌, ◌++◌}
 use lib.Dec.{eqb}
 use lib.ListN.{length, get_or}
 use borrow.Author.Tests.{eqb-true}
-use Rattle.std.specs.Prelude.{Option}
+use Rattle.std.specs.Prelude.{Option, Ok, Err}
 use Rattle.octets.specs.Octets.{Octets, pick}
 use Rattle.packets.specs.Segments.{Segment, more, last, packets_of}
 use Rattle.packets.specs.Headers.{control_header}
+use Rattle.state.specs.Judgement.{Judgement}
 use Rattle.state.specs.Conn.{flows}
 use Rattle.state.specs.Commands.{command_of, aim_in}
 use Rattle.state.proofs.Chains.{on, pick_same, and_left, and_right}
@@ -28,7 +29,7 @@ use Rattle.wires.specs.Meaning.{Meaning, control, meaning}
 use Rattle.wires.specs.Tally.{data_count, aimed_at, credits_said, credits_meant, credits_up}
 use Rattle.wires.specs.Counted.{counted_up}
 use Rattle.wires.proofs.Same.{same_up}
-use Rattle.model.specs.Kinds.{Profile, Asked, Verdict, Heard}
+use Rattle.model.specs.Kinds.{Profile, Asked, Heard}
 use Rattle.model.specs.Kinds.verdict as verdict
 use Rattle.model.specs.Kinds.notice as notice
 use Rattle.model.specs.Kinds.answer.{Done}
@@ -59,37 +60,37 @@ record Config (gid oid : ℕ) : Type 0 where
   answered : (aim : ℕ) (m : Octets) → answer_of (command_of gid oid) aim m ≡ Done
   notified : notice_of gid oid ≡ notice.Unknown
   -- neither of them opens or closes, and nothing follows the response
-  still : (aim : ℕ) (p : Profile) (v : Verdict) → Fits gid oid aim p v → (d : ℕ) → change_by v d ≡ stays
-  alone : (aim : ℕ) (p : Profile) (v : Verdict) → Fits gid oid aim p v → notice_packets (notice_message v) ≡ []
+  still : (aim : ℕ) (p : Profile) (v : Judgement) → Fits gid oid aim p v → (d : ℕ) → change_by v d ≡ stays
+  alone : (aim : ℕ) (p : Profile) (v : Judgement) → Fits gid oid aim p v → notice_packets (notice_message v) ≡ []
 
-verdict_still : (oid aim : ℕ) (p : Profile) (v : Verdict) → (oid ≡ 2) ⊎ (oid ≡ 3) → Fits 0 oid aim p v → (d : ℕ) → change_by v d ≡ stays
-verdict_still oid aim p (verdict.Refuses status) e f d = refl
-verdict_still oid aim p (verdict.Resets type) (inl e) f d = absurd (omega (arith, f.1))
-verdict_still oid aim p (verdict.Resets type) (inr e) f d = absurd (omega (arith, f.1))
-verdict_still oid aim p verdict.Initialises e f d = refl
-verdict_still oid aim p (verdict.Opens c t) (inl e) f d = absurd (omega (arith, f.1))
-verdict_still oid aim p (verdict.Opens c t) (inr e) f d = absurd (omega (arith, f.1))
-verdict_still oid aim p (verdict.Closes c) (inl e) f d = absurd (omega (arith, f.1))
-verdict_still oid aim p (verdict.Closes c) (inr e) f d = absurd (omega (arith, f.1))
-verdict_still oid aim p (verdict.Turns rf) e f d = refl
-verdict_still oid aim p (verdict.Selects pair) e f d = refl
-verdict_still oid aim p (verdict.Deactivates type rf) e f d = absurd (omega (arith, f.0))
-verdict_still oid aim p verdict.SetsConfig e f d = refl
-verdict_still oid aim p verdict.GetsConfig e f d = refl
+verdict_still : (oid aim : ℕ) (p : Profile) (v : Judgement) → (oid ≡ 2) ⊎ (oid ≡ 3) → Fits 0 oid aim p v → (d : ℕ) → change_by v d ≡ stays
+verdict_still oid aim p (Err status) e f d = refl
+verdict_still oid aim p (Ok (verdict.Resets type)) (inl e) f d = absurd (omega (arith, f.1))
+verdict_still oid aim p (Ok (verdict.Resets type)) (inr e) f d = absurd (omega (arith, f.1))
+verdict_still oid aim p (Ok verdict.Initialises) e f d = refl
+verdict_still oid aim p (Ok (verdict.Opens c t)) (inl e) f d = absurd (omega (arith, f.1))
+verdict_still oid aim p (Ok (verdict.Opens c t)) (inr e) f d = absurd (omega (arith, f.1))
+verdict_still oid aim p (Ok (verdict.Closes c)) (inl e) f d = absurd (omega (arith, f.1))
+verdict_still oid aim p (Ok (verdict.Closes c)) (inr e) f d = absurd (omega (arith, f.1))
+verdict_still oid aim p (Ok (verdict.Turns rf)) e f d = refl
+verdict_still oid aim p (Ok (verdict.Selects pair)) e f d = refl
+verdict_still oid aim p (Ok (verdict.Deactivates type rf)) e f d = absurd (omega (arith, f.0))
+verdict_still oid aim p (Ok verdict.SetsConfig) e f d = refl
+verdict_still oid aim p (Ok verdict.GetsConfig) e f d = refl
 
-verdict_alone : (oid aim : ℕ) (p : Profile) (v : Verdict) → (oid ≡ 2) ⊎ (oid ≡ 3) → Fits 0 oid aim p v → notice_packets (notice_message v) ≡ []
+verdict_alone : (oid aim : ℕ) (p : Profile) (v : Judgement) → (oid ≡ 2) ⊎ (oid ≡ 3) → Fits 0 oid aim p v → notice_packets (notice_message v) ≡ []
 unfolding notice_message
-verdict_alone oid aim p (verdict.Refuses status) e f = refl
-verdict_alone oid aim p (verdict.Resets type) (inl e) f = absurd (omega (arith, f.1))
-verdict_alone oid aim p (verdict.Resets type) (inr e) f = absurd (omega (arith, f.1))
-verdict_alone oid aim p verdict.Initialises e f = refl
-verdict_alone oid aim p (verdict.Opens c t) e f = refl
-verdict_alone oid aim p (verdict.Closes c) e f = refl
-verdict_alone oid aim p (verdict.Turns rf) e f = refl
-verdict_alone oid aim p (verdict.Selects pair) e f = refl
-verdict_alone oid aim p (verdict.Deactivates type rf) e f = absurd (omega (arith, f.0))
-verdict_alone oid aim p verdict.SetsConfig e f = refl
-verdict_alone oid aim p verdict.GetsConfig e f = refl
+verdict_alone oid aim p (Err status) e f = refl
+verdict_alone oid aim p (Ok (verdict.Resets type)) (inl e) f = absurd (omega (arith, f.1))
+verdict_alone oid aim p (Ok (verdict.Resets type)) (inr e) f = absurd (omega (arith, f.1))
+verdict_alone oid aim p (Ok verdict.Initialises) e f = refl
+verdict_alone oid aim p (Ok (verdict.Opens c t)) e f = refl
+verdict_alone oid aim p (Ok (verdict.Closes c)) e f = refl
+verdict_alone oid aim p (Ok (verdict.Turns rf)) e f = refl
+verdict_alone oid aim p (Ok (verdict.Selects pair)) e f = refl
+verdict_alone oid aim p (Ok (verdict.Deactivates type rf)) e f = absurd (omega (arith, f.0))
+verdict_alone oid aim p (Ok verdict.SetsConfig) e f = refl
+verdict_alone oid aim p (Ok verdict.GetsConfig) e f = refl
 
 set_config : Config 0 2
 unfolding answer_of command_of notice_of
@@ -177,7 +178,7 @@ module _ (s : State) (c gid oid : ℕ) (k : Config gid oid) where
     off_down = rw means (omega arith)
 
     -- the response has no credits in it
-    answers_none : (b m : Octets) (v : Verdict) → Fits gid oid (aim_in m) s.profile v → counted_up c (s.up ++ answers gid oid s.profile b m v) ≡ counted_up c s.up
+    answers_none : (b m : Octets) (v : Judgement) → Fits gid oid (aim_in m) s.profile v → counted_up c (s.up ++ answers gid oid s.profile b m v) ≡ counted_up c s.up
     unfolding credits_up
     answers_none b m v f =
         let r = response_packet (response_message gid oid s.profile b m v) in

@@ -9,13 +9,15 @@ use mathlib.Core.List.{List, [], ◌∷◌, ◌++◌, append_assoc}
 use lib.Dec.{eqb}
 use lib.ListN.{length}
 use borrow.Author.Tests.{ne_eqb, eqb-false, lt-leb}
+use Rattle.std.specs.Prelude.{Ok, Err}
 use Rattle.octets.specs.Octets.{Octets, pick}
-use Rattle.model.specs.Kinds.{Profile, Verdict, Answer}
+use Rattle.model.specs.Kinds.{Profile, Answer}
 use Rattle.packets.specs.Reassembly.{run}
 use Rattle.model.specs.Kinds.verdict as verdict
 use Rattle.model.specs.Kinds.heard.{Nothing, Answered}
 use Rattle.dh.specs.Contents.{written}
 use Rattle.dh.specs.Host.{heard_written, is_closing}
+use Rattle.state.specs.Judgement.{Judgement}
 use Rattle.state.specs.Conn.{place_of}
 use Rattle.state.specs.Radio.{is_active}
 use Rattle.state.specs.Runs.{control_limit}
@@ -48,17 +50,17 @@ use Rattle.model.proofs.Fine.{ChangeOk, standing_change, sound_control, kept, Pl
 use Rattle.state.specs.Profile.{ProfileWithin}
 
 -- every verdict opens or closes, or does nothing
-verdict_plain : (v : Verdict) (d : ℕ) → Plain (change_by v d)
-verdict_plain (verdict.Refuses status) d = tt
-verdict_plain (verdict.Resets type) d = tt
-verdict_plain verdict.Initialises d = tt
-verdict_plain (verdict.Opens c t) d = on Plain (eqb c d) (λ e. tt) (λ e. tt)
-verdict_plain (verdict.Closes c) d = on Plain (eqb c d) (λ e. tt) (λ e. tt)
-verdict_plain (verdict.Turns rf) d = tt
-verdict_plain (verdict.Selects pair) d = tt
-verdict_plain (verdict.Deactivates type rf) d = on Plain (eqb 0 d) (λ e. tt) (λ e. tt)
-verdict_plain verdict.SetsConfig d = tt
-verdict_plain verdict.GetsConfig d = tt
+verdict_plain : (v : Judgement) (d : ℕ) → Plain (change_by v d)
+verdict_plain (Err status) d = tt
+verdict_plain (Ok (verdict.Resets type)) d = tt
+verdict_plain (Ok verdict.Initialises) d = tt
+verdict_plain (Ok (verdict.Opens c t)) d = on Plain (eqb c d) (λ e. tt) (λ e. tt)
+verdict_plain (Ok (verdict.Closes c)) d = on Plain (eqb c d) (λ e. tt) (λ e. tt)
+verdict_plain (Ok (verdict.Turns rf)) d = tt
+verdict_plain (Ok (verdict.Selects pair)) d = tt
+verdict_plain (Ok (verdict.Deactivates type rf)) d = on Plain (eqb 0 d) (λ e. tt) (λ e. tt)
+verdict_plain (Ok verdict.SetsConfig) d = tt
+verdict_plain (Ok verdict.GetsConfig) d = tt
 
 -- a dynamic Conn ID is one of the five
 pub dynamic_conn : (c : ℕ) → 2 ≤ c → c ≤ 5 → no_conn c ≡ false
@@ -71,7 +73,7 @@ unfolding replies
 notices_replies [] n = refl
 notices_replies (p ∷ ps) n = rw n.0.3 (notices_replies ps n.1)
 
-answers_replies : (gid oid : ℕ) (p : Profile) (b m : Octets) (v : Verdict) → gid < 16 → oid < 64 → replies (answers gid oid p b m v) ≡ named gid oid ∷ []
+answers_replies : (gid oid : ℕ) (p : Profile) (b m : Octets) (v : Judgement) → gid < 16 → oid < 64 → replies (answers gid oid p b m v) ≡ named gid oid ∷ []
 unfolding replies
 answers_replies gid oid p b m v low small =
     rw (meaning_answer gid oid p b m v low small) (ap (λ (ns : List Name). named gid oid ∷ ns) (notices_replies (notice_packets (notice_message v)) (notices_verdict v)))
@@ -81,18 +83,18 @@ pub notice_sound : (gid oid : ℕ) (m : Octets) → gid < 16 → oid < 64 → le
 notice_sound gid oid m low small short =
     on Sound (eqb (length m) 0) (λ e. tt) (λ e. sound_control (notice_packet (record { gid = gid; oid = oid; payload = m })) 3 gid oid m (meaning_notice gid oid low small m) (inr refl) short)
 
-verdict_sound : (v : Verdict) → Sound (notice_packets (notice_message v))
+verdict_sound : (v : Judgement) → Sound (notice_packets (notice_message v))
 unfolding notice_message
-verdict_sound (verdict.Refuses status) = tt
-verdict_sound (verdict.Resets type) = notice_sound 0 0 (reset_ntf type) (omega arith) (omega arith) (omega arith)
-verdict_sound verdict.Initialises = tt
-verdict_sound (verdict.Opens c t) = tt
-verdict_sound (verdict.Closes c) = tt
-verdict_sound (verdict.Turns rf) = tt
-verdict_sound (verdict.Selects pair) = tt
-verdict_sound (verdict.Deactivates type rf) = notice_sound 1 6 (deactivate_ntf type 0x00) (omega arith) (omega arith) (omega arith)
-verdict_sound verdict.SetsConfig = tt
-verdict_sound verdict.GetsConfig = tt
+verdict_sound (Err status) = tt
+verdict_sound (Ok (verdict.Resets type)) = notice_sound 0 0 (reset_ntf type) (omega arith) (omega arith) (omega arith)
+verdict_sound (Ok verdict.Initialises) = tt
+verdict_sound (Ok (verdict.Opens c t)) = tt
+verdict_sound (Ok (verdict.Closes c)) = tt
+verdict_sound (Ok (verdict.Turns rf)) = tt
+verdict_sound (Ok (verdict.Selects pair)) = tt
+verdict_sound (Ok (verdict.Deactivates type rf)) = notice_sound 1 6 (deactivate_ntf type 0x00) (omega arith) (omega arith) (omega arith)
+verdict_sound (Ok verdict.SetsConfig) = tt
+verdict_sound (Ok verdict.GetsConfig) = tt
 
 -- a response that says something was written
 answered_written : (aim gid oid : ℕ) (m : Octets) (a : Answer) → says aim 2 gid oid m ≡ Answered a → written 2 gid oid m ≡ true
@@ -102,7 +104,7 @@ answered_written aim gid oid m a e = go (written 2 gid oid m) refl e
     go true w h = w
     go false w h = absurd (let z : ◌≡◌ {A = ℕ} 0 1 = cc in omega arith)
 
-answers_sound : (aim gid oid : ℕ) (p : Profile) (b m : Octets) (v : Verdict) → ProfileWithin p → Fits gid oid aim p v → Answerable b m v → gid < 16 → oid < 64
+answers_sound : (aim gid oid : ℕ) (p : Profile) (b m : Octets) (v : Judgement) → ProfileWithin p → Fits gid oid aim p v → Answerable b m v → gid < 16 → oid < 64
     → Sound (answers gid oid p b m v)
 answers_sound aim gid oid p b m v limits f a low small =
     let r = response_of p b m v in
@@ -112,17 +114,17 @@ answers_sound aim gid oid p b m v limits f a low small =
     (verdict_sound v)
 
 -- what a verdict opens is the profile's
-pub verdict_ok : (gid oid aim : ℕ) (p : Profile) (v : Verdict) → Fits gid oid aim p v → (d : ℕ) → ChangeOk p d (change_by v d)
-verdict_ok gid oid aim p (verdict.Refuses status) f d = tt
-verdict_ok gid oid aim p (verdict.Resets type) f d = tt
-verdict_ok gid oid aim p verdict.Initialises f d = tt
-verdict_ok gid oid aim p (verdict.Opens c t) f d = each c (λ d b. ChangeOk p d (pick b (opens t) stays)) (dynamic_conn c f.2 f.3, f.4) (λ d. tt) d
-verdict_ok gid oid aim p (verdict.Closes c) f d = on (ChangeOk p d) (eqb c d) (λ e. tt) (λ e. tt)
-verdict_ok gid oid aim p (verdict.Turns rf) f d = tt
-verdict_ok gid oid aim p (verdict.Selects pair) f d = tt
-verdict_ok gid oid aim p (verdict.Deactivates type rf) f d = on (ChangeOk p d) (eqb 0 d) (λ e. tt) (λ e. tt)
-verdict_ok gid oid aim p verdict.SetsConfig f d = tt
-verdict_ok gid oid aim p verdict.GetsConfig f d = tt
+pub verdict_ok : (gid oid aim : ℕ) (p : Profile) (v : Judgement) → Fits gid oid aim p v → (d : ℕ) → ChangeOk p d (change_by v d)
+verdict_ok gid oid aim p (Err status) f d = tt
+verdict_ok gid oid aim p (Ok (verdict.Resets type)) f d = tt
+verdict_ok gid oid aim p (Ok verdict.Initialises) f d = tt
+verdict_ok gid oid aim p (Ok (verdict.Opens c t)) f d = each c (λ d b. ChangeOk p d (pick b (opens t) stays)) (dynamic_conn c f.2 f.3, f.4) (λ d. tt) d
+verdict_ok gid oid aim p (Ok (verdict.Closes c)) f d = on (ChangeOk p d) (eqb c d) (λ e. tt) (λ e. tt)
+verdict_ok gid oid aim p (Ok (verdict.Turns rf)) f d = tt
+verdict_ok gid oid aim p (Ok (verdict.Selects pair)) f d = tt
+verdict_ok gid oid aim p (Ok (verdict.Deactivates type rf)) f d = on (ChangeOk p d) (eqb 0 d) (λ e. tt) (λ e. tt)
+verdict_ok gid oid aim p (Ok verdict.SetsConfig) f d = tt
+verdict_ok gid oid aim p (Ok verdict.GetsConfig) f d = tt
 
 -- the state behind the command's last packet: no other command is under way, and nothing was pushed behind one that closes
 pub record Behind (s : State) (aim : ℕ) (l : ℕ → Ledger) (gid oid : ℕ) : Type 0 where
@@ -160,54 +162,54 @@ module _ (s : State) (aim : ℕ) (l : ℕ → Ledger) (gid oid : ℕ) (b : Behin
   not_zero : (c : ℕ) → 2 ≤ c → eqb 0 c ≡ false
   not_zero c h = ne_eqb 0 c (λ (z : 0 ≡ c). omega arith)
 
-  verdict_may : (v : Verdict) → Fits gid oid aim s.profile v → Legal s.controller.rf (is_open s) v → (d : ℕ) → May d (items_by (change_by v d))
-  verdict_may (verdict.Refuses status) f g d = tt
-  verdict_may (verdict.Resets type) f g d = tt
-  verdict_may verdict.Initialises f g d = tt
-  verdict_may (verdict.Opens c t) f g d =
+  verdict_may : (v : Judgement) → Fits gid oid aim s.profile v → Legal s.controller.rf (is_open s) v → (d : ℕ) → May d (items_by (change_by v d))
+  verdict_may (Err status) f g d = tt
+  verdict_may (Ok (verdict.Resets type)) f g d = tt
+  verdict_may (Ok verdict.Initialises) f g d = tt
+  verdict_may (Ok (verdict.Opens c t)) f g d =
       each c (λ d b. May d (items_by (pick b (opens t) stays)))
       (let q = shut_there c (not_zero c f.2) g in (q.0, b.clear c (not_zero c f.2) g, q.1))
       (λ d. tt) d
-  verdict_may (verdict.Closes c) f g d = each c (λ d b. May d (items_by (pick b closes stays))) tt (λ d. tt) d
-  verdict_may (verdict.Turns rf) f g d = tt
-  verdict_may (verdict.Selects pair) f g d = tt
-  verdict_may (verdict.Deactivates type rf) f g d = each 0 (λ d b. May d (items_by (pick b closes stays))) tt (λ d. tt) d
-  verdict_may verdict.SetsConfig f g d = tt
-  verdict_may verdict.GetsConfig f g d = tt
+  verdict_may (Ok (verdict.Closes c)) f g d = each c (λ d b. May d (items_by (pick b closes stays))) tt (λ d. tt) d
+  verdict_may (Ok (verdict.Turns rf)) f g d = tt
+  verdict_may (Ok (verdict.Selects pair)) f g d = tt
+  verdict_may (Ok (verdict.Deactivates type rf)) f g d = each 0 (λ d b. May d (items_by (pick b closes stays))) tt (λ d. tt) d
+  verdict_may (Ok verdict.SetsConfig) f g d = tt
+  verdict_may (Ok verdict.GetsConfig) f g d = tt
 
   abbrev Clear : ℕ → Change → Type 0
   Clear d c = (at_controller c (s.conns d).controller).opened ≡ false → segs_of d s.down ≡ []
 
-  verdict_clear : (v : Verdict) → Fits gid oid aim s.profile v → (d : ℕ) → eqb 0 d ≡ false → Clear d (change_by v d)
-  verdict_clear (verdict.Refuses status) f d z = b.clear d z
-  verdict_clear (verdict.Resets type) f d z = λ x. behind (closing_reset gid oid f.0 f.1) d
-  verdict_clear verdict.Initialises f d z = b.clear d z
-  verdict_clear (verdict.Opens c t) f d z = on (Clear d) (eqb c d) (λ e x. clash refl x) (λ e. b.clear d z)
-  verdict_clear (verdict.Closes c) f d z = λ x. behind (closing_close gid oid f.0 f.1) d
-  verdict_clear (verdict.Turns rf) f d z = b.clear d z
-  verdict_clear (verdict.Selects pair) f d z = b.clear d z
-  verdict_clear (verdict.Deactivates type rf) f d z = rw z (b.clear d z)
-  verdict_clear verdict.SetsConfig f d z = b.clear d z
-  verdict_clear verdict.GetsConfig f d z = b.clear d z
+  verdict_clear : (v : Judgement) → Fits gid oid aim s.profile v → (d : ℕ) → eqb 0 d ≡ false → Clear d (change_by v d)
+  verdict_clear (Err status) f d z = b.clear d z
+  verdict_clear (Ok (verdict.Resets type)) f d z = λ x. behind (closing_reset gid oid f.0 f.1) d
+  verdict_clear (Ok verdict.Initialises) f d z = b.clear d z
+  verdict_clear (Ok (verdict.Opens c t)) f d z = on (Clear d) (eqb c d) (λ e x. clash refl x) (λ e. b.clear d z)
+  verdict_clear (Ok (verdict.Closes c)) f d z = λ x. behind (closing_close gid oid f.0 f.1) d
+  verdict_clear (Ok (verdict.Turns rf)) f d z = b.clear d z
+  verdict_clear (Ok (verdict.Selects pair)) f d z = b.clear d z
+  verdict_clear (Ok (verdict.Deactivates type rf)) f d z = rw z (b.clear d z)
+  verdict_clear (Ok verdict.SetsConfig) f d z = b.clear d z
+  verdict_clear (Ok verdict.GetsConfig) f d z = b.clear d z
 
   swap : (c : ℕ) → eqb 0 c ≡ false → eqb c 0 ≡ false
   swap c e = ne_eqb c 0 (λ (z : c ≡ 0). eqb-false 0 c e (sym z))
 
-  verdict_air : (v : Verdict) → Fits gid oid aim s.profile v → Legal s.controller.rf (is_open s) v
+  verdict_air : (v : Judgement) → Fits gid oid aim s.profile v → Legal s.controller.rf (is_open s) v
       → is_active (controller_after s.controller v).rf ≡ (at_controller (change_by v 0) (s.conns 0).controller).opened
   unfolding controller_after
-  verdict_air (verdict.Refuses status) f g = b.standing.air
-  verdict_air (verdict.Resets type) f g = refl
-  verdict_air verdict.Initialises f g = b.standing.air
-  verdict_air (verdict.Opens c t) f g = rw (swap c (not_zero c f.2)) b.standing.air
-  verdict_air (verdict.Closes c) f g = rw g.0 b.standing.air
-  verdict_air (verdict.Turns rf) f g = g.1 ∙ sym g.0 ∙ b.standing.air
-  verdict_air (verdict.Selects pair) f g = sym g ∙ b.standing.air
-  verdict_air (verdict.Deactivates type rf) f g = g.1
-  verdict_air verdict.SetsConfig f g = b.standing.air
-  verdict_air verdict.GetsConfig f g = b.standing.air
+  verdict_air (Err status) f g = b.standing.air
+  verdict_air (Ok (verdict.Resets type)) f g = refl
+  verdict_air (Ok verdict.Initialises) f g = b.standing.air
+  verdict_air (Ok (verdict.Opens c t)) f g = rw (swap c (not_zero c f.2)) b.standing.air
+  verdict_air (Ok (verdict.Closes c)) f g = rw g.0 b.standing.air
+  verdict_air (Ok (verdict.Turns rf)) f g = g.1 ∙ sym g.0 ∙ b.standing.air
+  verdict_air (Ok (verdict.Selects pair)) f g = sym g ∙ b.standing.air
+  verdict_air (Ok (verdict.Deactivates type rf)) f g = g.1
+  verdict_air (Ok verdict.SetsConfig) f g = b.standing.air
+  verdict_air (Ok verdict.GetsConfig) f g = b.standing.air
 
-  pub decided_keeps : (m : Octets) (v : Verdict) → Fits gid oid aim s.profile v → Legal s.controller.rf (is_open s) v
+  pub decided_keeps : (m : Octets) (v : Judgement) → Fits gid oid aim s.profile v → Legal s.controller.rf (is_open s) v
       → Answerable s.config m v → Kept (deciding gid oid m v s).next (puts_up (answers gid oid s.profile s.config m v) (account_of s aim l))
   decided_keeps m v f g a =
       kept

@@ -12,6 +12,7 @@ use borrow.Author.Tests.{eq-eqb}
 use Rattle.octets.specs.Octets.{Octets, pick}
 use Rattle.packets.specs.Segments.{Segment, segment_packet}
 use Rattle.packets.specs.Headers.{data_header}
+use Rattle.state.specs.Judgement.{Judgement}
 use Rattle.state.specs.Conn.{flows, carriable}
 use Rattle.state.proofs.Chains.{on}
 use Rattle.nfcc.specs.Controller.{judge_of}
@@ -19,7 +20,7 @@ use Rattle.dh.specs.Host.{hear_of}
 use Rattle.messages.specs.Layout.{notice_message}
 use Rattle.ends.specs.Changes.{Change, stays, opens, closes, gives, change_by, change_heard}
 use Rattle.wires.specs.Meaning.{Meaning, datum, control, junk, meaning}
-use Rattle.model.specs.Kinds.{Profile, Verdict}
+use Rattle.model.specs.Kinds.{Profile}
 use Rattle.model.specs.Connection.{HostEnd, ControllerEnd, Connection, with_host, with_controller, pushed, heard_data, credited, stored, owed_on, carried_on, noticed, paid, spoken}
 use Rattle.model.specs.State.{State, is_open, at, with_conns, with_down, with_up, with_asking, with_hearing}
 use Rattle.model.specs.Effects.{Call, Effect, fresh, power, command, send, air, report, push, down, consume, credit, reply, up, taken}
@@ -160,14 +161,14 @@ change_owed closes k = omega arith
 change_owed (gives n) k = omega arith
 
 -- a command is answered by two packets at most
-answers_two : (gid oid : ℕ) (p : Profile) (b m : Octets) (v : Verdict) → length (answers gid oid p b m v) ≤ 2
+answers_two : (gid oid : ℕ) (p : Profile) (b m : Octets) (v : Judgement) → length (answers gid oid p b m v) ≤ 2
 answers_two gid oid p b m v =
     on (λ (w : List Octets). suc (length w) ≤ 2) (eqb (length (notice_message v).payload) 0) (λ _. omega arith) (λ _. omega arith)
 
 answering_most : (s : State) (gid oid : ℕ) (ms : List Octets) (b : Bool) → most (answering gid oid ms b s).next ≤ 2 + most s
 answering_most s gid oid [] b = omega arith
 answering_most s gid oid (m ∷ ms) b =
-    let v : Verdict = judge_of s.profile s.controller (is_open s) gid oid m in
+    let v : Judgement = judge_of s.profile s.controller (is_open s) gid oid m in
     omega (
       arith,
       sum_le (λ d. length (s.conns d).controller.store) (λ d. length (at_controller (change_by v d) (s.conns d).controller).store) (λ d. change_store (change_by v d) (s.conns d).controller),

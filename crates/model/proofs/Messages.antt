@@ -11,13 +11,15 @@ use mathlib.Core.List.{List, [], ◌∷◌, ◌++◌, map, append-nil}
 use lib.Dec.{eqb, ltb, leb, eqb-suc-zero}
 use lib.ListN.{length, get_or, drop}
 use borrow.Author.Tests.{eqb-true, eqb-false, ne_eqb, ltb-true, leb-true, leb-false}
+use Rattle.std.specs.Prelude.{Ok, Err}
 use Rattle.octets.specs.Octets.{Octets, pick}
 use Rattle.packets.specs.Segments.{last}
-use Rattle.model.specs.Kinds.{Terms, Profile, Activation, Pairs, Rf, Controller, Verdict, Event, Aired, Answer, Heard}
+use Rattle.model.specs.Kinds.{Terms, Profile, Activation, Pairs, Rf, Controller, Event, Aired, Answer, Heard}
 use Rattle.model.specs.Kinds.verdict as verdict
 use Rattle.model.specs.Kinds.event.{Found, Poll, Listen, Failed, Sleeps, LinkLost, Releases, Endpoint}
 use Rattle.model.specs.Kinds.answer.{Done, ClosesAll, Sized, Opens, Closes}
 use Rattle.model.specs.Kinds.heard.{Nothing, Answered, Activated, Deactivated, Credits}
+use Rattle.state.specs.Judgement.{Judgement, octet_of}
 use Rattle.state.specs.Conn.{place_of, conn_of, terms_of}
 use Rattle.state.specs.Commands.{command_of}
 use Rattle.messages.specs.Layout.{Message, reset_ntf, credits_ntf, entries_from, generic_error_ntf, discover_ntf, activated_ntf, deactivate_ntf, response_of, response_message, notice_message}
@@ -54,22 +56,22 @@ terms_within p c l = let t = l.terms c in record { payload = t.least; credits = 
 -- ---- what the answer to a verdict says
 
 -- what the host makes of the response
-abbrev pub answered_by : Profile → Verdict → Answer
-answered_by p (verdict.Refuses status) = Done
-answered_by p (verdict.Resets type) = ClosesAll
-answered_by p verdict.Initialises = Sized p.control
-answered_by p (verdict.Opens c t) = Opens c t
-answered_by p (verdict.Closes c) = Closes c
-answered_by p (verdict.Turns rf) = Done
-answered_by p (verdict.Selects pair) = Done
-answered_by p (verdict.Deactivates type rf) = Done
-answered_by p verdict.SetsConfig = Done
-answered_by p verdict.GetsConfig = Done
+abbrev pub answered_by : Profile → Judgement → Answer
+answered_by p (Err status) = Done
+answered_by p (Ok (verdict.Resets type)) = ClosesAll
+answered_by p (Ok verdict.Initialises) = Sized p.control
+answered_by p (Ok (verdict.Opens c t)) = Opens c t
+answered_by p (Ok (verdict.Closes c)) = Closes c
+answered_by p (Ok (verdict.Turns rf)) = Done
+answered_by p (Ok (verdict.Selects pair)) = Done
+answered_by p (Ok (verdict.Deactivates type rf)) = Done
+answered_by p (Ok verdict.SetsConfig) = Done
+answered_by p (Ok verdict.GetsConfig) = Done
 
 -- what the answer to a verdict goes by: the configuration b, and the list of a set, which is whole
-pub record Answerable (b m : Octets) (v : Verdict) : Type 0 where
+pub record Answerable (b m : Octets) (v : Judgement) : Type 0 where
   pub config : ConfigWithin b
-  pub whole : v ≡ verdict.SetsConfig → param_at m (count_in m) ≤ control_limit
+  pub whole : v ≡ Ok verdict.SetsConfig → param_at m (count_in m) ≤ control_limit
 
 -- so it is of every verdict on a command that fits its run
 pub judge_answerable : (p : Profile) (k : Controller) (is_open : ℕ → Bool) (gid oid : ℕ) (b m : Octets) → ConfigWithin b → length m ≤ control_limit
@@ -88,20 +90,20 @@ module _ (p : Profile) (limits : ProfileWithin p) (aim : ℕ) (b m : Octets) whe
   says_config oid r (inl e) w = rw (w, e) (ap Answered (pick_same (eqb (get_or r 0 0) 0) Done))
   says_config oid r (inr e) w = rw (w, e) (ap Answered (pick_same (eqb (get_or r 0 0) 0) Done))
 
-  pub says_response : (gid oid : ℕ) (v : Verdict) → Fits gid oid aim p v → Answerable b m v → says aim 2 gid oid (response_of p b m v) ≡ Answered (answered_by p v)
+  pub says_response : (gid oid : ℕ) (v : Judgement) → Fits gid oid aim p v → Answerable b m v → says aim 2 gid oid (response_of p b m v) ≡ Answered (answered_by p v)
   unfolding response_of heard_written answer_of command_of
-  says_response gid oid (verdict.Refuses status) f a = rw (round_trips.status_written gid oid status f, ne_eqb status 0 f)
-  says_response gid oid (verdict.Resets type) f a = rw (f.0, f.1, round_trips.reset_written_law)
-  says_response gid oid verdict.Initialises f a = rw (f.0, f.1, round_trips.init_written_law p.control limits.control_least)
-  says_response gid oid (verdict.Opens c t) f a =
+  says_response gid oid (Err status) f a = rw (round_trips.status_written gid oid (octet_of status) f, ne_eqb (octet_of status) 0 f)
+  says_response gid oid (Ok (verdict.Resets type)) f a = rw (f.0, f.1, round_trips.reset_written_law)
+  says_response gid oid (Ok verdict.Initialises) f a = rw (f.0, f.1, round_trips.init_written_law p.control limits.control_least)
+  says_response gid oid (Ok (verdict.Opens c t)) f a =
       let ok : TermsOk t = rw f.4 (terms_within p c limits) in
       rw (f.0, f.1, round_trips.create_written_law t c ok f.2 f.3)
-  says_response gid oid (verdict.Closes c) f a = rw (f.0, f.1, f.2, round_trips.close_written)
-  says_response gid oid (verdict.Turns rf) f a = rw f.0 (says_turn oid f.1)
-  says_response gid oid (verdict.Selects pair) f a = rw (f.0, f.1, round_trips.rf_written.1)
-  says_response gid oid (verdict.Deactivates type rf) f a = rw (f.0, f.1, round_trips.rf_written.2)
-  says_response gid oid verdict.SetsConfig f a = rw (f.0, f.1) (says_config 2 (set_rsp m) (inl refl) (round_trips.set_written_law m (a.whole refl)))
-  says_response gid oid verdict.GetsConfig f a = rw (f.0, f.1) (says_config 3 (get_rsp b m) (inr refl) (round_trips.get_written_law b m a.config.long a.config.values))
+  says_response gid oid (Ok (verdict.Closes c)) f a = rw (f.0, f.1, f.2, round_trips.close_written)
+  says_response gid oid (Ok (verdict.Turns rf)) f a = rw f.0 (says_turn oid f.1)
+  says_response gid oid (Ok (verdict.Selects pair)) f a = rw (f.0, f.1, round_trips.rf_written.1)
+  says_response gid oid (Ok (verdict.Deactivates type rf)) f a = rw (f.0, f.1, round_trips.rf_written.2)
+  says_response gid oid (Ok verdict.SetsConfig) f a = rw (f.0, f.1) (says_config 2 (set_rsp m) (inl refl) (round_trips.set_written_law m (a.whole refl)))
+  says_response gid oid (Ok verdict.GetsConfig) f a = rw (f.0, f.1) (says_config 3 (get_rsp b m) (inr refl) (round_trips.get_written_law b m a.config.long a.config.values))
 
 -- ---- what the notifications say
 
@@ -144,33 +146,33 @@ items_response aim d gid oid m ns low small = rw (meaning_response gid oid low s
 
 -- what the controller's answer is for a connection is what its verdict does to the connection
 module _ (p : Profile) (limits : ProfileWithin p) (aim d gid oid : ℕ) (b m : Octets) (low : gid < 16) (small : oid < 64) where
-  after_response : (v : Verdict) → Fits gid oid aim p v → Answerable b m v
+  after_response : (v : Judgement) → Fits gid oid aim p v → Answerable b m v
       → items_of aim d (answers gid oid p b m v) ≡ items_by (change_answered (answered_by p v) d) ++ items_of aim d (notice_packets (notice_message v))
   after_response v f a =
       items_response aim d gid oid (response_of p b m v) (notice_packets (notice_message v)) low small
       ∙ ap (λ (h : Heard). items_by (change_heard h (response_of p b m v) d) ++ items_of aim d (notice_packets (notice_message v))) (says_response p limits aim b m gid oid v f a)
 
-  pub items_answers : (v : Verdict) → Fits gid oid aim p v → Answerable b m v → items_of aim d (answers gid oid p b m v) ≡ items_by (change_by v d)
+  pub items_answers : (v : Judgement) → Fits gid oid aim p v → Answerable b m v → items_of aim d (answers gid oid p b m v) ≡ items_by (change_by v d)
   unfolding notice_message items_of
-  items_answers (verdict.Refuses status) f a = after_response (verdict.Refuses status) f a
-  items_answers (verdict.Resets type) f a =
-      after_response (verdict.Resets type) f a
+  items_answers (Err status) f a = after_response (Err status) f a
+  items_answers (Ok (verdict.Resets type)) f a =
+      after_response (Ok (verdict.Resets type)) f a
       ∙ ap (λ (l : List Item). closed ∷ l)
       (items_notice aim d 0 0 (reset_ntf type) (omega arith) (omega arith) Nothing (says_reset aim type f.2))
-  items_answers verdict.Initialises f a = after_response verdict.Initialises f a
-  items_answers (verdict.Opens c t) f a = after_response (verdict.Opens c t) f a ∙ append-nil (items_by (change_by (verdict.Opens c t) d))
-  items_answers (verdict.Closes c) f a = after_response (verdict.Closes c) f a ∙ append-nil (items_by (change_by (verdict.Closes c) d))
-  items_answers (verdict.Turns rf) f a = after_response (verdict.Turns rf) f a
-  items_answers (verdict.Selects pair) f a = after_response (verdict.Selects pair) f a
-  items_answers (verdict.Deactivates type rf) f a =
-      after_response (verdict.Deactivates type rf) f a
+  items_answers (Ok verdict.Initialises) f a = after_response (Ok verdict.Initialises) f a
+  items_answers (Ok (verdict.Opens c t)) f a = after_response (Ok (verdict.Opens c t)) f a ∙ append-nil (items_by (change_by (Ok (verdict.Opens c t)) d))
+  items_answers (Ok (verdict.Closes c)) f a = after_response (Ok (verdict.Closes c)) f a ∙ append-nil (items_by (change_by (Ok (verdict.Closes c)) d))
+  items_answers (Ok (verdict.Turns rf)) f a = after_response (Ok (verdict.Turns rf)) f a
+  items_answers (Ok (verdict.Selects pair)) f a = after_response (Ok (verdict.Selects pair)) f a
+  items_answers (Ok (verdict.Deactivates type rf)) f a =
+      after_response (Ok (verdict.Deactivates type rf)) f a
       ∙ items_notice aim d 1 6 (deactivate_ntf type 0x00) (omega arith) (omega arith) Deactivated (says_deactivated aim type 0x00 (round_trips.deactivate_written_law type f.2))
-  items_answers verdict.SetsConfig f a = after_response verdict.SetsConfig f a
-  items_answers verdict.GetsConfig f a = after_response verdict.GetsConfig f a
+  items_answers (Ok verdict.SetsConfig) f a = after_response (Ok verdict.SetsConfig) f a
+  items_answers (Ok verdict.GetsConfig) f a = after_response (Ok verdict.GetsConfig) f a
 
 -- ---- which packets answer a command: the first is the response, and any after it is a notification
 
-pub meaning_answer : (gid oid : ℕ) (p : Profile) (b m : Octets) (v : Verdict) → gid < 16 → oid < 64
+pub meaning_answer : (gid oid : ℕ) (p : Profile) (b m : Octets) (v : Judgement) → gid < 16 → oid < 64
     → meaning (response_packet (response_message gid oid p b m v)) ≡ control 2 gid oid (last (response_of p b m v))
 meaning_answer gid oid p b m v low small = meaning_response gid oid low small (response_of p b m v)
 
@@ -185,18 +187,18 @@ notices_message m low small =
     (λ e. ((m.gid, m.oid, m.payload, meaning_notice m.gid m.oid low small m.payload), tt))
 
 -- the notification after a response
-pub notices_verdict : (v : Verdict) → Notices (notice_packets (notice_message v))
+pub notices_verdict : (v : Judgement) → Notices (notice_packets (notice_message v))
 unfolding notice_message
-notices_verdict (verdict.Refuses status) = tt
-notices_verdict (verdict.Resets type) = notices_message (record { gid = 0; oid = 0; payload = reset_ntf type }) (omega arith) (omega arith)
-notices_verdict verdict.Initialises = tt
-notices_verdict (verdict.Opens c t) = tt
-notices_verdict (verdict.Closes c) = tt
-notices_verdict (verdict.Turns rf) = tt
-notices_verdict (verdict.Selects pair) = tt
-notices_verdict (verdict.Deactivates type rf) = notices_message (record { gid = 1; oid = 6; payload = deactivate_ntf type 0x00 }) (omega arith) (omega arith)
-notices_verdict verdict.SetsConfig = tt
-notices_verdict verdict.GetsConfig = tt
+notices_verdict (Err status) = tt
+notices_verdict (Ok (verdict.Resets type)) = notices_message (record { gid = 0; oid = 0; payload = reset_ntf type }) (omega arith) (omega arith)
+notices_verdict (Ok verdict.Initialises) = tt
+notices_verdict (Ok (verdict.Opens c t)) = tt
+notices_verdict (Ok (verdict.Closes c)) = tt
+notices_verdict (Ok (verdict.Turns rf)) = tt
+notices_verdict (Ok (verdict.Selects pair)) = tt
+notices_verdict (Ok (verdict.Deactivates type rf)) = notices_message (record { gid = 1; oid = 6; payload = deactivate_ntf type 0x00 }) (omega arith) (omega arith)
+notices_verdict (Ok verdict.SetsConfig) = tt
+notices_verdict (Ok verdict.GetsConfig) = tt
 
 -- the notification of an event
 pub notices_air : (p : Profile) (e : Option Event) (m : Octets) → Notices (notice_packets (air_message p e m))

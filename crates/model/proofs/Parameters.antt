@@ -9,6 +9,7 @@ use lib.Dec.{eqb}
 use lib.ListN.{length}
 use Rattle.octets.specs.Octets.{Octets}
 use Rattle.packets.specs.Segments.{Segment}
+use Rattle.state.specs.Judgement.{Judgement}
 use Rattle.state.proofs.Chains.{on}
 use Rattle.config.specs.Table.{config_size}
 use Rattle.config.specs.Stored.{defaults, parameters_ok}
@@ -19,7 +20,6 @@ use Rattle.config.proofs.Accepted.{set_ok, parameters_each, each_parameters}
 use Rattle.nfcc.specs.Controller.{judge_of, config_by}
 use Rattle.nfcc.proofs.Judgements.{after_verdict}
 use Rattle.wires.specs.Meaning.{Meaning, datum, control, junk, meaning}
-use Rattle.model.specs.Kinds.{Verdict}
 use Rattle.model.specs.State.{State, is_open, with_down, with_up, with_asking, with_hearing}
 use Rattle.model.specs.Effects.{Call, fresh, power, command, send, push, down, consume, credit, air, reply, up, report, Effect, Result, taken, refused}
 use Rattle.model.specs.Refusals.{first, is_held}
@@ -38,7 +38,7 @@ module _ (P : Octets → Type 0) (start : P defaults) (set : (b m : Octets) → 
   abbrev Leaves : Effect → Type 0
   Leaves e = P e.next.config
 
-  verdict_keeps : (b m : Octets) (v : Verdict) → P b → P (config_by b m v)
+  verdict_keeps : (b m : Octets) (v : Judgement) → P b → P (config_by b m v)
   verdict_keeps b m v h = after_verdict P b m start h (set b m h) v
 
   answering_keeps : (s : State) (gid oid : ℕ) (ms : List Octets) (b : Bool) → P s.config → Leaves (answering gid oid ms b s)
@@ -120,7 +120,7 @@ set_within b m c =
     }
 
 -- after a verdict on the command m
-pub after_within : (b m : Octets) (v : Verdict) → ConfigWithin b → ConfigWithin (config_by b m v)
+pub after_within : (b m : Octets) (v : Judgement) → ConfigWithin b → ConfigWithin (config_by b m v)
 after_within b m v = verdict_keeps (λ b. ConfigWithin b) defaults_within set_within b m v
 
 pub step_within : (c : Call) (s : State) → ConfigWithin s.config → ConfigWithin (step c s).effect.next.config

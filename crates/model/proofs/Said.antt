@@ -9,15 +9,16 @@ use mathlib.Core.Bool.{true, false}
 use mathlib.Core.List.{List, [], ◌∷◌, ◌++◌}
 use lib.Dec.{eqb}
 use lib.ListN.{length, get_or, drop}
-use Rattle.std.specs.Prelude.{Option}
+use Rattle.std.specs.Prelude.{Option, Ok, Err}
 use Rattle.octets.specs.Octets.{Octets, pick}
 use Rattle.packets.specs.Segments.{Segment, more, last}
-use Rattle.model.specs.Kinds.{Profile, Asked, Command, Verdict, Event, Answer, Heard}
+use Rattle.model.specs.Kinds.{Profile, Asked, Command, Event, Answer, Heard}
 use Rattle.model.specs.Kinds.command.{Reset, Init, ConnCreate, ConnClose, Discover, Select, Deactivate, Unknown, SetConfig, GetConfig}
 use Rattle.model.specs.Kinds.verdict as verdict
 use Rattle.model.specs.Kinds.event.{Found, Poll, Listen, Failed, Sleeps, LinkLost, Releases, Endpoint}
 use Rattle.model.specs.Kinds.answer.{Done, ClosesAll, Sized, Opens, Closes}
 use Rattle.model.specs.Kinds.heard.{Nothing, Dropped, Answered, Activated, Deactivated, Credits}
+use Rattle.state.specs.Judgement.{Judgement}
 use Rattle.state.specs.Conn.{place_of, terms_of}
 use Rattle.state.specs.Commands.{command_of}
 use Rattle.state.specs.Profile.{ProfileWithin}
@@ -108,17 +109,17 @@ hear_due r p mt gid oid m h = on (Due r) (expected p mt gid oid) (λ e. understo
 
 -- ---- what the controller puts up
 
-verdict_due : (p : Profile) (gid oid aim : ℕ) (v : Verdict) → ProfileWithin p → Fits gid oid aim p v → DueAnswer p (answered_by p v)
-verdict_due p gid oid aim (verdict.Refuses status) l f = tt
-verdict_due p gid oid aim (verdict.Resets type) l f = tt
-verdict_due p gid oid aim verdict.Initialises l f = (l.control_least, l.control_most)
-verdict_due p gid oid aim (verdict.Opens c t) l f = (dynamic_conn c f.2 f.3, f.4)
-verdict_due p gid oid aim (verdict.Closes c) l f = tt
-verdict_due p gid oid aim (verdict.Turns rf) l f = tt
-verdict_due p gid oid aim (verdict.Selects pair) l f = tt
-verdict_due p gid oid aim (verdict.Deactivates type rf) l f = tt
-verdict_due p gid oid aim verdict.SetsConfig l f = tt
-verdict_due p gid oid aim verdict.GetsConfig l f = tt
+verdict_due : (p : Profile) (gid oid aim : ℕ) (v : Judgement) → ProfileWithin p → Fits gid oid aim p v → DueAnswer p (answered_by p v)
+verdict_due p gid oid aim (Err status) l f = tt
+verdict_due p gid oid aim (Ok (verdict.Resets type)) l f = tt
+verdict_due p gid oid aim (Ok verdict.Initialises) l f = (l.control_least, l.control_most)
+verdict_due p gid oid aim (Ok (verdict.Opens c t)) l f = (dynamic_conn c f.2 f.3, f.4)
+verdict_due p gid oid aim (Ok (verdict.Closes c)) l f = tt
+verdict_due p gid oid aim (Ok (verdict.Turns rf)) l f = tt
+verdict_due p gid oid aim (Ok (verdict.Selects pair)) l f = tt
+verdict_due p gid oid aim (Ok (verdict.Deactivates type rf)) l f = tt
+verdict_due p gid oid aim (Ok verdict.SetsConfig) l f = tt
+verdict_due p gid oid aim (Ok verdict.GetsConfig) l f = tt
 
 notice_said : (p : Profile) (gid oid : ℕ) (m : Octets) → gid < 16 → oid < 64 → Due p (noticed (notice_of gid oid) m)
     → Said p (notice_packet (record { gid = gid; oid = oid; payload = m }) ∷ [])
@@ -131,20 +132,20 @@ notices_said : (p : Profile) (gid oid : ℕ) (m : Octets) → gid < 16 → oid <
 unfolding Said
 notices_said p gid oid m low small h = on (Said p) (eqb (length m) 0) (λ e. tt) (λ e. notice_said p gid oid m low small h)
 
-after_said : (p : Profile) (v : Verdict) → Said p (notice_packets (notice_message v))
+after_said : (p : Profile) (v : Judgement) → Said p (notice_packets (notice_message v))
 unfolding notice_message notice_of Said
-after_said p (verdict.Refuses status) = tt
-after_said p (verdict.Resets type) = notices_said p 0 0 (reset_ntf type) (omega arith) (omega arith) tt
-after_said p verdict.Initialises = tt
-after_said p (verdict.Opens c t) = tt
-after_said p (verdict.Closes c) = tt
-after_said p (verdict.Turns rf) = tt
-after_said p (verdict.Selects pair) = tt
-after_said p (verdict.Deactivates type rf) = notices_said p 1 6 (deactivate_ntf type 0x00) (omega arith) (omega arith) tt
-after_said p verdict.SetsConfig = tt
-after_said p verdict.GetsConfig = tt
+after_said p (Err status) = tt
+after_said p (Ok (verdict.Resets type)) = notices_said p 0 0 (reset_ntf type) (omega arith) (omega arith) tt
+after_said p (Ok verdict.Initialises) = tt
+after_said p (Ok (verdict.Opens c t)) = tt
+after_said p (Ok (verdict.Closes c)) = tt
+after_said p (Ok (verdict.Turns rf)) = tt
+after_said p (Ok (verdict.Selects pair)) = tt
+after_said p (Ok (verdict.Deactivates type rf)) = notices_said p 1 6 (deactivate_ntf type 0x00) (omega arith) (omega arith) tt
+after_said p (Ok verdict.SetsConfig) = tt
+after_said p (Ok verdict.GetsConfig) = tt
 
-pub answers_said : (p : Profile) (gid oid aim : ℕ) (b m : Octets) (v : Verdict) → ProfileWithin p → Fits gid oid aim p v → Answerable b m v → gid < 16 → oid < 64
+pub answers_said : (p : Profile) (gid oid aim : ℕ) (b m : Octets) (v : Judgement) → ProfileWithin p → Fits gid oid aim p v → Answerable b m v → gid < 16 → oid < 64
     → Said p (answers gid oid p b m v)
 unfolding Said
 answers_said p gid oid aim b m v l f a low small = (

@@ -10,8 +10,9 @@ use mathlib.Core.List.{List, [], ◌∷◌, map, append-nil}
 use lib.Dec.{eqb, ltb}
 use lib.ListN.{length, drop, length-append, length-take, length-drop}
 use borrow.Author.Tests.{ltb-false, eqb-false}
+use Rattle.std.specs.Prelude.{Ok, Err}
 use Rattle.octets.specs.Octets.{Octets, pick}
-use Rattle.model.specs.Kinds.{Header, Reading, Profile, Verdict, Event}
+use Rattle.model.specs.Kinds.{Header, Reading, Profile, Event}
 use Rattle.std.specs.Prelude.{Some}
 use Rattle.model.specs.Kinds.way as way
 use Rattle.packets.specs.Packet.{packet_of, read_of, payload_of, carrying, credited, Writable}
@@ -20,6 +21,7 @@ use Rattle.packets.specs.Segments.{Segment, body, flag, marked, segment, segment
 use Rattle.packets.proofs.RoundTrip.{read_written, carrying_written}
 use Rattle.model.specs.Kinds.verdict as verdict
 use Rattle.model.specs.Kinds.event.{Found, Poll, Listen, Failed, Sleeps, LinkLost, Releases, Endpoint}
+use Rattle.state.specs.Judgement.{Judgement}
 use Rattle.state.specs.Conn.{terms_of}
 use Rattle.messages.specs.Layout.{reset_ntf, credits_ntf, generic_error_ntf, discover_ntf, activated_ntf, deactivate_ntf, response_of, notice_message}
 use Rattle.air.specs.Air.{air_message}
@@ -176,20 +178,20 @@ notice_up gid oid m low small short =
 notices_up : (gid oid : ℕ) (m : Octets) → gid < 16 → oid < 64 → length m ≤ 255 → Each UpOk (notice_packets (record { gid = gid; oid = oid; payload = m }))
 notices_up gid oid m low small short = on (Each UpOk) (eqb (length m) 0) (λ e. tt) (λ e. (notice_up gid oid m low small short, tt))
 
-after_up : (v : Verdict) → Each UpOk (notice_packets (notice_message v))
+after_up : (v : Judgement) → Each UpOk (notice_packets (notice_message v))
 unfolding notice_message
-after_up (verdict.Refuses status) = tt
-after_up (verdict.Resets type) = notices_up 0 0 (reset_ntf type) (omega arith) (omega arith) (omega arith)
-after_up verdict.Initialises = tt
-after_up (verdict.Opens c t) = tt
-after_up (verdict.Closes c) = tt
-after_up (verdict.Turns rf) = tt
-after_up (verdict.Selects pair) = tt
-after_up (verdict.Deactivates type rf) = notices_up 1 6 (deactivate_ntf type 0x00) (omega arith) (omega arith) (omega arith)
-after_up verdict.SetsConfig = tt
-after_up verdict.GetsConfig = tt
+after_up (Err status) = tt
+after_up (Ok (verdict.Resets type)) = notices_up 0 0 (reset_ntf type) (omega arith) (omega arith) (omega arith)
+after_up (Ok verdict.Initialises) = tt
+after_up (Ok (verdict.Opens c t)) = tt
+after_up (Ok (verdict.Closes c)) = tt
+after_up (Ok (verdict.Turns rf)) = tt
+after_up (Ok (verdict.Selects pair)) = tt
+after_up (Ok (verdict.Deactivates type rf)) = notices_up 1 6 (deactivate_ntf type 0x00) (omega arith) (omega arith) (omega arith)
+after_up (Ok verdict.SetsConfig) = tt
+after_up (Ok verdict.GetsConfig) = tt
 
-pub answers_up : (gid oid : ℕ) (p : Profile) (b m : Octets) (v : Verdict) → Answerable b m v → gid < 16 → oid < 64 → Each UpOk (answers gid oid p b m v)
+pub answers_up : (gid oid : ℕ) (p : Profile) (b m : Octets) (v : Judgement) → Answerable b m v → gid < 16 → oid < 64 → Each UpOk (answers gid oid p b m v)
 answers_up gid oid p b m v a low small = (
   (
     control_formed 2 gid oid false (response_of p b m v) (omega arith) (omega arith) low small (response_short p b m v a.whole),

@@ -9,10 +9,11 @@ use lib.Dec.{eqb, leb}
 use lib.ListN.{length, length-append}
 use borrow.Author.Tests.{ltb-false, leb-false}
 use Rattle.octets.specs.Octets.{Octets}
+use Rattle.state.specs.Judgement.{Judgement}
 use Rattle.state.specs.Commands.{aim_in}
 use Rattle.packets.specs.Segments.{Segment, more, last}
 use Rattle.packets.specs.Reassembly.{Fit}
-use Rattle.model.specs.Kinds.{Profile, Verdict}
+use Rattle.model.specs.Kinds.{Profile}
 use Rattle.state.specs.Runs.{control_limit}
 use Rattle.state.specs.Profile.{ProfileWithin}
 use Rattle.nfcc.specs.Controller.{judge_of}
@@ -40,11 +41,11 @@ use Rattle.model.proofs.Said.{said_append, answers_said}
 use Rattle.model.proofs.Small.{Small, grown_within, finished_fits, more_none, at_small, change_controller, open_known}
 
 -- at most two packets answer a command
-answers_few : (gid oid : ℕ) (p : Profile) (b m : Octets) (v : Verdict) → length (answers gid oid p b m v) ≤ 2
+answers_few : (gid oid : ℕ) (p : Profile) (b m : Octets) (v : Judgement) → length (answers gid oid p b m v) ≤ 2
 answers_few gid oid p b m v = omega (arith, notices_few (notice_message v))
 
 -- a whole command is answered
-deciding_small : (s : State) (gid oid aim : ℕ) (o : Octets) (v : Verdict) → ProfileWithin s.profile → Fits gid oid aim s.profile v → Answerable s.config o v
+deciding_small : (s : State) (gid oid aim : ℕ) (o : Octets) (v : Judgement) → ProfileWithin s.profile → Fits gid oid aim s.profile v → Answerable s.config o v
     → gid < 16 → oid < 64 → full 2 s.up ≡ false → Small s → Small (deciding gid oid o v s).next
 deciding_small s gid oid aim o v l f a low small fits m =
     record {

@@ -9,8 +9,10 @@ use mathlib.Core.List.{List, [], ◌∷◌}
 use lib.Dec.{eqb}
 use lib.ListN.{length, get_or}
 use borrow.Author.Tests.{eqb-true}
+use Rattle.std.specs.Prelude.{Ok, Err}
 use Rattle.octets.specs.Octets.{Octets, pick}
 use Rattle.packets.specs.Segments.{Segment}
+use Rattle.state.specs.Judgement.{Judgement}
 use Rattle.state.specs.Conn.{terms_of}
 use Rattle.state.proofs.Chains.{on}
 use Rattle.nfcc.specs.Controller.{judge_of}
@@ -19,7 +21,7 @@ use Rattle.air.specs.Air.{event_of, is_refused}
 use Rattle.air.proofs.Taken.{event_within, AirLegal, aired_legal}
 use Rattle.ends.specs.Changes.{Change, stays, opens, closes, gives, change_by}
 use Rattle.wires.specs.Meaning.{Meaning, datum, control, junk, meaning}
-use Rattle.model.specs.Kinds.{Rf, Verdict, Aired}
+use Rattle.model.specs.Kinds.{Rf, Aired}
 use Rattle.model.specs.Kinds.verdict as verdict
 use Rattle.model.specs.Kinds.aired.{Goes, Activates, Ends, Speaks}
 use Rattle.model.specs.Connection.{ControllerEnd, Connection, with_host, with_controller, sent, pushed, heard_data, credited, stored}
@@ -69,18 +71,18 @@ changed (opens t) k n o q h e = h ∙ ap length (q o)
 changed closes k n o q h e = clash e refl
 changed (gives m) k n o q h e = h
 
-verdict_anew : (rf : Rf) (s : State) (v : Verdict) → Legal rf (is_open s) v → Anew (change_by v 0) (s.conns 0).controller
-verdict_anew rf s (verdict.Refuses status) g = tt
-verdict_anew rf s (verdict.Resets type) g = tt
-verdict_anew rf s verdict.Initialises g = tt
-verdict_anew rf s (verdict.Opens c t) g =
+verdict_anew : (rf : Rf) (s : State) (v : Judgement) → Legal rf (is_open s) v → Anew (change_by v 0) (s.conns 0).controller
+verdict_anew rf s (Err status) g = tt
+verdict_anew rf s (Ok (verdict.Resets type)) g = tt
+verdict_anew rf s (Ok verdict.Initialises) g = tt
+verdict_anew rf s (Ok (verdict.Opens c t)) g =
     on (λ (x : Change). Anew x (s.conns 0).controller) (eqb c 0) (λ e. subst (λ (d : ℕ). is_open s d ≡ false) (eqb-true c 0 e) g) (λ e. tt)
-verdict_anew rf s (verdict.Closes c) g = on (λ (x : Change). Anew x (s.conns 0).controller) (eqb c 0) (λ e. tt) (λ e. tt)
-verdict_anew rf s (verdict.Turns next) g = tt
-verdict_anew rf s (verdict.Selects pair) g = tt
-verdict_anew rf s (verdict.Deactivates type next) g = tt
-verdict_anew rf s verdict.SetsConfig g = tt
-verdict_anew rf s verdict.GetsConfig g = tt
+verdict_anew rf s (Ok (verdict.Closes c)) g = on (λ (x : Change). Anew x (s.conns 0).controller) (eqb c 0) (λ e. tt) (λ e. tt)
+verdict_anew rf s (Ok (verdict.Turns next)) g = tt
+verdict_anew rf s (Ok (verdict.Selects pair)) g = tt
+verdict_anew rf s (Ok (verdict.Deactivates type next)) g = tt
+verdict_anew rf s (Ok verdict.SetsConfig) g = tt
+verdict_anew rf s (Ok verdict.GetsConfig) g = tt
 
 -- ---- calls that leave it alone
 
@@ -128,7 +130,7 @@ Shut s = (s.conns 0).controller.opened ≡ false → speech_of s ≡ []
 answering_counted : (s : State) (n : ℕ) → Shut s → Counted s n → (gid oid : ℕ) (ms : List Octets) (b : Bool) → WhileOpen (answering gid oid ms b s).next n
 answering_counted s n shut h gid oid [] b = λ _. h
 answering_counted s n shut h gid oid (m ∷ ms) b =
-    let v : Verdict = judge_of s.profile s.controller (is_open s) gid oid m in
+    let v : Judgement = judge_of s.profile s.controller (is_open s) gid oid m in
     changed (change_by v 0) (s.conns 0).controller n
     (verdict_anew s.controller.rf s v (judge_legal (is_open s) s.profile s.controller gid oid m)) shut h
 

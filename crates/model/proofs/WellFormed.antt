@@ -14,8 +14,9 @@ use Rattle.packets.specs.Packet.{read_of, carrying}
 use Rattle.packets.specs.Reserved.{rfu_by}
 use Rattle.packets.specs.Segments.{Segment, segments, segment_packet, packets_of}
 use Rattle.packets.specs.Reassembly.{Fit}
+use Rattle.state.specs.Judgement.{Judgement}
 use Rattle.state.specs.Runs.{control_limit}
-use Rattle.model.specs.Kinds.{Profile, Verdict, Aired}
+use Rattle.model.specs.Kinds.{Profile, Aired}
 use Rattle.model.specs.Kinds.way as way
 use Rattle.model.specs.Kinds.aired.{Goes, Activates, Ends, Speaks}
 use Rattle.state.specs.Conn.{place_of, terms_of}
@@ -105,7 +106,7 @@ push_shaped s c t m = go (s.conns c).host.hand refl
 
 -- ---- down
 
-deciding_shaped : (s : State) (gid oid : ℕ) (o : Octets) (v : Verdict) → Answerable s.config o v → gid < 16 → oid < 64 → Shaped s
+deciding_shaped : (s : State) (gid oid : ℕ) (o : Octets) (v : Judgement) → Answerable s.config o v → gid < 16 → oid < 64 → Shaped s
     → Shaped (deciding gid oid o v s).next
 deciding_shaped s gid oid o v a low small m =
     record {

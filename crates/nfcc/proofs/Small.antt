@@ -4,32 +4,33 @@ use Prim.Native.Nat.{ℕ, ◌%◌}
 use mathlib.Core.Bool.{Bool, not, ◌&&◌, ◌||◌}
 use lib.ListN.{length, get_or}
 use lib.Dec.{eqb, ltb, leb}
-use Rattle.std.specs.Prelude.{Some, None}
+use Rattle.std.specs.Prelude.{Some, None, Option, Ok, Err}
 use Rattle.octets.specs.Octets.{Octets}
 use Rattle.octets.specs.Octal.{Octal}
 use Rattle.octets.proofs.Octal.{octal_at}
-use Rattle.nfcc.specs.Kinds.{Profile, Controller, Pair, Pairs, Rf, Command, Verdict}
+use Rattle.nfcc.specs.Kinds.{Profile, Controller, Pair, Pairs, Rf, Command}
 use Rattle.nfcc.specs.Kinds.rf.{Idle, Discovery, W4AllDiscoveries, W4HostSelect, PollActive, ListenActive, ListenSleep}
 use Rattle.nfcc.specs.Kinds.command as command
 use Rattle.nfcc.specs.Kinds.verdict as verdict
+use Rattle.state.specs.Judgement.{Judgement}
 use Rattle.state.specs.Commands.{command_of}
 use Rattle.state.specs.Radio.{is_idle, listed}
 use Rattle.state.proofs.Chains.{on}
 use Rattle.state.proofs.Small.{PairSmall, RfSmall, PairsSmall, RadioSmall, nones_small}
 use Rattle.config.specs.Commands.{count_in, names_known}
-use Rattle.nfcc.specs.Controller.{shortest, allowed, reset_by, next_id, create_by, close_by, configs_ok, discover_by, select_by, sleep_rejected, rest_state, deactivate_by, set_by, values_of, judge_of, turned, controller_after}
+use Rattle.nfcc.specs.Controller.{shortest, allowed, reset_by, next_id, opens_as, create_by, close_by, configs_ok, discover_by, select_by, sleep_rejected, rest_state, deactivate_by, set_by, values_of, judge_of, turned, controller_after}
 
-abbrev pub VerdictSmall : Verdict → Type 0
-VerdictSmall (verdict.Refuses status) = Unit {0}
-VerdictSmall (verdict.Resets type) = Unit {0}
-VerdictSmall verdict.Initialises = Unit {0}
-VerdictSmall (verdict.Opens c t) = Unit {0}
-VerdictSmall (verdict.Closes c) = Unit {0}
-VerdictSmall (verdict.Turns rf) = RfSmall rf
-VerdictSmall (verdict.Selects pair) = PairSmall pair
-VerdictSmall (verdict.Deactivates type rf) = RfSmall rf
-VerdictSmall verdict.SetsConfig = Unit {0}
-VerdictSmall verdict.GetsConfig = Unit {0}
+abbrev pub VerdictSmall : Judgement → Type 0
+VerdictSmall (Err status) = Unit {0}
+VerdictSmall (Ok (verdict.Resets type)) = Unit {0}
+VerdictSmall (Ok verdict.Initialises) = Unit {0}
+VerdictSmall (Ok (verdict.Opens c t)) = Unit {0}
+VerdictSmall (Ok (verdict.Closes c)) = Unit {0}
+VerdictSmall (Ok (verdict.Turns rf)) = RfSmall rf
+VerdictSmall (Ok (verdict.Selects pair)) = PairSmall pair
+VerdictSmall (Ok (verdict.Deactivates type rf)) = RfSmall rf
+VerdictSmall (Ok verdict.SetsConfig) = Unit {0}
+VerdictSmall (Ok verdict.GetsConfig) = Unit {0}
 
 -- ---- the verdict
 
@@ -57,13 +58,17 @@ deactivate_small (ListenActive a) type =
 deactivate_small ListenSleep type = on VerdictSmall (ltb 3 type) (λ e. tt) (λ e. on VerdictSmall (eqb type 0) (λ z. tt) (λ z. tt))
 
 module _ (p : Profile) (k : Controller) (is_open : ℕ → Bool) (m : Octets) (octal : Octal m) where
+  opens_small : (id : Option ℕ) → VerdictSmall (opens_as p id)
+  opens_small None = tt
+  opens_small (Some id) = tt
+
   values_small : (c : Command) → VerdictSmall (values_of p k is_open c m)
   unfolding reset_by create_by close_by discover_by set_by
   values_small command.Reset = on VerdictSmall (ltb 1 (get_or m 0 0)) (λ e. tt) (λ e. tt)
   values_small command.Init = tt
   values_small command.ConnCreate =
       on VerdictSmall (eqb (get_or m 0 0) 0x01 && eqb (get_or m 1 0) 0x00)
-      (λ e. on VerdictSmall (eqb (next_id is_open k.given) 0) (λ z. tt) (λ z. tt)) (λ e. tt)
+      (λ e. opens_small (next_id is_open k.given)) (λ e. tt)
   values_small command.ConnClose =
       let id = get_or m 0 0 % 16 in on VerdictSmall (not (eqb id 0) && is_open id) (λ e. tt) (λ e. tt)
   values_small command.Discover =
@@ -90,15 +95,15 @@ turned_small : (k : Controller) (rf : Rf) → RfSmall rf → RadioSmall k → Ra
 turned_small k rf s h =
     record { rf = s; pairs = on (λ (ps : Pairs). PairsSmall ps.list) (is_idle rf) (λ e. nones_small) (λ e. h.pairs) }
 
-pub after_small : (k : Controller) (v : Verdict) → VerdictSmall v → RadioSmall k → RadioSmall (controller_after k v)
+pub after_small : (k : Controller) (v : Judgement) → VerdictSmall v → RadioSmall k → RadioSmall (controller_after k v)
 unfolding controller_after
-after_small k (verdict.Refuses status) s h = h
-after_small k (verdict.Resets type) s h = record { rf = tt; pairs = nones_small }
-after_small k verdict.Initialises s h = record { rf = h.rf; pairs = h.pairs }
-after_small k (verdict.Opens c t) s h = record { rf = h.rf; pairs = h.pairs }
-after_small k (verdict.Closes c) s h = h
-after_small k (verdict.Turns rf) s h = turned_small k rf s h
-after_small k (verdict.Selects pair) s h = turned_small k (W4HostSelect (Some pair)) s h
-after_small k (verdict.Deactivates type rf) s h = turned_small k rf s h
-after_small k verdict.SetsConfig s h = h
-after_small k verdict.GetsConfig s h = h
+after_small k (Err status) s h = h
+after_small k (Ok (verdict.Resets type)) s h = record { rf = tt; pairs = nones_small }
+after_small k (Ok verdict.Initialises) s h = record { rf = h.rf; pairs = h.pairs }
+after_small k (Ok (verdict.Opens c t)) s h = record { rf = h.rf; pairs = h.pairs }
+after_small k (Ok (verdict.Closes c)) s h = h
+after_small k (Ok (verdict.Turns rf)) s h = turned_small k rf s h
+after_small k (Ok (verdict.Selects pair)) s h = turned_small k (W4HostSelect (Some pair)) s h
+after_small k (Ok (verdict.Deactivates type rf)) s h = turned_small k rf s h
+after_small k (Ok verdict.SetsConfig) s h = h
+after_small k (Ok verdict.GetsConfig) s h = h

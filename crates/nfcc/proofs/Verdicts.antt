@@ -4,18 +4,20 @@ use Prim.Native.Nat.{ℕ, zero, suc, ◌%◌, ◌≤◌}
 use native.Mathlib.Omega.{arith}
 use mathlib.Core.Path.{◌≡◌, refl, sym, ap, subst}
 use mathlib.Core.Logic.{◌⊎◌, inl, inr}
-use mathlib.Core.Bool.{Bool, true, false, not, ◌&&◌, ◌||◌, true≢false, false≢true}
+use mathlib.Core.Bool.{Bool, true, false, not, ◌&&◌, ◌||◌, false≢true}
 use lib.Dec.{eqb, ltb, leb}
 use lib.ListN.{length, get_or}
 use borrow.Author.Tests.{eqb-true, ltb-true, ltb-false, leb-true, not-true, ne_eqb}
-use Rattle.std.specs.Prelude.{None}
+use Rattle.std.specs.Prelude.{None, Option, Some, Ok, Err}
 use Rattle.octets.specs.Octets.{Octets, pick}
 use Rattle.octets.specs.Octal.{Octal}
 use Rattle.octets.proofs.Octal.{octal_at}
-use Rattle.nfcc.specs.Kinds.{Profile, Controller, Pair, Pairs, Rf, Command, Verdict}
+use Rattle.nfcc.specs.Kinds.{Profile, Controller, Pair, Pairs, Rf, Command}
 use Rattle.nfcc.specs.Kinds.rf.{Idle, Discovery, W4AllDiscoveries, W4HostSelect, PollActive, ListenActive, ListenSleep}
 use Rattle.nfcc.specs.Kinds.command as command
+use Rattle.nfcc.specs.Kinds.status.{SyntaxError, SemanticError}
 use Rattle.nfcc.specs.Kinds.verdict as verdict
+use Rattle.state.specs.Judgement.{Judgement, octet_of}
 use Rattle.state.specs.Conn.{terms_of}
 use Rattle.state.specs.Commands.{command_of, aim_in}
 use Rattle.state.specs.Radio.{is_idle, is_active, listed}
@@ -23,7 +25,7 @@ use Rattle.state.proofs.Chains.{on, and_left, and_right}
 use Rattle.state.proofs.Steady.{Steady}
 use Rattle.state.proofs.SmallVerdicts.{Bare, SmallTerms, SmallVerdict}
 use Rattle.config.specs.Commands.{count_in, param_at, names_known}
-use Rattle.nfcc.specs.Controller.{shortest, allowed, reset_by, after, seek, next_id, create_by, close_by, configs_ok, discover_by, select_by, sleep_rejected, rest_state, deactivate_by, set_by, values_of, judge_of, turned, controller_after}
+use Rattle.nfcc.specs.Controller.{shortest, allowed, reset_by, after, seek, next_id, opens_as, create_by, close_by, configs_ok, discover_by, select_by, sleep_rejected, rest_state, deactivate_by, set_by, values_of, judge_of, turned, controller_after}
 
 -- ---- which command a GID and an OID name
 
@@ -60,21 +62,22 @@ command_named gid oid =
 
 -- ---- what ties a verdict to its command, where the command's first octet names the connection `aim`
 
-abbrev pub Fits : ℕ → ℕ → ℕ → Profile → Verdict → Type 0
-Fits gid oid aim p (verdict.Refuses status) = status ≡ 0 → ⊥
-Fits gid oid aim p (verdict.Resets type) = (gid ≡ 0) × (oid ≡ 0) × (type ≤ 1)
-Fits gid oid aim p verdict.Initialises = (gid ≡ 0) × (oid ≡ 1)
-Fits gid oid aim p (verdict.Opens c t) = (gid ≡ 0) × (oid ≡ 4) × (2 ≤ c) × (c ≤ 5) × (t ≡ terms_of p c)
-Fits gid oid aim p (verdict.Closes c) = (gid ≡ 0) × (oid ≡ 5) × (c ≡ aim)
-Fits gid oid aim p (verdict.Turns rf) = (gid ≡ 1) × ((oid ≡ 3) ⊎ (oid ≡ 6))
-Fits gid oid aim p (verdict.Selects pair) = (gid ≡ 1) × (oid ≡ 4)
-Fits gid oid aim p (verdict.Deactivates type rf) = (gid ≡ 1) × (oid ≡ 6) × (type ≤ 3)
-Fits gid oid aim p verdict.SetsConfig = (gid ≡ 0) × (oid ≡ 2)
-Fits gid oid aim p verdict.GetsConfig = (gid ≡ 0) × (oid ≡ 3)
+abbrev pub Fits : ℕ → ℕ → ℕ → Profile → Judgement → Type 0
+Fits gid oid aim p (Err status) = octet_of status ≡ 0 → ⊥
+Fits gid oid aim p (Ok (verdict.Resets type)) = (gid ≡ 0) × (oid ≡ 0) × (type ≤ 1)
+Fits gid oid aim p (Ok verdict.Initialises) = (gid ≡ 0) × (oid ≡ 1)
+Fits gid oid aim p (Ok (verdict.Opens c t)) = (gid ≡ 0) × (oid ≡ 4) × (2 ≤ c) × (c ≤ 5) × (t ≡ terms_of p c)
+Fits gid oid aim p (Ok (verdict.Closes c)) = (gid ≡ 0) × (oid ≡ 5) × (c ≡ aim)
+Fits gid oid aim p (Ok (verdict.Turns rf)) = (gid ≡ 1) × ((oid ≡ 3) ⊎ (oid ≡ 6))
+Fits gid oid aim p (Ok (verdict.Selects pair)) = (gid ≡ 1) × (oid ≡ 4)
+Fits gid oid aim p (Ok (verdict.Deactivates type rf)) = (gid ≡ 1) × (oid ≡ 6) × (type ≤ 3)
+Fits gid oid aim p (Ok verdict.SetsConfig) = (gid ≡ 0) × (oid ≡ 2)
+Fits gid oid aim p (Ok verdict.GetsConfig) = (gid ≡ 0) × (oid ≡ 3)
 
 -- the Conn ID that is given is 2-5 and not open, where there is one
-abbrev Given : (ℕ → Bool) → ℕ → Type 0
-Given is_open id = eqb id 0 ≡ false → (2 ≤ id) × (id ≤ 5) × (is_open id ≡ false)
+abbrev Given : (ℕ → Bool) → Option ℕ → Type 0
+Given is_open None = Unit {0}
+Given is_open (Some id) = (2 ≤ id) × (id ≤ 5) × (is_open id ≡ false)
 
 after_range : (id : ℕ) → (2 ≤ after id) × (after id ≤ 5)
 unfolding after
@@ -87,11 +90,11 @@ after_range id =
 
 seek_given : (is_open : ℕ → Bool) (n id : ℕ) → 2 ≤ id → id ≤ 5 → Given is_open (seek is_open n id)
 unfolding seek
-seek_given is_open zero id low high = λ z. absurd (true≢false z)
+seek_given is_open zero id low high = tt
 seek_given is_open (suc n) id low high =
     let next = after_range id in
     let ih = seek_given is_open n (after id) next.0 next.1 in
-    on (Given is_open) (is_open id) (λ e. ih) (λ e z. (low, high, e))
+    on (Given is_open) (is_open id) (λ e. ih) (λ e. (low, high, e))
 
 next_given : (is_open : ℕ → Bool) (given : ℕ) → Given is_open (next_id is_open given)
 unfolding next_id
@@ -106,9 +109,12 @@ module _ (p : Profile) (k : Controller) (is_open : ℕ → Bool) (gid oid : ℕ)
   unfolding create_by
   create_fits aim m n =
       on (Fits gid oid aim p) (eqb (get_or m 0 0) 0x01 && eqb (get_or m 1 0) 0x00)
-      (λ e. on (Fits gid oid aim p) (eqb (next_id is_open k.given) 0) (λ z. omega arith)
-      (λ z. let r = next_given is_open k.given z in (n.0, n.1, r.0, r.1, refl)))
+      (λ e. opens (next_id is_open k.given) (next_given is_open k.given))
       (λ e. omega arith)
+    where
+      opens : (id : Option ℕ) → Given is_open id → Fits gid oid aim p (opens_as p id)
+      opens None r = omega arith
+      opens (Some id) r = (n.0, n.1, r.0, r.1, refl)
 
   close_fits : (octet : ℕ) → Named gid oid command.ConnClose → Fits gid oid (octet % 16) p (close_by is_open octet)
   unfolding close_by
@@ -178,31 +184,31 @@ module _ (p : Profile) (k : Controller) (is_open : ℕ → Bool) (gid oid : ℕ)
       (λ e. on (Fits gid oid aim p) (allowed k.phase c) (λ a. values_fit c m (ltb-false (length m) (shortest c m) e) (command_named gid oid)) (λ a. omega arith))
 
   -- a set that is taken is whole: its list is not cut short
-  pub judge_whole : (m : Octets) → judge_of p k is_open gid oid m ≡ verdict.SetsConfig → param_at m (count_in m) ≤ length m
+  pub judge_whole : (m : Octets) → judge_of p k is_open gid oid m ≡ Ok verdict.SetsConfig → param_at m (count_in m) ≤ length m
   unfolding judge_of command_of shortest
   judge_whole m e =
       let named = subst (Fits gid oid (aim_in m) p) e (judge_fits m) in
       go (ltb (length m) (param_at m (count_in m))) refl (rw (named.0, named.1) at e)
     where
       go : (b : Bool) → ltb (length m) (param_at m (count_in m)) ≡ b
-          → pick b (verdict.Refuses 0x05) (pick (allowed k.phase command.SetConfig) (set_by k.rf m) (verdict.Refuses 0x06)) ≡ verdict.SetsConfig
+          → pick b (Err SyntaxError) (pick (allowed k.phase command.SetConfig) (set_by k.rf m) (Err SemanticError)) ≡ Ok verdict.SetsConfig
           → param_at m (count_in m) ≤ length m
       go true l e = absurd (let z : ◌≡◌ {A = ℕ} 0 1 = cc in omega arith)
       go false l e = ltb-false (length m) (param_at m (count_in m)) l
 
 -- ---- what a verdict says of the state that it was reached in, by the RF state and the connections open at the controller
 
-abbrev pub Legal : Rf → (ℕ → Bool) → Verdict → Type 0
-Legal rf is_open (verdict.Refuses status) = Unit {0}
-Legal rf is_open (verdict.Resets type) = Unit {0}
-Legal rf is_open verdict.Initialises = Unit {0}
-Legal rf is_open (verdict.Opens c t) = is_open c ≡ false
-Legal rf is_open (verdict.Closes c) = (eqb c 0 ≡ false) × (is_open c ≡ true)
-Legal rf is_open (verdict.Turns next) = (is_active rf ≡ false) × (is_active next ≡ false)
-Legal rf is_open (verdict.Selects pair) = is_active rf ≡ false
-Legal rf is_open (verdict.Deactivates type next) = (is_active rf ≡ true) × (is_active next ≡ false)
-Legal rf is_open verdict.SetsConfig = Unit {0}
-Legal rf is_open verdict.GetsConfig = Unit {0}
+abbrev pub Legal : Rf → (ℕ → Bool) → Judgement → Type 0
+Legal rf is_open (Err status) = Unit {0}
+Legal rf is_open (Ok (verdict.Resets type)) = Unit {0}
+Legal rf is_open (Ok verdict.Initialises) = Unit {0}
+Legal rf is_open (Ok (verdict.Opens c t)) = is_open c ≡ false
+Legal rf is_open (Ok (verdict.Closes c)) = (eqb c 0 ≡ false) × (is_open c ≡ true)
+Legal rf is_open (Ok (verdict.Turns next)) = (is_active rf ≡ false) × (is_active next ≡ false)
+Legal rf is_open (Ok (verdict.Selects pair)) = is_active rf ≡ false
+Legal rf is_open (Ok (verdict.Deactivates type next)) = (is_active rf ≡ true) × (is_active next ≡ false)
+Legal rf is_open (Ok verdict.SetsConfig) = Unit {0}
+Legal rf is_open (Ok verdict.GetsConfig) = Unit {0}
 
 idle_inactive : (rf : Rf) → is_idle rf ≡ true → is_active rf ≡ false
 idle_inactive Idle e = refl
@@ -227,8 +233,12 @@ module _ (is_open : ℕ → Bool) where
   unfolding create_by
   create_legal p rf given m =
       on (Legal rf is_open) (eqb (get_or m 0 0) 0x01 && eqb (get_or m 1 0) 0x00)
-      (λ e. on (Legal rf is_open) (eqb (next_id is_open given) 0) (λ z. tt) (λ z. (next_given is_open given z).2))
+      (λ e. opens (next_id is_open given) (next_given is_open given))
       (λ e. tt)
+    where
+      opens : (id : Option ℕ) → Given is_open id → Legal rf is_open (opens_as p id)
+      opens None r = tt
+      opens (Some id) r = r.2
 
   close_legal : (rf : Rf) (octet : ℕ) → Legal rf is_open (close_by is_open octet)
   unfolding close_by
@@ -301,18 +311,18 @@ turned_steady k rf m =
       places = on (λ (ps : Pairs). length ps.list ≡ 8) (is_idle rf) (λ e. refl) (λ e. m.places);
     }
 
-pub after_steady : (gid oid aim : ℕ) (p : Profile) (k : Controller) (v : Verdict) → Fits gid oid aim p v → Steady k → Steady (controller_after k v)
+pub after_steady : (gid oid aim : ℕ) (p : Profile) (k : Controller) (v : Judgement) → Fits gid oid aim p v → Steady k → Steady (controller_after k v)
 unfolding controller_after
-after_steady gid oid aim p k (verdict.Refuses status) f m = m
-after_steady gid oid aim p k (verdict.Resets type) f m = record { given = inl refl; pairs = omega arith; places = refl }
-after_steady gid oid aim p k verdict.Initialises f m = record { given = m.given; pairs = m.pairs; places = m.places }
-after_steady gid oid aim p k (verdict.Opens c t) f m = record { given = inr (f.2, f.3); pairs = m.pairs; places = m.places }
-after_steady gid oid aim p k (verdict.Closes c) f m = m
-after_steady gid oid aim p k (verdict.Turns rf) f m = turned_steady k rf m
-after_steady gid oid aim p k (verdict.Selects pair) f m = turned_steady k _ m
-after_steady gid oid aim p k (verdict.Deactivates type rf) f m = turned_steady k rf m
-after_steady gid oid aim p k verdict.SetsConfig f m = m
-after_steady gid oid aim p k verdict.GetsConfig f m = m
+after_steady gid oid aim p k (Err status) f m = m
+after_steady gid oid aim p k (Ok (verdict.Resets type)) f m = record { given = inl refl; pairs = omega arith; places = refl }
+after_steady gid oid aim p k (Ok verdict.Initialises) f m = record { given = m.given; pairs = m.pairs; places = m.places }
+after_steady gid oid aim p k (Ok (verdict.Opens c t)) f m = record { given = inr (f.2, f.3); pairs = m.pairs; places = m.places }
+after_steady gid oid aim p k (Ok (verdict.Closes c)) f m = m
+after_steady gid oid aim p k (Ok (verdict.Turns rf)) f m = turned_steady k rf m
+after_steady gid oid aim p k (Ok (verdict.Selects pair)) f m = turned_steady k _ m
+after_steady gid oid aim p k (Ok (verdict.Deactivates type rf)) f m = turned_steady k rf m
+after_steady gid oid aim p k (Ok verdict.SetsConfig) f m = m
+after_steady gid oid aim p k (Ok verdict.GetsConfig) f m = m
 
 -- ---- what a verdict carries is octets, where the command's and the profile's are
 
@@ -342,14 +352,17 @@ deactivate_small ListenSleep type h =
     on SmallVerdict (ltb 3 type) (λ e. omega arith) (λ e. on SmallVerdict (eqb type 0) (λ z. tt) (λ z. omega arith))
 
 module _ (p : Profile) (k : Controller) (is_open : ℕ → Bool) (m : Octets) (o : Octal m) (terms : (c : ℕ) → SmallTerms (terms_of p c)) where
+  opens_small : (id : Option ℕ) → Given is_open id → SmallVerdict (opens_as p id)
+  opens_small None r = omega arith
+  opens_small (Some id) r = (omega (arith, r.1), terms id)
+
   values_small : (c : Command) → SmallVerdict (values_of p k is_open c m)
   unfolding reset_by create_by close_by discover_by set_by
   values_small command.Reset = on SmallVerdict (ltb 1 (get_or m 0 0)) (λ e. omega arith) (λ e. octal_at o 0)
   values_small command.Init = tt
   values_small command.ConnCreate =
       on SmallVerdict (eqb (get_or m 0 0) 0x01 && eqb (get_or m 1 0) 0x00)
-      (λ e. on SmallVerdict (eqb (next_id is_open k.given) 0) (λ z. omega arith)
-      (λ z. let r = next_given is_open k.given z in (omega arith, terms (next_id is_open k.given))))
+      (λ e. opens_small (next_id is_open k.given) (next_given is_open k.given))
       (λ e. omega arith)
   values_small command.ConnClose =
       on SmallVerdict (not (eqb (get_or m 0 0 % 16) 0) && is_open (get_or m 0 0 % 16)) (λ e. tt) (λ e. omega arith)

@@ -1,6 +1,6 @@
 -- Each command of document 01 as octets, made from its fields, and read back by the controller's judgement.
 -- Assumes nothing.
-use Rattle.std.specs.Prelude.{ℕ, zero, suc, ◌<◌, ◌≤◌, ◌≡◌, Bool, true, false, ◌&&◌, List, [], ◌∷◌, ◌++◌, length, get_or, eqb, Option}
+use Rattle.std.specs.Prelude.{ℕ, zero, suc, ◌<◌, ◌≤◌, ◌≡◌, Bool, true, false, ◌&&◌, List, [], ◌∷◌, ◌++◌, length, get_or, eqb, Option, Ok}
 use Rattle.octets.specs.Octets.{Octets}
 use Rattle.nfcc.specs.Kinds.{Profile, Pair, Controller}
 use Rattle.nfcc.specs.Kinds.phase as phase
@@ -73,24 +73,24 @@ params_in m = first_params m (count_in m)
 -- ---- octets to fields: what the controller reads in each, in a state that takes it
 
 pub record CommandTrips : Type 0 where
-  pub reset : (p : Profile) (k : Controller) (is_open : ℕ → Bool) (type : ℕ) → type ≤ 1 → judge_of p k is_open 0 0 (reset_cmd type) ≡ Resets type
+  pub reset : (p : Profile) (k : Controller) (is_open : ℕ → Bool) (type : ℕ) → type ≤ 1 → judge_of p k is_open 0 0 (reset_cmd type) ≡ Ok (Resets type)
   pub init : (p : Profile) (k : Controller) (is_open : ℕ → Bool) (low high : ℕ) → k.phase ≡ phase.Reset
-      → judge_of p k is_open 0 1 (init_cmd low high) ≡ Initialises
+      → judge_of p k is_open 0 1 (init_cmd low high) ≡ Ok Initialises
   pub create : (p : Profile) (k : Controller) (is_open : ℕ → Bool) → k.phase ≡ phase.Ready
       → judge_of p k is_open 0 4 create_cmd ≡ opens_as p (next_id is_open k.given)
   pub close : (p : Profile) (k : Controller) (is_open : ℕ → Bool) (id : ℕ) → k.phase ≡ phase.Ready → id < 16 → eqb id 0 ≡ false
-      → is_open id ≡ true → judge_of p k is_open 0 5 (close_cmd id) ≡ Closes id
+      → is_open id ≡ true → judge_of p k is_open 0 5 (close_cmd id) ≡ Ok (Closes id)
   pub discover : (p : Profile) (k : Controller) (is_open : ℕ → Bool) (cs : List Config) → k.phase ≡ phase.Ready → k.rf ≡ Idle
-      → length cs ≤ 8 → all_ok cs ≡ true → judge_of p k is_open 1 3 (discover_cmd cs) ≡ Turns Discovery
+      → length cs ≤ 8 → all_ok cs ≡ true → judge_of p k is_open 1 3 (discover_cmd cs) ≡ Ok (Turns Discovery)
   pub select : (p : Profile) (k : Controller) (is_open : ℕ → Bool) (s : Option Pair) (x : Pair) → k.phase ≡ phase.Ready → k.rf ≡ W4HostSelect s
-      → listed k.pairs x ≡ true → judge_of p k is_open 1 4 (select_cmd x 0x01) ≡ Selects x
+      → listed k.pairs x ≡ true → judge_of p k is_open 1 4 (select_cmd x 0x01) ≡ Ok (Selects x)
   pub deactivate : (p : Profile) (k : Controller) (is_open : ℕ → Bool) (type : ℕ) → k.phase ≡ phase.Ready
       → judge_of p k is_open 1 6 (deactivate_cmd type) ≡ deactivate_by k.rf type
   -- every list is taken in IDLE, ends with its payload and is read back; on a wire its count and its lengths are octets, up to 255
   pub set : (p : Profile) (k : Controller) (is_open : ℕ → Bool) (ps : List Param) → k.phase ≡ phase.Ready → k.rf ≡ Idle
-      → judge_of p k is_open 0 2 (set_cmd ps) ≡ SetsConfig
+      → judge_of p k is_open 0 2 (set_cmd ps) ≡ Ok SetsConfig
   pub set_whole_law : (ps : List Param) → param_at (set_cmd ps) (length ps) ≡ length (set_cmd ps)
   pub set_read : (ps : List Param) → params_in (set_cmd ps) ≡ ps
   pub get : (p : Profile) (k : Controller) (is_open : ℕ → Bool) (ids : Octets) → k.phase ≡ phase.Ready
-      → judge_of p k is_open 0 3 (get_cmd ids) ≡ GetsConfig
+      → judge_of p k is_open 0 3 (get_cmd ids) ≡ Ok GetsConfig
   pub get_read : (ids : Octets) (n : ℕ) → n < count_in (get_cmd ids) → asked_in (get_cmd ids) n ≡ get_or ids n 0

@@ -14,5 +14,6 @@ pub use Rattle.state.specs.declared.kinds.Phase.TheVariants as phase
 pub use Rattle.state.specs.declared.kinds.Profile.{Profile}
 pub use Rattle.state.specs.declared.kinds.Rf.{Rf}
 pub use Rattle.state.specs.declared.kinds.Rf.TheVariants as rf
+pub use Rattle.state.specs.declared.verdict.Status.TheVariants as status
 pub use Rattle.state.specs.declared.verdict.Verdict.{Verdict}
 pub use Rattle.state.specs.declared.verdict.Verdict.TheVariants as verdict

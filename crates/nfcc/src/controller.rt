@@ -9,11 +9,10 @@ use state::commands::Command;
 use state::conn::{open_at, terms_of};
 use state::kinds::{Activation, Controller, Counts, Pair, Pairs, Phase, Profile, Rf};
 use state::names::{
-    ALREADY_STARTED, FRAME_INTERFACE, LISTEN_B, LISTEN_F, LOOPBACK, REJECTED, SEMANTIC_ERROR,
-    SYNTAX_ERROR, TO_DISCOVERY, TO_IDLE, TO_SLEEP, TO_SLEEP_AF,
+    FRAME_INTERFACE, LISTEN_B, LISTEN_F, LOOPBACK, TO_DISCOVERY, TO_IDLE, TO_SLEEP, TO_SLEEP_AF,
 };
 use state::radio::{is_idle, is_listed, listens, polls};
-use state::verdict::Verdict;
+use state::verdict::{Status, Verdict};
 use state::{commands, fields};
 
 // The octets that a command must have; an unknown one is judged whatever its payload.
@@ -78,13 +77,13 @@ fn allowed(p: Phase, c: Command) -> bool
 }
 
 // CORE_RESET_CMD: type 0 or 1.
-fn reset_by(kind: u8) -> Verdict
+fn reset_by(kind: u8) -> Result<Verdict, Status>
     ensures { result ≡ reset_by kind }
 {
     if 1 < kind {
-        Verdict::Refuses(SYNTAX_ERROR)
+        Err(Status::SyntaxError)
     } else {
-        Verdict::Resets(kind)
+        Ok(Verdict::Resets(kind))
     }
 }
 
@@ -101,58 +100,45 @@ fn after(id: u8) -> u8
     }
 }
 
-// The next Conn ID after the last given, passing open ones; 0 where all four are open.
-fn next_id(conns: [Counts; 5], given: u8) -> u8
+// The next Conn ID after the last given, passing open ones; none where all four are open.
+fn next_id(conns: [Counts; 5], given: u8) -> Option<u8>
     ensures { result ≡ next_id (open_at conns) given }
 {
     let mut id = after(given);
-    let mut tries: usize = 4;
-    while 0 < tries {
+    for _ in 0..4u8 {
         if !open_at(conns, id) {
-            return id;
+            return Some(id);
         }
         id = after(id);
-        tries -= 1;
     }
-    0
+    None
 }
 
-// A loopback connection opens with the Conn ID that is next, if there is one.
-fn opens_as(p: Profile, id: u8) -> Verdict
-    ensures { result ≡ opens_as p id }
-{
-    if id == 0 {
-        Verdict::Refuses(REJECTED)
-    } else {
-        let t = terms_of(p, id);
-        Verdict::Opens(id, t)
-    }
-}
-
-// CORE_CONN_CREATE_CMD: destination 01, the loopback, with 00 parameters.
-fn create_by(p: Profile, conns: [Counts; 5], given: u8, m: &[u8]) -> Verdict
+// CORE_CONN_CREATE_CMD: destination 01, the loopback, with 00 parameters. The connection has the Conn ID that is next, if there is one.
+#[tactic(auto, unfolding(crate::specs::Controller::create_by))]
+fn create_by(p: Profile, conns: [Counts; 5], given: u8, m: &[u8]) -> Result<Verdict, Status>
     ensures { result ≡ create_by p (open_at conns) given m.now }
 {
     let destination = octets::octet_at(m, fields::CREATE_DESTINATION);
     let parameters = octets::octet_at(m, fields::CREATE_PARAMETERS);
     if (destination == LOOPBACK) & (parameters == 0x00) {
-        let id = next_id(conns, given);
-        opens_as(p, id)
+        let id = next_id(conns, given).ok_or(Status::Rejected)?;
+        Ok(Verdict::Opens(id, terms_of(p, id)))
     } else {
-        Verdict::Refuses(REJECTED)
+        Err(Status::Rejected)
     }
 }
 
 // CORE_CONN_CLOSE_CMD: the low four bits name an open dynamic connection.
-fn close_by(conns: [Counts; 5], octet: u8) -> Verdict
+fn close_by(conns: [Counts; 5], octet: u8) -> Result<Verdict, Status>
     ensures { result ≡ close_by (open_at conns) octet }
 {
     let id = octet % 16;
     let opened = open_at(conns, id);
     if (id != 0) & opened {
-        Verdict::Closes(id)
+        Ok(Verdict::Closes(id))
     } else {
-        Verdict::Refuses(REJECTED)
+        Err(Status::Rejected)
     }
 }
 
@@ -183,40 +169,40 @@ fn configs_ok(m: &[u8], n: u8) -> bool
 }
 
 // RF_DISCOVER_CMD, in IDLE alone: up to eight pairs of mode and frequency.
-fn discover_by(rf: Rf, m: &[u8]) -> Verdict
+fn discover_by(rf: Rf, m: &[u8]) -> Result<Verdict, Status>
     ensures { result ≡ discover_by rf m.now }
 {
     let idle = is_idle(rf);
     let n = octets::octet_at(m, fields::CONFIG_COUNT);
     let ok = configs_ok(m, n);
     if !idle {
-        Verdict::Refuses(ALREADY_STARTED)
+        Err(Status::AlreadyStarted)
     } else if (n <= 8) & ok {
-        Verdict::Turns(Rf::Discovery)
+        Ok(Verdict::Turns(Rf::Discovery))
     } else {
-        Verdict::Refuses(REJECTED)
+        Err(Status::Rejected)
     }
 }
 
 // RF_DISCOVER_SELECT_CMD, in W4_HOST_SELECT alone: the pair is in the list, and the interface is Frame.
-fn select_by(rf: Rf, ps: Pairs, p: Pair, interface: u8) -> Verdict
+fn select_by(rf: Rf, ps: Pairs, p: Pair, interface: u8) -> Result<Verdict, Status>
     ensures { result ≡ select_by rf ps p interface }
 {
     match rf {
         Rf::W4HostSelect(_) => {
             let found = is_listed(ps, p);
             if found & (interface == FRAME_INTERFACE) {
-                Verdict::Selects(p)
+                Ok(Verdict::Selects(p))
             } else {
-                Verdict::Refuses(REJECTED)
+                Err(Status::Rejected)
             }
         }
-        Rf::Idle => Verdict::Refuses(SEMANTIC_ERROR),
-        Rf::Discovery => Verdict::Refuses(SEMANTIC_ERROR),
-        Rf::W4AllDiscoveries => Verdict::Refuses(SEMANTIC_ERROR),
-        Rf::PollActive(_) => Verdict::Refuses(SEMANTIC_ERROR),
-        Rf::ListenActive(_) => Verdict::Refuses(SEMANTIC_ERROR),
-        Rf::ListenSleep => Verdict::Refuses(SEMANTIC_ERROR),
+        Rf::Idle => Err(Status::SemanticError),
+        Rf::Discovery => Err(Status::SemanticError),
+        Rf::W4AllDiscoveries => Err(Status::SemanticError),
+        Rf::PollActive(_) => Err(Status::SemanticError),
+        Rf::ListenActive(_) => Err(Status::SemanticError),
+        Rf::ListenSleep => Err(Status::SemanticError),
     }
 }
 
@@ -243,53 +229,52 @@ fn rest_state(kind: u8, asleep: Rf) -> Rf
 fn ended(kind: u8, asleep: Rf) -> Verdict
     ensures { result ≡ ended kind asleep }
 {
-    let rf = rest_state(kind, asleep);
-    Verdict::Deactivates(kind, rf)
+    Verdict::Deactivates(kind, rest_state(kind, asleep))
 }
 
 // RF_DEACTIVATE_CMD in LISTEN_ACTIVE. A type over 3 is RFU.
-fn listen_ended(a: Activation, kind: u8) -> Verdict
+fn listen_ended(a: Activation, kind: u8) -> Result<Verdict, Status>
     ensures { result ≡ deactivate_by (ListenActive a) kind }
 {
     let kept = sleep_rejected(a, kind);
     if TO_DISCOVERY < kind {
-        Verdict::Refuses(SYNTAX_ERROR)
+        Err(Status::SyntaxError)
     } else if kept {
-        Verdict::Refuses(REJECTED)
+        Err(Status::Rejected)
     } else {
-        ended(kind, Rf::ListenSleep)
+        Ok(ended(kind, Rf::ListenSleep))
     }
 }
 
 // RF_DEACTIVATE_CMD in LISTEN_SLEEP: only type 0 is taken.
-fn rested(kind: u8) -> Verdict
+fn rested(kind: u8) -> Result<Verdict, Status>
     ensures { result ≡ deactivate_by ListenSleep kind }
 {
     if TO_DISCOVERY < kind {
-        Verdict::Refuses(SYNTAX_ERROR)
+        Err(Status::SyntaxError)
     } else if kind == TO_IDLE {
-        Verdict::Turns(Rf::Idle)
+        Ok(Verdict::Turns(Rf::Idle))
     } else {
-        Verdict::Refuses(SEMANTIC_ERROR)
+        Err(Status::SemanticError)
     }
 }
 
 // RF_DEACTIVATE_CMD. Where the type is ignored, any is taken as 0, to IDLE: in both W4 states, and in DISCOVERY (003, L1824),
 // where document 01 would look at it.
-fn deactivate_by(rf: Rf, kind: u8) -> Verdict
+fn deactivate_by(rf: Rf, kind: u8) -> Result<Verdict, Status>
     ensures { result ≡ deactivate_by rf kind }
 {
     match rf {
-        Rf::Idle => Verdict::Refuses(SEMANTIC_ERROR),
+        Rf::Idle => Err(Status::SemanticError),
         Rf::Discovery => rested(TO_IDLE),
         Rf::W4AllDiscoveries => rested(TO_IDLE),
         Rf::W4HostSelect(_) => rested(TO_IDLE),
         Rf::ListenSleep => rested(kind),
         Rf::PollActive(_) => {
             if TO_DISCOVERY < kind {
-                Verdict::Refuses(SYNTAX_ERROR)
+                Err(Status::SyntaxError)
             } else {
-                ended(kind, Rf::W4HostSelect(None))
+                Ok(ended(kind, Rf::W4HostSelect(None)))
             }
         }
         Rf::ListenActive(a) => listen_ended(a, kind),
@@ -297,27 +282,33 @@ fn deactivate_by(rf: Rf, kind: u8) -> Verdict
 }
 
 // CORE_SET_CONFIG_CMD: one that names a known parameter is taken in IDLE alone (003, 5.2.1).
-fn set_by(rf: Rf, m: &[u8]) -> Verdict
+fn set_by(rf: Rf, m: &[u8]) -> Result<Verdict, Status>
     ensures { result ≡ set_by rf m.now }
 {
     let idle = is_idle(rf);
     let n = octets::octet_at(m, 0);
     let known = set::names_known(m, n);
     if idle | !known {
-        return Verdict::SetsConfig;
+        return Ok(Verdict::SetsConfig);
     }
-    Verdict::Refuses(SEMANTIC_ERROR)
+    Err(Status::SemanticError)
 }
 
 // The verdict on a command that is long enough and allowed, by its values.
-fn values_of(p: Profile, k: Controller, conns: [Counts; 5], c: Command, m: &[u8]) -> Verdict
+fn values_of(
+    p: Profile,
+    k: Controller,
+    conns: [Counts; 5],
+    c: Command,
+    m: &[u8],
+) -> Result<Verdict, Status>
     ensures { result ≡ values_of p k (open_at conns) c m.now }
 {
     let rf = k.rf;
     let first = octets::octet_at(m, 0);
     match c {
         Command::Reset => reset_by(first),
-        Command::Init => Verdict::Initialises,
+        Command::Init => Ok(Verdict::Initialises),
         Command::ConnCreate => create_by(p, conns, k.given, m),
         Command::ConnClose => close_by(conns, first),
         Command::Discover => discover_by(rf, m),
@@ -336,14 +327,21 @@ fn values_of(p: Profile, k: Controller, conns: [Counts; 5], c: Command, m: &[u8]
             )
         }
         Command::Deactivate => deactivate_by(rf, first),
-        Command::Unknown => Verdict::Refuses(SYNTAX_ERROR),
+        Command::Unknown => Err(Status::SyntaxError),
         Command::SetConfig => set_by(rf, m),
-        Command::GetConfig => Verdict::GetsConfig,
+        Command::GetConfig => Ok(Verdict::GetsConfig),
     }
 }
 
 // The verdict on a whole command. In order: unknown or too short, wrong state, values.
-pub fn judge(p: Profile, k: Controller, conns: [Counts; 5], gid: u8, oid: u8, m: &[u8]) -> Verdict
+pub fn judge(
+    p: Profile,
+    k: Controller,
+    conns: [Counts; 5],
+    gid: u8,
+    oid: u8,
+    m: &[u8],
+) -> Result<Verdict, Status>
     ensures { result ≡ judge_of p k (open_at conns) gid oid m.now }
 {
     let phase = k.phase;
@@ -351,10 +349,10 @@ pub fn judge(p: Profile, k: Controller, conns: [Counts; 5], gid: u8, oid: u8, m:
     let least = shortest(c, m);
     let taken = allowed(phase, c);
     if m.len() < least {
-        return Verdict::Refuses(SYNTAX_ERROR);
+        return Err(Status::SyntaxError);
     }
     if !taken {
-        return Verdict::Refuses(SEMANTIC_ERROR);
+        return Err(Status::SemanticError);
     }
     values_of(p, k, conns, c, m)
 }

@@ -11,79 +11,50 @@ use config::stored::defaults;
 use state::conn::{controller_all_closed, controller_closed_at, controller_opened_at, empty_hand};
 use state::kinds::{Controller, Counts, Hand, Phase, Rf};
 use state::radio::{is_idle, no_pairs};
-use state::verdict::Verdict;
+use state::verdict::{Status, Verdict};
 
 // The controller in another RF state. The list of pairs is emptied in IDLE.
 fn turned(k: Controller, rf: Rf) -> Controller
     ensures { result ≡ turned k rf }
 {
-    let phase = k.phase;
-    let mut pairs = k.pairs;
-    if is_idle(rf) {
-        pairs = no_pairs();
-    }
-    Controller {
-        phase: phase,
-        given: k.given,
-        rf: rf,
-        pairs: pairs,
-    }
+    let pairs = if is_idle(rf) { no_pairs() } else { k.pairs };
+    Controller { rf, pairs, ..k }
 }
 
 // The controller's numbers after a verdict. A refusal changes nothing, so a rejected selection keeps the earlier one.
-pub fn controller_after(k: Controller, v: Verdict) -> Controller
+#[tactic(auto, unfolding(crate::specs::Controller::controller_after))]
+pub fn controller_after(k: Controller, v: Result<Verdict, Status>) -> Controller
     ensures { result ≡ controller_after k v }
 {
-    let phase = k.phase;
-    let rf = k.rf;
-    let pairs = k.pairs;
     match v {
-        Verdict::Refuses(_) => k,
-        Verdict::Resets(_) => {
-            let none = no_pairs();
-            Controller {
-                phase: Phase::Reset,
-                given: 0,
-                rf: Rf::Idle,
-                pairs: none,
-            }
-        }
-        Verdict::Initialises => Controller {
+        Ok(Verdict::Resets(_)) => Controller {
+            phase: Phase::Reset,
+            given: 0,
+            rf: Rf::Idle,
+            pairs: no_pairs(),
+        },
+        Ok(Verdict::Initialises) => Controller {
             phase: Phase::Ready,
-            given: k.given,
-            rf: rf,
-            pairs: pairs,
+            ..k
         },
-        Verdict::Opens(id, _) => Controller {
-            phase: phase,
-            given: id,
-            rf: rf,
-            pairs: pairs,
-        },
-        Verdict::Closes(_) => k,
-        Verdict::Turns(next) => turned(k, next),
-        Verdict::Selects(p) => turned(k, Rf::W4HostSelect(Some(p))),
-        Verdict::Deactivates(_, next) => turned(k, next),
-        Verdict::SetsConfig => k,
-        Verdict::GetsConfig => k,
+        Ok(Verdict::Opens(id, _)) => Controller { given: id, ..k },
+        Ok(Verdict::Turns(rf) | Verdict::Deactivates(_, rf)) => turned(k, rf),
+        Ok(Verdict::Selects(p)) => turned(k, Rf::W4HostSelect(Some(p))),
+        Ok(Verdict::Closes(_) | Verdict::SetsConfig | Verdict::GetsConfig) | Err(_) => k,
     }
 }
 
-// The connections after a verdict: a deactivation closes connection 0.
-pub fn conns_after(conns: [Counts; 5], v: Verdict) -> [Counts; 5]
+// The connections after a verdict: a deactivation closes connection 0. A refusal changes none.
+#[tactic(auto, unfolding(crate::specs::Controller::conns_after))]
+pub fn conns_after(conns: [Counts; 5], v: Result<Verdict, Status>) -> [Counts; 5]
     ensures { result ≡ conns_after conns v }
 {
     match v {
-        Verdict::Refuses(_) => conns,
-        Verdict::Resets(_) => controller_all_closed(conns),
-        Verdict::Initialises => conns,
-        Verdict::Opens(id, t) => controller_opened_at(conns, id, t),
-        Verdict::Closes(id) => controller_closed_at(conns, id),
-        Verdict::Turns(_) => conns,
-        Verdict::Selects(_) => conns,
-        Verdict::Deactivates(_, _) => controller_closed_at(conns, 0),
-        Verdict::SetsConfig => conns,
-        Verdict::GetsConfig => conns,
+        Ok(Verdict::Resets(_)) => controller_all_closed(conns),
+        Ok(Verdict::Opens(id, t)) => controller_opened_at(conns, id, t),
+        Ok(Verdict::Closes(id)) => controller_closed_at(conns, id),
+        Ok(Verdict::Deactivates(_, _)) => controller_closed_at(conns, 0),
+        Ok(_) | Err(_) => conns,
     }
 }
 
@@ -94,21 +65,15 @@ fn spared(h: Hand, id: u8) -> Hand
     if id == 0 { empty_hand() } else { h }
 }
 
-// The endpoint's message after a verdict: connection 0 opens and closes with none in hand.
-pub fn endpoint_after(h: Hand, v: Verdict) -> Hand
+// The endpoint's message after a verdict: connection 0 opens and closes with none in hand. A refusal leaves it.
+#[tactic(auto, unfolding(crate::specs::Controller::endpoint_after))]
+pub fn endpoint_after(h: Hand, v: Result<Verdict, Status>) -> Hand
     ensures { result ≡ endpoint_after h v }
 {
     match v {
-        Verdict::Refuses(_) => h,
-        Verdict::Resets(_) => empty_hand(),
-        Verdict::Initialises => h,
-        Verdict::Opens(id, _) => spared(h, id),
-        Verdict::Closes(id) => spared(h, id),
-        Verdict::Turns(_) => h,
-        Verdict::Selects(_) => h,
-        Verdict::Deactivates(_, _) => empty_hand(),
-        Verdict::SetsConfig => h,
-        Verdict::GetsConfig => h,
+        Ok(Verdict::Resets(_) | Verdict::Deactivates(_, _)) => empty_hand(),
+        Ok(Verdict::Opens(id, _) | Verdict::Closes(id)) => spared(h, id),
+        Ok(_) | Err(_) => h,
     }
 }
 
@@ -123,21 +88,15 @@ fn reset_values(b: &mut [u8], kind: u8)
     }
 }
 
-// The values after a verdict on the command m. They are of all parameters.
-pub fn config_by(b: &mut [u8], m: &[u8], v: Verdict)
+// The values after a verdict on the command m. They are of all parameters. A refusal leaves them.
+#[tactic(auto, unfolding(crate::specs::Controller::config_by))]
+pub fn config_by(b: &mut [u8], m: &[u8], v: Result<Verdict, Status>)
     requires { length b.old ≡ config_size }
     ensures { b.new ≡ config_by b.old m.now v }
 {
     match v {
-        Verdict::Refuses(_) => {}
-        Verdict::Resets(kind) => reset_values(b, kind),
-        Verdict::Initialises => {}
-        Verdict::Opens(_, _) => {}
-        Verdict::Closes(_) => {}
-        Verdict::Turns(_) => {}
-        Verdict::Selects(_) => {}
-        Verdict::Deactivates(_, _) => {}
-        Verdict::SetsConfig => set_all(b, m),
-        Verdict::GetsConfig => {}
+        Ok(Verdict::Resets(kind)) => reset_values(b, kind),
+        Ok(Verdict::SetsConfig) => set_all(b, m),
+        Ok(_) | Err(_) => {}
     }
 }

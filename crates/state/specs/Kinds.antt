@@ -26,5 +26,7 @@ pub use Rattle.state.specs.declared.kinds.Ring.{Ring}
 pub use Rattle.state.specs.declared.kinds.Terms.{Terms}
 pub use Rattle.state.specs.declared.runs.ControlJoined.{ControlJoined}
 pub use Rattle.state.specs.declared.runs.Joined.{Joined}
+pub use Rattle.state.specs.declared.verdict.Status.{Status}
+pub use Rattle.state.specs.declared.verdict.Status.TheVariants as status
 pub use Rattle.state.specs.declared.verdict.Verdict.{Verdict}
 pub use Rattle.state.specs.declared.verdict.Verdict.TheVariants as verdict

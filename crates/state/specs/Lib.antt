@@ -1,5 +1,6 @@
 pub mod Kinds
 pub mod Names
+pub mod Judgement
 pub mod Conn
 pub mod Radio
 pub mod Runs

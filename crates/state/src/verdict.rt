@@ -1,11 +1,15 @@
-// What the controller decides on a command. The response, the notification and the next state follow from it.
-use crate::kinds::{Pair, Rf, Terms};
+// What the controller decides on a command, or the status that it refuses with. The response, the notification and the next state
+// follow from it.
+ghost use Rattle.std.specs.Prelude.{◌≡◌};
+ghost use Rattle.state.specs.Judgement.{octet_of};
 
-// What the controller decides. Refuses: a status other than OK, alone, and nothing changes. SetsConfig, GetsConfig: what is set and what is
-// answered follow from the command's payload and the values (crate config).
+use crate::kinds::{Pair, Rf, Terms};
+use crate::names;
+
+// What the controller decides. SetsConfig, GetsConfig: what is set and what is answered follow from the command's payload and the values
+// (crate config).
 #[derive(Clone, Copy)]
 pub enum Verdict {
-    Refuses(u8),
     Resets(u8),
     Initialises,
     Opens(u8, Terms),
@@ -15,4 +19,27 @@ pub enum Verdict {
     Deactivates(u8, Rf),
     SetsConfig,
     GetsConfig,
+}
+
+// The statuses of a refusal (003, Table 129): it is answered alone, and nothing changes.
+#[derive(Clone, Copy, Debug, PartialEq, Eq)]
+pub enum Status {
+    Rejected,
+    SyntaxError,
+    SemanticError,
+    AlreadyStarted,
+}
+
+// The status as the octet of a response.
+impl From<Status> for u8 {
+    ghost from_gives = { λ s n. n ≡ octet_of s };
+
+    fn from(s: Status) -> u8 {
+        match s {
+            Status::Rejected => names::REJECTED,
+            Status::SyntaxError => names::SYNTAX_ERROR,
+            Status::SemanticError => names::SEMANTIC_ERROR,
+            Status::AlreadyStarted => names::ALREADY_STARTED,
+        }
+    }
 }

@@ -5,8 +5,9 @@ use Rattle.octets.specs.Octets.{Octets, pick, cut, splice}
 use Rattle.packets.specs.Packet.{packet_of, read_of, payload_of}
 use Rattle.packets.specs.Reserved.{rfu_by}
 use Rattle.packets.specs.Headers.{control_header}
-use Rattle.calls.specs.Kinds.{Header, Reading, Ring, ControlRun, ControllerSide, Counts, Record, Verdict, ControlJoined, Note}
+use Rattle.calls.specs.Kinds.{Header, Reading, Ring, ControlRun, ControllerSide, Counts, Record, ControlJoined, Note}
 use Rattle.calls.specs.Kinds.way.{Down}
+use Rattle.state.specs.Judgement.{Judgement}
 use Rattle.state.specs.Conn as conn
 use Rattle.state.specs.Conn.{place_of, counts_of, open_at}
 use Rattle.state.specs.Runs.{run_for, control_joined}
@@ -99,21 +100,21 @@ abbrev pub command_in : ℕ → Octets → Octets
 command_in len a = cut asking_at len a
 
 -- the packets that go up: the response, and the notification after it where there is one
-abbrev pub answers_to : Record → Header → Octets → Octets → Verdict → List Octets
+abbrev pub answers_to : Record → Header → Octets → Octets → Judgement → List Octets
 answers_to t h b m v = answers h.id h.oid t.ends.profile b m v
 
 abbrev pub more_up : ℕ → Ring → Ring
 more_up n k = record { head = k.head; count = k.count + n }
 
-abbrev pub answered_record : Record → Header → Octets → Octets → Verdict → Record
+abbrev pub answered_record : Record → Header → Octets → Octets → Judgement → Record
 answered_record t h b m v = with_up (more_up (length (answers_to t h b m v)) t.up) (with_ends (ends_after t.ends v) t)
 
 -- the packets, and the configuration after the command
-abbrev pub answered_area : Record → Header → Octets → Octets → Verdict → Octets → Octets
+abbrev pub answered_area : Record → Header → Octets → Octets → Judgement → Octets → Octets
 answered_area t h b m v a = configured (puts_all up_at a t.up (answers_to t h b m v)) (config_by b m v)
 
 -- b is the configuration before it, m the command
-abbrev pub answered_by : Record → Header → Octets → Octets → Verdict → Octets → Octets → Outcome
+abbrev pub answered_by : Record → Header → Octets → Octets → Judgement → Octets → Octets → Outcome
 answered_by t h b m v a out =
     outcome (word_of false false 0 0 (length (answers_to t h b m v))) (saved (answered_area t h b m v a) (answered_record t h b m v)) out
 

@@ -4,7 +4,8 @@ use Rattle.std.specs.Prelude.{ℕ, Bool, true, false, ◌&&◌, List, [], ◌∷
 use Rattle.octets.specs.Octets.{Octets, pick}
 use Rattle.packets.specs.Types.{mt_command}
 use Rattle.packets.specs.Segments.{Segment, more, last}
-use Rattle.model.specs.Kinds.{Profile, Verdict}
+use Rattle.model.specs.Kinds.{Profile}
+use Rattle.state.specs.Judgement.{Judgement}
 use Rattle.nfcc.specs.Controller.{judge_of, controller_after, config_by}
 use Rattle.messages.specs.Layout.{response_message, notice_message}
 use Rattle.model.specs.Connection.{with_controller, stored}
@@ -38,10 +39,10 @@ first_full s [] = false
 first_full s (p ∷ w) = store_full s (meaning p)
 
 -- the response, and the notification after it; b is the configuration, m the command's payload
-abbrev pub answers : ℕ → ℕ → Profile → Octets → Octets → Verdict → List Octets
+abbrev pub answers : ℕ → ℕ → Profile → Octets → Octets → Judgement → List Octets
 answers gid oid p b m v = response_packet (response_message gid oid p b m v) ∷ notice_packets (notice_message v)
 
-abbrev pub deciding : ℕ → ℕ → Octets → Verdict → State → Effect
+abbrev pub deciding : ℕ → ℕ → Octets → Judgement → State → Effect
 deciding gid oid m v s =
     putting_up false (answers gid oid s.profile s.config m v) []
     (with_config (config_by s.config m v)
