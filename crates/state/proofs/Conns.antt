@@ -10,10 +10,11 @@ use lib.ListN.{length, get_or, set, get_or-eq_default, length-set}
 use lib.Seq.{get_or-set_same, get_or-set_other}
 use lib.Dec.{eqb}
 use borrow.Author.Tests.{eqb-true, eqb-false}
+use Rattle.std.proofs.lemmas.List.{ext_get_or}
 use Rattle.octets.specs.Octets.{pick}
 use Rattle.state.specs.Kinds.{Counts}
 use Rattle.state.specs.Conn.{place_of, conn_of, closed_counts, counts_of, open_at, held_open}
-use Rattle.state.proofs.Places.{conn_place, places_differ}
+use Rattle.state.proofs.Places.{conn_place, place_conn, places_differ}
 
 -- five steps, one for each connection
 pub five : {A : Type 0} (f : A → ℕ → A) (x a b c d e : A)
@@ -93,3 +94,12 @@ module _ (f : ℕ → Counts → Counts) where
   pub all_at : (conns : List Counts) (d : ℕ) → length conns ≡ 5 → place_of d < 5 → counts_of (all_changed conns) d ≡ f d (counts_of conns d)
   all_at conns d n h =
       subst (λ (x : ℕ). counts_of (all_changed conns) x ≡ f x (counts_of conns x)) (conn_place d h) (all_places conns (place_of d) n h)
+
+-- five counts, each made by f of those that stood in its place
+pub mapped : (f : Counts → Counts) (conns ys : List Counts) → length conns ≡ 5 → length ys ≡ 5
+    → ((p : ℕ) → p < 5 → get_or ys p closed_counts ≡ f (get_or conns p closed_counts)) → ys ≡ all_changed (λ c k. f k) conns
+mapped f conns ys n m h =
+    ext_get_or closed_counts ys (all_changed (λ c k. f k) conns) (m ∙ sym n ∙ sym (length_all (λ c k. f k) conns)) (λ p l.
+    let low : p < 5 = omega (arith, m, l) in
+    h p low
+    ∙ sym (subst (λ (x : ℕ). get_or (all_changed (λ c k. f k) conns) x closed_counts ≡ f (get_or conns x closed_counts)) (place_conn p low) (all_places (λ c k. f k) conns p n low)))

@@ -3,6 +3,7 @@ pub mod Chains
 pub mod Places
 pub mod Limits
 pub mod Conns
+pub mod Found
 pub mod Credits
 pub mod Steady
 pub mod Small

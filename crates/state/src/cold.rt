@@ -20,12 +20,11 @@ pub fn cold_host() -> Host
 pub fn cold_controller() -> Controller
     ensures { result ≡ cold_controller }
 {
-    let pairs = radio::no_pairs();
     Controller {
         phase: Phase::Cold,
         given: 0,
         rf: Rf::Idle,
-        pairs: pairs,
+        pairs: radio::no_pairs(),
     }
 }
 
@@ -33,12 +32,11 @@ pub fn cold_controller() -> Controller
 pub fn cold_run() -> ControlRun
     ensures { result ≡ cold_run }
 {
-    let run = conn::start();
     ControlRun {
         mt: 0,
         gid: 0,
         oid: 0,
-        run: run,
+        run: conn::start(),
     }
 }
 
@@ -46,18 +44,13 @@ pub fn cold_run() -> ControlRun
 pub fn cold_ends(p: Profile) -> Ends
     ensures { result ≡ cold_ends p }
 {
-    let host = cold_host();
-    let run = cold_run();
-    let controller = cold_controller();
-    let endpoint = conn::empty_hand();
-    let k = conn::closed_counts();
     Ends {
         profile: p,
-        host: host,
-        hearing: run,
-        controller: controller,
-        asking: run,
-        endpoint: endpoint,
-        conns: [k, k, k, k, k],
+        host: cold_host(),
+        hearing: cold_run(),
+        controller: cold_controller(),
+        asking: cold_run(),
+        endpoint: conn::empty_hand(),
+        conns: [conn::closed_counts(); 5],
     }
 }

@@ -4,7 +4,7 @@ ghost use Rattle.state.specs.Commands.{command_of};
 
 use crate::names;
 
-// The commands that the bench knows.
+// The commands that the bench knows. No Option: what is unknown is answered too.
 #[derive(Clone, Copy)]
 pub enum Command {
     Reset,
@@ -20,6 +20,7 @@ pub enum Command {
 }
 
 // The command that a GID and an OID name (003, Table 139).
+#[tactic(auto, unfolding(crate::specs::Commands::command_of))]
 pub fn command_of(gid: u8, oid: u8) -> Command
     ensures { result ≡ command_of gid oid }
 {

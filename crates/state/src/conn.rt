@@ -1,13 +1,14 @@
 // Conn IDs, their places in the record's array, and the terms that the profile has for them.
-ghost use Rattle.std.specs.Prelude.{◌≡◌};
-ghost use Rattle.state.specs.Conn.{place_of, conn_of, terms_of, metered, credit_sum, owing, counts_of, held_open, open_at, start, empty, hand_with, hand_after, closed_controller, opened_controller, closed_host, opened_host, closed_counts, with_controller, with_host, controller_closed_at, controller_opened_at, controller_all_closed, host_closed_at, host_opened_at, host_all_closed, carried_by, paid_side, noticed_side, noticed_at, all_noticed};
+ghost use Rattle.std.specs.Prelude.{◌≡◌, set};
+ghost use Rattle.state.specs.Conn.{place_of, conn_of, terms_of, metered, credit_sum, owing, counts_of, held_open, open_at, start, empty, hand_with, hand_after, closed_controller, opened_controller, closed_host, opened_host, closed_counts, with_controller, with_host, controller_closed_at, controller_opened_at, controller_all_closed, host_closed_at, host_opened_at, host_all_closed, carried_by, paid_side, noticed_side, all_noticed};
 
 use crate::kinds::{ControllerSide, Counts, Hand, HostSide, Profile, Progress, Ring, Terms};
 
 // The credits octet for no flow control.
 pub const UNMETERED: u8 = 255;
 
-// The place of a Conn ID in the array of five; 5 for an ID that no connection has.
+// The place of a Conn ID in the array of five; 5 for an ID that no connection has. No Option: the definition `place_of` has 5 for none too.
+#[tactic(auto, unfolding(crate::specs::Conn::place_of))]
 pub fn place_of(conn: u8) -> usize
     ensures { result ≡ place_of conn }
 {
@@ -22,6 +23,7 @@ pub fn place_of(conn: u8) -> usize
 }
 
 // The Conn ID of a place.
+#[tactic(auto, unfolding(crate::specs::Conn::conn_of))]
 pub fn conn_of(place: usize) -> u8
     ensures { result ≡ conn_of place }
 {
@@ -35,6 +37,7 @@ pub fn conn_of(place: usize) -> u8
 }
 
 // The terms that the profile has for a Conn ID.
+#[tactic(auto, unfolding(crate::specs::Conn::terms_of))]
 pub fn terms_of(p: Profile, conn: u8) -> Terms
     ensures { result ≡ terms_of p conn }
 {
@@ -76,32 +79,29 @@ pub fn owing(k: ControllerSide) -> u8
 pub fn counts_of(conns: [Counts; 5], conn: u8) -> Counts
     ensures { result ≡ counts_of conns conn }
 {
-    let place = place_of(conn);
-    if place < 5 {
-        let c = conns[place];
-        c
-    } else {
-        closed_counts()
-    }
+    conns
+        .get(place_of(conn))
+        .copied()
+        .unwrap_or(closed_counts())
 }
 
 // Whether a Conn ID is open at the controller.
+#[tactic(auto, unfolding(crate::specs::Conn::open_at))]
 pub fn open_at(conns: [Counts; 5], conn: u8) -> bool
     ensures { result ≡ open_at conns conn }
 {
-    let c = counts_of(conns, conn);
-    c.controller.opened
+    counts_of(conns, conn).controller.opened
 }
 
 // Whether a Conn ID is open at the host.
+#[tactic(auto, unfolding(crate::specs::Conn::held_open))]
 pub fn held_open(conns: [Counts; 5], conn: u8) -> bool
     ensures { result ≡ held_open conns conn }
 {
-    let c = counts_of(conns, conn);
-    c.host.opened
+    counts_of(conns, conn).host.opened
 }
 
-// No octet reassembled yet.
+// No octet reassembled yet. A function, as those below: a constant has no clause that says it is the definition's.
 pub fn start() -> Progress
     ensures { result ≡ start }
 {
@@ -140,8 +140,8 @@ pub fn hand_after(size: usize, h: Hand) -> Hand
     if packets::follows(h.len, h.at, size) {
         Hand {
             full: true,
-            len: h.len,
             at: h.at + size,
+            ..h
         }
     } else {
         empty_hand()
@@ -157,10 +157,7 @@ pub fn closed_controller() -> ControllerSide
         grant: 0,
         owed: 0,
         store: Ring { head: 0, count: 0 },
-        run: Progress {
-            len: 0,
-            lost: false,
-        },
+        run: start(),
     }
 }
 
@@ -171,12 +168,7 @@ pub fn opened_controller(t: Terms) -> ControllerSide
     ControllerSide {
         opened: true,
         grant: t.credits,
-        owed: 0,
-        store: Ring { head: 0, count: 0 },
-        run: Progress {
-            len: 0,
-            lost: false,
-        },
+        ..closed_controller()
     }
 }
 
@@ -189,15 +181,8 @@ pub fn closed_host() -> HostSide
         payload: 0,
         grant: 0,
         held: 0,
-        hand: Hand {
-            full: false,
-            len: 0,
-            at: 0,
-        },
-        run: Progress {
-            len: 0,
-            lost: false,
-        },
+        hand: empty_hand(),
+        run: start(),
     }
 }
 
@@ -210,15 +195,7 @@ pub fn opened_host(t: Terms) -> HostSide
         payload: t.payload,
         grant: t.credits,
         held: t.credits,
-        hand: Hand {
-            full: false,
-            len: 0,
-            at: 0,
-        },
-        run: Progress {
-            len: 0,
-            lost: false,
-        },
+        ..closed_host()
     }
 }
 
@@ -226,40 +203,48 @@ pub fn opened_host(t: Terms) -> HostSide
 pub fn closed_counts() -> Counts
     ensures { result ≡ closed_counts }
 {
-    let host = closed_host();
-    let controller = closed_controller();
     Counts {
-        host: host,
-        controller: controller,
+        host: closed_host(),
+        controller: closed_controller(),
     }
+}
+
+// The array with the counts of a Conn ID changed; as it was for an ID that no connection has.
+fn with_counts<F: FnOnce(Counts) -> Counts>(
+    mut conns: [Counts; 5],
+    conn: u8,
+    change: F,
+) -> [Counts; 5]
+    requires { F.IsAlwaysCallable change }
+    ensures { (c : _) × F.post change (counts_of conns conn) c × (result ≡ set conns (place_of conn) c) }
+{
+    let next = change(counts_of(conns, conn));
+    let place = place_of(conn);
+    if place < 5 {
+        conns[place] = next;
+    }
+    conns
 }
 
 // The array with another controller's side for a Conn ID.
 pub fn with_controller(conns: [Counts; 5], conn: u8, side: ControllerSide) -> [Counts; 5]
     ensures { result ≡ with_controller conns conn side }
 {
-    let place = place_of(conn);
-    let mut next = conns;
-    if place < 5 {
-        let mut c = conns[place];
-        c.controller = side;
-        next[place] = c;
-    }
-    next
+    with_counts(
+        conns,
+        conn,
+        |c| Counts {
+            controller: side,
+            ..c
+        },
+    )
 }
 
 // The array with another host's side for a Conn ID.
 pub fn with_host(conns: [Counts; 5], conn: u8, side: HostSide) -> [Counts; 5]
     ensures { result ≡ with_host conns conn side }
 {
-    let place = place_of(conn);
-    let mut next = conns;
-    if place < 5 {
-        let mut c = conns[place];
-        c.host = side;
-        next[place] = c;
-    }
-    next
+    with_counts(conns, conn, |c| Counts { host: side, ..c })
 }
 
 // A connection closes at the controller.
@@ -280,11 +265,10 @@ pub fn controller_opened_at(conns: [Counts; 5], conn: u8, t: Terms) -> [Counts; 
 pub fn controller_all_closed(conns: [Counts; 5]) -> [Counts; 5]
     ensures { result ≡ controller_all_closed conns }
 {
-    let a = controller_closed_at(conns, 0);
-    let b = controller_closed_at(a, 2);
-    let c = controller_closed_at(b, 3);
-    let d = controller_closed_at(c, 4);
-    controller_closed_at(d, 5)
+    conns.map(|c| Counts {
+        controller: closed_controller(),
+        ..c
+    })
 }
 
 // A connection closes at the host.
@@ -305,58 +289,48 @@ pub fn host_opened_at(conns: [Counts; 5], conn: u8, t: Terms) -> [Counts; 5]
 pub fn host_all_closed(conns: [Counts; 5]) -> [Counts; 5]
     ensures { result ≡ host_all_closed conns }
 {
-    let a = host_closed_at(conns, 0);
-    let b = host_closed_at(a, 2);
-    let c = host_closed_at(b, 3);
-    let d = host_closed_at(c, 4);
-    host_closed_at(d, 5)
+    conns.map(|c| Counts {
+        host: closed_host(),
+        ..c
+    })
 }
 
 // The credits that a data packet going up carries: what the connection owes, at most 3.
+#[tactic(auto, unfolding(crate::specs::Conn::carriable))]
 pub fn carried(k: ControllerSide) -> u8
     ensures { result ≡ carried_by k }
 {
-    let owed = owing(k);
-    if 3 < owed { 3 } else { owed }
+    owing(k).min(3)
 }
 
 // The connection after it: what the packet carries is no longer owed.
+#[tactic(auto, using(crate::proofs::Credits::carried_owed))]
 pub fn paid(k: ControllerSide) -> ControllerSide
     ensures { result ≡ paid_side k }
 {
-    let n = carried(k);
-    let mut next = k;
-    next.owed = k.owed - n;
-    next
+    ControllerSide {
+        owed: k.owed - carried(k),
+        ..k
+    }
 }
 
 // All that a connection owes has been put in a notice.
 fn noticed_side(k: ControllerSide) -> ControllerSide
     ensures { result ≡ noticed_side k }
 {
-    let mut next = k;
     if k.opened & (k.grant != UNMETERED) {
-        next.owed = 0;
+        ControllerSide { owed: 0, ..k }
+    } else {
+        k
     }
-    next
-}
-
-// A connection's credits have been put in a notice.
-fn noticed_at(conns: [Counts; 5], conn: u8) -> [Counts; 5]
-    ensures { result ≡ noticed_at conns conn }
-{
-    let c = counts_of(conns, conn);
-    let side = noticed_side(c.controller);
-    with_controller(conns, conn, side)
 }
 
 // The credits of all connections have been put in a notice.
 pub fn all_noticed(conns: [Counts; 5]) -> [Counts; 5]
     ensures { result ≡ all_noticed conns }
 {
-    let a = noticed_at(conns, 0);
-    let b = noticed_at(a, 2);
-    let c = noticed_at(b, 3);
-    let d = noticed_at(c, 4);
-    noticed_at(d, 5)
+    conns.map(|c| Counts {
+        controller: noticed_side(c.controller),
+        ..c
+    })
 }

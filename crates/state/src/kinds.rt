@@ -19,7 +19,7 @@ pub struct Profile {
 }
 
 // An RF discovery ID with its protocol, as found and as selected.
-#[derive(Clone, Copy)]
+#[derive(Clone, Copy, PartialEq, Eq)]
 pub struct Pair {
     pub id: u8,
     pub protocol: u8,
@@ -44,14 +44,15 @@ pub enum Rf {
     ListenSleep,
 }
 
-// The pairs found so far, the first count of the list.
+// The pairs found so far, the first count of the list. The rest keeps its octets, which the record reads and writes (`decode_of`, `encode_of`).
 #[derive(Clone, Copy)]
 pub struct Pairs {
     pub list: [Pair; 8],
     pub count: usize,
 }
 
-// How far a message is reassembled: its octets so far, or a run that went past its limit and is lost.
+// How far a message is reassembled: its octets so far, or a run that went past its limit and is lost. No Option: a record in octets has
+// a length beside lost too, and it stays (`decode_of`, `encode_of`).
 #[derive(Clone, Copy)]
 pub struct Progress {
     pub len: usize,
@@ -99,7 +100,8 @@ pub struct Host {
     pub pending: Option<Asked>,
 }
 
-// A message in hand, the one that an end is sending: whether there is one, its length, and how much of it has gone.
+// A message in hand, the one that an end is sending: whether there is one, its length, and how much of it has gone. No Option: a record in
+// octets has numbers where there is none too, and they stay (`decode_of`, `encode_of`).
 #[derive(Clone, Copy)]
 pub struct Hand {
     pub full: bool,
@@ -114,7 +116,7 @@ pub struct Ring {
     pub count: usize,
 }
 
-// A connection at the host. grant: the credits octet it was opened with; held: credits left, both 255 without flow control.
+// A connection at the host. opened: a flag, since a closed one's octets stay too. grant: the credits octet it was opened with; held: credits left, both 255 without flow control.
 #[derive(Clone, Copy)]
 pub struct HostSide {
     pub opened: bool,

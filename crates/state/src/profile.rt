@@ -27,12 +27,12 @@ pub fn terms_ok(t: Terms) -> bool
 pub fn profile_ok(p: Profile) -> bool
     ensures { result ≡ profile_ok p }
 {
-    let two = terms_ok(p.two);
-    let three = terms_ok(p.three);
-    let four = terms_ok(p.four);
-    let five = terms_ok(p.five);
-    let fixed = terms_ok(p.fixed);
-    (LEAST_SIZE <= p.control) & two & three & four & five & fixed
+    (LEAST_SIZE <= p.control)
+        & terms_ok(p.two)
+        & terms_ok(p.three)
+        & terms_ok(p.four)
+        & terms_ok(p.five)
+        & terms_ok(p.fixed)
 }
 
 // The terms that stand at one place in five octets, at another in eleven.
@@ -40,11 +40,9 @@ fn terms_in(m: &[u8], five: u8, eleven: u8) -> Terms
     ensures { result ≡ terms_in m.now (terms_place m.now five eleven) }
 {
     let at = choose(m.len() == 5, five, eleven) as usize;
-    let payload = octet_at(m, at);
-    let credits = octet_at(m, at + 1);
     Terms {
-        payload: payload,
-        credits: credits,
+        payload: octet_at(m, at),
+        credits: octet_at(m, at + 1),
     }
 }
 
@@ -52,19 +50,13 @@ fn terms_in(m: &[u8], five: u8, eleven: u8) -> Terms
 pub fn profile_in(m: &[u8]) -> Profile
     ensures { result ≡ profile_in m.now }
 {
-    let control = octet_at(m, 0);
-    let two = terms_in(m, 1, 1);
-    let three = terms_in(m, 1, 3);
-    let four = terms_in(m, 1, 5);
-    let five = terms_in(m, 1, 7);
-    let fixed = terms_in(m, 3, 9);
     Profile {
-        control: control,
-        two: two,
-        three: three,
-        four: four,
-        five: five,
-        fixed: fixed,
+        control: octet_at(m, 0),
+        two: terms_in(m, 1, 1),
+        three: terms_in(m, 1, 3),
+        four: terms_in(m, 1, 5),
+        five: terms_in(m, 1, 7),
+        fixed: terms_in(m, 3, 9),
     }
 }
 
@@ -72,7 +64,5 @@ pub fn profile_in(m: &[u8]) -> Profile
 pub fn profile_octets_ok(m: &[u8]) -> bool
     ensures { result ≡ profile_octets_ok m.now }
 {
-    let p = profile_in(m);
-    let ok = profile_ok(p);
-    ((m.len() == 5) | (m.len() == 11)) & ok
+    matches!(m.len(), 5 | 11) & profile_ok(profile_in(m))
 }

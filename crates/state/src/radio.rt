@@ -8,57 +8,25 @@ use crate::names;
 pub fn is_idle(rf: Rf) -> bool
     ensures { result ≡ is_idle rf }
 {
-    match rf {
-        Rf::Idle => true,
-        Rf::Discovery => false,
-        Rf::W4AllDiscoveries => false,
-        Rf::W4HostSelect(_) => false,
-        Rf::PollActive(_) => false,
-        Rf::ListenActive(_) => false,
-        Rf::ListenSleep => false,
-    }
+    matches!(rf, Rf::Idle)
 }
 
 pub fn is_listening(rf: Rf) -> bool
     ensures { result ≡ is_listening rf }
 {
-    match rf {
-        Rf::Idle => false,
-        Rf::Discovery => false,
-        Rf::W4AllDiscoveries => false,
-        Rf::W4HostSelect(_) => false,
-        Rf::PollActive(_) => false,
-        Rf::ListenActive(_) => true,
-        Rf::ListenSleep => false,
-    }
+    matches!(rf, Rf::ListenActive(_))
 }
 
 pub fn is_asleep(rf: Rf) -> bool
     ensures { result ≡ is_asleep rf }
 {
-    match rf {
-        Rf::Idle => false,
-        Rf::Discovery => false,
-        Rf::W4AllDiscoveries => false,
-        Rf::W4HostSelect(_) => false,
-        Rf::PollActive(_) => false,
-        Rf::ListenActive(_) => false,
-        Rf::ListenSleep => true,
-    }
+    matches!(rf, Rf::ListenSleep)
 }
 
 pub fn is_active(rf: Rf) -> bool
     ensures { result ≡ is_active rf }
 {
-    match rf {
-        Rf::Idle => false,
-        Rf::Discovery => false,
-        Rf::W4AllDiscoveries => false,
-        Rf::W4HostSelect(_) => false,
-        Rf::PollActive(_) => true,
-        Rf::ListenActive(_) => true,
-        Rf::ListenSleep => false,
-    }
+    matches!(rf, Rf::PollActive(_) | Rf::ListenActive(_))
 }
 
 // A mode that polls, and one that listens (003, Table 131).
@@ -81,6 +49,7 @@ pub fn id_ok(id: u8) -> bool
     (1 <= id) & (id <= 254)
 }
 
+// The pair of an activation. No `From`: it would need this clause as a ghost member.
 pub fn pair_of(a: Activation) -> Pair
     ensures { result ≡ pair_of a }
 {
@@ -93,56 +62,43 @@ pub fn pair_of(a: Activation) -> Pair
 pub fn same_pair(a: Pair, b: Pair) -> bool
     ensures { result ≡ same_pair a b }
 {
-    (a.id == b.id) & (a.protocol == b.protocol)
+    a == b
 }
 
 // No pair at all.
 pub fn no_pairs() -> Pairs
     ensures { result ≡ no_pairs }
 {
-    let none = Pair { id: 0, protocol: 0 };
     Pairs {
-        list: [none, none, none, none, none, none, none, none],
+        list: [Pair { id: 0, protocol: 0 }; 8],
         count: 0,
     }
 }
 
 // Whether a pair is among those found.
+#[tactic(auto, unfolding(crate::specs::Radio::listed_in))]
 pub fn is_listed(ps: Pairs, p: Pair) -> bool
     ensures { result ≡ listed ps p }
 {
-    let count = ps.count;
-    let mut found = false;
-    let mut i: usize = 0;
-    while i < 8 {
-        let q = ps.list[i];
-        found = found | ((i < count) & same_pair(q, p));
-        i += 1;
-    }
-    found
+    ps.list[..ps.count.min(8)].contains(&p)
 }
 
 // A new list with this pair alone.
+#[tactic(auto, unfolding(crate::specs::Radio::added_to))]
 pub fn started_with(p: Pair) -> Pairs
     ensures { result ≡ started_with p }
 {
-    let mut ps = no_pairs();
-    ps.list[0] = p;
-    ps.count = 1;
-    ps
+    added_to(no_pairs(), p)
 }
 
 // The list with a pair more, where there is a place for it.
-pub fn added_to(ps: Pairs, p: Pair) -> Pairs
+#[tactic(auto, unfolding(crate::specs::Radio::added_to))]
+pub fn added_to(mut ps: Pairs, p: Pair) -> Pairs
     ensures { result ≡ added_to ps p }
 {
-    let at = ps.count;
-    if at < 8 {
-        let mut next = ps;
-        next.list[at] = p;
-        next.count = at + 1;
-        next
-    } else {
-        ps
+    if ps.count < 8 {
+        ps.list[ps.count] = p;
+        ps.count += 1;
     }
+    ps
 }

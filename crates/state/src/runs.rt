@@ -2,6 +2,7 @@
 ghost use Rattle.std.specs.Prelude.{◌≡◌};
 ghost use Rattle.state.specs.Runs.{within, same_run, run_for, joined_of, control_joined};
 
+use crate::conn::start;
 use crate::kinds::{ControlRun, Progress};
 use packets::Header;
 
@@ -10,7 +11,8 @@ pub const DATA_LIMIT: usize = 1024;
 
 pub const CONTROL_LIMIT: usize = 255;
 
-// The run after a segment. done: the message is whole. dropped: the run is past its limit, the drop flag.
+// The run after a segment. done: the message is whole. dropped: the run is past its limit, the drop flag. No enum: callers store next in
+// every case.
 #[derive(Clone, Copy)]
 pub struct Joined {
     pub next: Progress,
@@ -30,45 +32,33 @@ pub struct ControlJoined {
 pub fn fits(limit: usize, p: Progress, n: usize) -> bool
     ensures { result ≡ within limit p n }
 {
-    if p.lost {
-        return false;
-    }
-    if limit < n {
-        return false;
-    }
-    p.len <= limit - n
+    !p.lost && n <= limit && p.len <= limit - n
 }
 
 // A segment of n octets joins a run.
+#[tactic(auto, unfolding(crate::specs::Runs::joined_of))]
 pub fn join(limit: usize, p: Progress, more: bool, n: usize) -> Joined
     ensures { result ≡ joined_of limit p more n }
 {
-    if fits(limit, p, n) {
-        if more {
-            Joined {
-                next: Progress {
-                    len: p.len + n,
-                    lost: false,
-                },
-                done: false,
-                dropped: false,
-            }
-        } else {
-            Joined {
-                next: Progress {
-                    len: 0,
-                    lost: false,
-                },
-                done: true,
-                dropped: false,
-            }
-        }
-    } else {
-        Joined {
+    if !fits(limit, p, n) {
+        return Joined {
             next: Progress { len: 0, lost: more },
             done: false,
             dropped: true,
+        };
+    }
+    let next = if more {
+        Progress {
+            len: p.len + n,
+            lost: false,
         }
+    } else {
+        start()
+    };
+    Joined {
+        next,
+        done: !more,
+        dropped: false,
     }
 }
 
@@ -76,37 +66,29 @@ pub fn join(limit: usize, p: Progress, more: bool, n: usize) -> Joined
 fn same_run(r: ControlRun, h: Header) -> bool
     ensures { result ≡ same_run r h }
 {
-    (r.mt == h.mt) & (r.gid == h.id) & (r.oid == h.oid)
+    (r.mt, r.gid, r.oid) == (h.mt, h.id, h.oid)
 }
 
 // The run that a control packet joins: another MT, GID or OID starts a new one.
 pub fn run_for(r: ControlRun, h: Header) -> Progress
     ensures { result ≡ run_for r h }
 {
-    if same_run(r, h) {
-        let p = r.run;
-        p
-    } else {
-        Progress {
-            len: 0,
-            lost: false,
-        }
-    }
+    if same_run(r, h) { r.run } else { start() }
 }
 
 // A control packet with n octets of payload joins a run. base: the octets that stand before its own.
+#[tactic(auto, unfolding(crate::specs::Runs::control_joined))]
 pub fn join_control(r: ControlRun, h: Header, n: usize) -> ControlJoined
     ensures { result ≡ control_joined r h n }
 {
     let p = run_for(r, h);
     let j = join(CONTROL_LIMIT, p, h.pbf, n);
-    let run = j.next;
     ControlJoined {
         next: ControlRun {
             mt: h.mt,
             gid: h.id,
             oid: h.oid,
-            run: run,
+            run: j.next,
         },
         base: p.len,
         done: j.done,

@@ -1,23 +1,11 @@
--- `state::conn::all_noticed` meets its contract, one connection after the other.
-use Prim.Native.Nat.{ℕ}
-use mathlib.Core.List.{List}
-use Rattle.state.specs.Kinds.{Counts}
-use Rattle.state.specs.Conn.{noticed_at}
-use Rattle.state.proofs.Conns.{five}
+-- `state::conn::all_noticed` meets its contract: the five connections are all of the array.
+use Rattle.std.proofs.Common.{rules}
+use Rattle.state.specs.Conn.{closed_counts, noticed_side}
+use Rattle.state.proofs.Conns.{mapped}
 use Rattle.state.proofs.conn.all_noticed.Goals as goal
 
 pub returns : goal.returns
 returns c =
-    let a = c.args in
-    five (λ (l : List Counts) (k : ℕ). noticed_at l k)
-    a.conns
-    c.noticed_at-a.result
-    c.noticed_at-b.result
-    c.noticed_at-c.result
-    c.noticed_at-d.result
-    c.noticed_at.result
-    c.noticed_at-a.ensures
-    c.noticed_at-b.ensures
-    c.noticed_at-c.ensures
-    c.noticed_at-d.ensures
-    c.noticed_at.ensures
+    let m = c.map.ensures.items in
+    mapped (λ k. record { host = k.host; controller = noticed_side k.controller }) c.args.conns c.map.result (search rules) m.long
+    (λ p l. let e = m.at p closed_counts closed_counts l in search rules)

@@ -1,12 +1,11 @@
--- `state::conn::host_all_closed` meets its contract.
+-- `state::conn::host_all_closed` meets its contract: the five connections are all of the array.
+use Rattle.std.proofs.Common.{rules}
+use Rattle.state.specs.Conn.{closed_counts, closed_host}
+use Rattle.state.proofs.Conns.{mapped}
 use Rattle.state.proofs.conn.host_all_closed.Goals as goal
 
 pub returns : goal.returns
 returns c =
-    rw (
-      c.host_closed_at.ensures,
-      c.host_closed_at-d.ensures,
-      c.host_closed_at-c.ensures,
-      c.host_closed_at-b.ensures,
-      c.host_closed_at-a.ensures,
-    )
+    let m = c.map.ensures.items in
+    mapped (λ k. record { host = closed_host; controller = k.controller }) c.args.conns c.map.result (search rules) m.long
+    (λ p l. let e = m.at p closed_counts closed_counts l in search rules)
