@@ -31,24 +31,28 @@ const OPENED: usize = places::HOST_SIDE_SIZE;
 
 const LOST: usize = OPENED + places::CONTROLLER_RUN_PART + places::LOST_PART;
 
+#[tactic(auto, unfolding(crate::specs::Judge::hand_ok))]
 fn hand_ok(h: Hand) -> bool
     ensures { result ≡ hand_ok h }
 {
     (h.len <= MESSAGE) & (h.at <= h.len)
 }
 
+#[tactic(auto, unfolding(crate::specs::Judge::given_ok))]
 fn given_ok(id: u8) -> bool
     ensures { result ≡ given_ok id }
 {
     (id == 0) | ((2 <= id) & (id <= 5))
 }
 
+#[tactic(auto, unfolding(crate::specs::Judge::host_side_ok))]
 fn host_side_ok(h: HostSide) -> bool
     ensures { result ≡ host_side_ok h }
 {
     (h.held <= h.grant) & (!h.opened | (1 <= h.payload)) & hand_ok(h.hand) & (h.run.len <= MESSAGE)
 }
 
+#[tactic(auto, unfolding(crate::specs::Judge::controller_side_ok))]
 fn controller_side_ok(k: ControllerSide) -> bool
     ensures { result ≡ controller_side_ok k }
 {
@@ -57,27 +61,25 @@ fn controller_side_ok(k: ControllerSide) -> bool
         & (k.run.len <= MESSAGE)
 }
 
+#[tactic(auto, unfolding(crate::specs::Judge::counts_ok))]
 fn counts_ok(c: Counts) -> bool
     ensures { result ≡ counts_ok c }
 {
     host_side_ok(c.host) & controller_side_ok(c.controller)
 }
 
+#[tactic(auto, unfolding(crate::specs::Judge::conns_ok))]
 fn conns_ok(conns: [Counts; 5]) -> bool
     ensures { result ≡ conns_ok conns }
 {
-    let c0 = conns[0];
-    let c1 = conns[1];
-    let c2 = conns[2];
-    let c3 = conns[3];
-    let c4 = conns[4];
-    counts_ok(c0) & counts_ok(c1) & counts_ok(c2) & counts_ok(c3) & counts_ok(c4)
+    let [a, b, c, d, e] = conns;
+    counts_ok(a) & counts_ok(b) & counts_ok(c) & counts_ok(d) & counts_ok(e)
 }
 
+#[tactic(auto, unfolding(crate::specs::Judge::ends_ok))]
 fn ends_ok(e: Ends) -> bool
     ensures { result ≡ ends_ok e }
 {
-    let conns = e.conns;
     let numbers = (LEAST_SIZE <= e.host.size)
         & (e.hearing.run.len <= CONTROL)
         & (e.asking.run.len <= CONTROL)
@@ -86,9 +88,10 @@ fn ends_ok(e: Ends) -> bool
         & given_ok(e.controller.given)
         & profile_ok(e.profile)
         & hand_ok(e.endpoint)
-        & conns_ok(conns)
+        & conns_ok(e.conns)
 }
 
+#[tactic(auto, unfolding(crate::specs::Judge::record_ok))]
 fn record_ok(r: Record) -> bool
     ensures { result ≡ record_ok r }
 {
@@ -97,12 +100,14 @@ fn record_ok(r: Record) -> bool
     down & up & ends_ok(r.ends)
 }
 
+#[tactic(auto, unfolding(crate::specs::Judge::rf_known))]
 fn rf_known(tag: u8, selected: u8) -> bool
     ensures { result ≡ rf_known tag selected }
 {
     (tag <= 6) & ((tag != 3) | (selected <= 1))
 }
 
+#[tactic(auto, unfolding(crate::specs::Judge::conn_known))]
 fn conn_known(s: &[u8], at: usize) -> bool
     requires { at + counts_size ≤ length s.now }
     ensures { result ≡ conn_known s.now at }
@@ -114,6 +119,7 @@ fn conn_known(s: &[u8], at: usize) -> bool
         & (s[at + LOST] <= 1)
 }
 
+#[tactic(auto, unfolding(crate::specs::Judge::conns_known))]
 fn conns_known(s: &[u8], at: usize) -> bool
     requires { at + conns_size ≤ length s.now }
     ensures { result ≡ conns_known s.now at }
@@ -125,6 +131,7 @@ fn conns_known(s: &[u8], at: usize) -> bool
         & conn_known(s, at + places::COUNTS_4)
 }
 
+#[tactic(auto, unfolding(crate::specs::Judge::tags_ok))]
 fn tags_ok(s: &[u8]) -> bool
     requires { record_end ≤ length s.now }
     ensures { result ≡ tags_ok s.now }
@@ -139,12 +146,10 @@ fn tags_ok(s: &[u8]) -> bool
 
 // Whether row 1 does not apply, to the record and to the configuration behind it.
 // The area's record r is decoded by the caller, who needs it too.
+#[tactic(auto, unfolding(crate::specs::Judge::judge_of, crate::specs::Layout::record_octets, octets::specs::Octets::cut), using(crate::proofs::Configured::length_config))]
 pub fn judge(area: &[u8], r: Record) -> bool
     requires { (area_size ≤ length area.now) × (r ≡ decode_of area.now) }
     ensures { result ≡ judge_of area.now }
 {
-    let known = tags_ok(&area[RECORD_AT..AREA]);
-    let ok = record_ok(r);
-    let values = parameters_ok(parameters::values_of(area));
-    known & ok & values
+    tags_ok(&area[RECORD_AT..AREA]) & record_ok(r) & parameters_ok(parameters::values_of(area))
 }

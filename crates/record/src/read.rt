@@ -13,41 +13,24 @@ use state::kinds::{
     Pair, Pairs, Phase, Profile, Progress, Record, Rf, Ring, Terms,
 };
 
-// An octet as a count.
-fn number(octet: u8) -> usize
-    ensures { result ≡ octet }
-{
-    octet as usize
-}
-
-// Two octets as one number.
-fn joined(high: u8, low: u8) -> usize
-    ensures { result ≡ high * 256 + low }
-{
-    (high as usize) * 256 + (low as usize)
-}
-
 // A length or a position, high octet first.
+#[tactic(auto, unfolding(crate::specs::Reading::wide_at))]
 fn wide_at(s: &[u8], at: usize) -> usize
     requires { at + 2 ≤ length s.now }
     ensures { result ≡ wide_at s.now at }
 {
-    joined(s[at], s[at + 1])
+    usize::from(u16::from_be_bytes([s[at], s[at + 1]]))
 }
 
+#[tactic(auto, unfolding(crate::specs::Reading::pending_of))]
 fn pending_of(tag: u8, gid: u8, oid: u8, aim: u8) -> Option<Asked>
     ensures { result ≡ pending_of tag gid oid aim }
 {
-    match tag {
-        1 => Some(Asked {
-            gid: gid,
-            oid: oid,
-            aim: aim,
-        }),
-        _ => None,
-    }
+    (tag == 1).then_some(Asked { gid, oid, aim })
 }
 
+// No `From`, here and for rf_of: tags are the record's own, and the types stand in a crate below that knows of no octets.
+#[tactic(auto, unfolding(crate::specs::Reading::phase_of))]
 fn phase_of(tag: u8) -> Phase
     ensures { result ≡ phase_of tag }
 {
@@ -58,19 +41,14 @@ fn phase_of(tag: u8) -> Phase
     }
 }
 
+#[tactic(auto, unfolding(crate::specs::Reading::rf_of))]
 fn rf_of(tag: u8, a: u8, b: u8, c: u8) -> Rf
     ensures { result ≡ rf_of tag a b c }
 {
     match tag {
         1 => Rf::Discovery,
         2 => Rf::W4AllDiscoveries,
-        3 => {
-            if a == 1 {
-                Rf::W4HostSelect(Some(Pair { id: b, protocol: c }))
-            } else {
-                Rf::W4HostSelect(None)
-            }
-        }
+        3 => Rf::W4HostSelect((a == 1).then_some(Pair { id: b, protocol: c })),
         4 => Rf::PollActive(Activation {
             id: a,
             protocol: b,
@@ -86,6 +64,7 @@ fn rf_of(tag: u8, a: u8, b: u8, c: u8) -> Rf
     }
 }
 
+// Not state's `terms_in`, which reads 0 past an end and so tests every index: here there is room.
 fn terms_at(s: &[u8], at: usize) -> Terms
     requires { at + 2 ≤ length s.now }
     ensures { result ≡ terms_in s.now at }
@@ -96,97 +75,85 @@ fn terms_at(s: &[u8], at: usize) -> Terms
     }
 }
 
+#[tactic(auto, unfolding(crate::specs::Reading::profile_at))]
 fn profile_at(s: &[u8], at: usize) -> Profile
     requires { at + profile_size ≤ length s.now }
     ensures { result ≡ profile_at s.now at }
 {
-    let control = s[at];
-    let two = terms_at(s, at + 1);
-    let three = terms_at(s, at + 3);
-    let four = terms_at(s, at + 5);
-    let five = terms_at(s, at + 7);
-    let fixed = terms_at(s, at + 9);
     Profile {
-        control: control,
-        two: two,
-        three: three,
-        four: four,
-        five: five,
-        fixed: fixed,
+        control: s[at],
+        two: terms_at(s, at + 1),
+        three: terms_at(s, at + 3),
+        four: terms_at(s, at + 5),
+        five: terms_at(s, at + 7),
+        fixed: terms_at(s, at + 9),
     }
 }
 
+#[tactic(auto, unfolding(crate::specs::Reading::progress_at))]
 fn progress_at(s: &[u8], at: usize) -> Progress
     requires { at + progress_size ≤ length s.now }
     ensures { result ≡ progress_at s.now at }
 {
-    let lost = s[at + places::LOST_PART] == 1;
-    let len = wide_at(s, at);
     Progress {
-        len: len,
-        lost: lost,
+        len: wide_at(s, at),
+        lost: s[at + places::LOST_PART] == 1,
     }
 }
 
+#[tactic(auto, unfolding(crate::specs::Reading::control_run_at))]
 fn control_run_at(s: &[u8], at: usize) -> ControlRun
     requires { at + control_run_size ≤ length s.now }
     ensures { result ≡ control_run_at s.now at }
 {
-    let mt = s[at];
-    let gid = s[at + 1];
-    let oid = s[at + 2];
-    let run = progress_at(s, at + places::RUN_PART);
     ControlRun {
-        mt: mt,
-        gid: gid,
-        oid: oid,
-        run: run,
+        mt: s[at],
+        gid: s[at + 1],
+        oid: s[at + 2],
+        run: progress_at(s, at + places::RUN_PART),
     }
 }
 
+#[tactic(auto, unfolding(crate::specs::Reading::hand_at))]
 fn hand_at(s: &[u8], at: usize) -> Hand
     requires { at + hand_size ≤ length s.now }
     ensures { result ≡ hand_at s.now at }
 {
-    let full = s[at] == 1;
-    let len = wide_at(s, at + 1);
-    let gone = wide_at(s, at + 3);
     Hand {
-        full: full,
-        len: len,
-        at: gone,
+        full: s[at] == 1,
+        len: wide_at(s, at + 1),
+        at: wide_at(s, at + 3),
     }
 }
 
+#[tactic(auto, unfolding(crate::specs::Reading::ring_at))]
 fn ring_at(s: &[u8], at: usize) -> Ring
     requires { at + ring_size ≤ length s.now }
     ensures { result ≡ ring_at s.now at }
 {
-    let head = number(s[at]);
-    let count = number(s[at + 1]);
     Ring {
-        head: head,
-        count: count,
+        head: usize::from(s[at]),
+        count: usize::from(s[at + 1]),
     }
 }
 
+#[tactic(auto, unfolding(crate::specs::Reading::host_at))]
 fn host_at(s: &[u8], at: usize) -> Host
     requires { at + host_size ≤ length s.now }
     ensures { result ≡ host_at s.now at }
 {
-    let size = s[at];
-    let pending = pending_of(
-        s[at + places::PENDING_PART],
-        s[at + 2],
-        s[at + 3],
-        s[at + 4],
-    );
     Host {
-        size: size,
-        pending: pending,
+        size: s[at],
+        pending: pending_of(
+            s[at + places::PENDING_PART],
+            s[at + 2],
+            s[at + 3],
+            s[at + 4],
+        ),
     }
 }
 
+#[tactic(auto, unfolding(crate::specs::Reading::pair_at))]
 fn pair_at(s: &[u8], at: usize) -> Pair
     requires { at + 2 ≤ length s.now }
     ensures { result ≡ pair_at s.now at }
@@ -197,146 +164,129 @@ fn pair_at(s: &[u8], at: usize) -> Pair
     }
 }
 
+#[tactic(auto, unfolding(crate::specs::Reading::pairs_at))]
 fn pairs_at(s: &[u8], at: usize) -> Pairs
     requires { at + pairs_size ≤ length s.now }
     ensures { result ≡ pairs_at s.now at }
 {
-    let p0 = pair_at(s, at);
-    let p1 = pair_at(s, at + 2);
-    let p2 = pair_at(s, at + 4);
-    let p3 = pair_at(s, at + 6);
-    let p4 = pair_at(s, at + 8);
-    let p5 = pair_at(s, at + 10);
-    let p6 = pair_at(s, at + 12);
-    let p7 = pair_at(s, at + 14);
-    let count = number(s[at + 16]);
     Pairs {
-        list: [p0, p1, p2, p3, p4, p5, p6, p7],
-        count: count,
+        list: [
+            pair_at(s, at),
+            pair_at(s, at + 2),
+            pair_at(s, at + 4),
+            pair_at(s, at + 6),
+            pair_at(s, at + 8),
+            pair_at(s, at + 10),
+            pair_at(s, at + 12),
+            pair_at(s, at + 14),
+        ],
+        count: usize::from(s[at + 16]),
     }
 }
 
+#[tactic(auto, unfolding(crate::specs::Reading::controller_at))]
 fn controller_at(s: &[u8], at: usize) -> Controller
     requires { at + controller_size ≤ length s.now }
     ensures { result ≡ controller_at s.now at }
 {
-    let given = s[at + 1];
-    let phase = phase_of(s[at]);
-    let rf = rf_of(
-        s[at + places::RF_PART],
-        s[at + places::SELECTED_PART],
-        s[at + 4],
-        s[at + 5],
-    );
-    let pairs = pairs_at(s, at + places::PAIRS_PART);
     Controller {
-        phase: phase,
-        given: given,
-        rf: rf,
-        pairs: pairs,
+        phase: phase_of(s[at]),
+        given: s[at + 1],
+        rf: rf_of(
+            s[at + places::RF_PART],
+            s[at + places::SELECTED_PART],
+            s[at + 4],
+            s[at + 5],
+        ),
+        pairs: pairs_at(s, at + places::PAIRS_PART),
     }
 }
 
+#[tactic(auto, unfolding(crate::specs::Reading::host_side_at))]
 fn host_side_at(s: &[u8], at: usize) -> HostSide
     requires { at + host_side_size ≤ length s.now }
     ensures { result ≡ host_side_at s.now at }
 {
-    let opened = s[at] == 1;
-    let payload = s[at + 1];
-    let grant = s[at + 2];
-    let held = s[at + 3];
-    let hand = hand_at(s, at + places::HAND_PART);
-    let run = progress_at(s, at + places::HOST_RUN_PART);
     HostSide {
-        opened: opened,
-        payload: payload,
-        grant: grant,
-        held: held,
-        hand: hand,
-        run: run,
+        opened: s[at] == 1,
+        payload: s[at + 1],
+        grant: s[at + 2],
+        held: s[at + 3],
+        hand: hand_at(s, at + places::HAND_PART),
+        run: progress_at(s, at + places::HOST_RUN_PART),
     }
 }
 
+#[tactic(auto, unfolding(crate::specs::Reading::controller_side_at))]
 fn controller_side_at(s: &[u8], at: usize) -> ControllerSide
     requires { at + controller_side_size ≤ length s.now }
     ensures { result ≡ controller_side_at s.now at }
 {
-    let opened = s[at] == 1;
-    let grant = s[at + 1];
-    let owed = s[at + 2];
-    let store = ring_at(s, at + places::STORE_PART);
-    let run = progress_at(s, at + places::CONTROLLER_RUN_PART);
     ControllerSide {
-        opened: opened,
-        grant: grant,
-        owed: owed,
-        store: store,
-        run: run,
+        opened: s[at] == 1,
+        grant: s[at + 1],
+        owed: s[at + 2],
+        store: ring_at(s, at + places::STORE_PART),
+        run: progress_at(s, at + places::CONTROLLER_RUN_PART),
     }
 }
 
+#[tactic(auto, unfolding(crate::specs::Reading::counts_at))]
 fn counts_at(s: &[u8], at: usize) -> Counts
     requires { at + counts_size ≤ length s.now }
     ensures { result ≡ counts_at s.now at }
 {
-    let host = host_side_at(s, at);
-    let controller = controller_side_at(s, at + places::HOST_SIDE_SIZE);
     Counts {
-        host: host,
-        controller: controller,
+        host: host_side_at(s, at),
+        controller: controller_side_at(s, at + places::HOST_SIDE_SIZE),
     }
 }
 
+#[tactic(auto, unfolding(crate::specs::Reading::conns_at))]
 fn conns_at(s: &[u8], at: usize) -> [Counts; 5]
     requires { at + conns_size ≤ length s.now }
     ensures { result ≡ conns_at s.now at }
 {
-    let c0 = counts_at(s, at);
-    let c1 = counts_at(s, at + places::COUNTS_1);
-    let c2 = counts_at(s, at + places::COUNTS_2);
-    let c3 = counts_at(s, at + places::COUNTS_3);
-    let c4 = counts_at(s, at + places::COUNTS_4);
-    [c0, c1, c2, c3, c4]
+    [
+        counts_at(s, at),
+        counts_at(s, at + places::COUNTS_1),
+        counts_at(s, at + places::COUNTS_2),
+        counts_at(s, at + places::COUNTS_3),
+        counts_at(s, at + places::COUNTS_4),
+    ]
 }
 
+#[tactic(auto, unfolding(crate::specs::Reading::ends_of))]
 fn ends_of(s: &[u8]) -> Ends
     requires { record_end ≤ length s.now }
     ensures { result ≡ ends_of s.now }
 {
-    let profile = profile_at(s, places::PROFILE);
-    let host = host_at(s, places::HOST);
-    let hearing = control_run_at(s, places::HEARING);
-    let controller = controller_at(s, places::CONTROLLER);
-    let asking = control_run_at(s, places::ASKING);
-    let endpoint = hand_at(s, places::ENDPOINT);
-    let conns = conns_at(s, places::CONNS);
     Ends {
-        profile: profile,
-        host: host,
-        hearing: hearing,
-        controller: controller,
-        asking: asking,
-        endpoint: endpoint,
-        conns: conns,
+        profile: profile_at(s, places::PROFILE),
+        host: host_at(s, places::HOST),
+        hearing: control_run_at(s, places::HEARING),
+        controller: controller_at(s, places::CONTROLLER),
+        asking: control_run_at(s, places::ASKING),
+        endpoint: hand_at(s, places::ENDPOINT),
+        conns: conns_at(s, places::CONNS),
     }
 }
 
 // The record of its own octets.
+#[tactic(auto, unfolding(crate::specs::Reading::record_of))]
 pub fn record_of(s: &[u8]) -> Record
     requires { record_end ≤ length s.now }
     ensures { result ≡ record_of s.now }
 {
-    let ends = ends_of(s);
-    let down = ring_at(s, places::DOWN);
-    let up = ring_at(s, places::UP);
     Record {
-        ends: ends,
-        down: down,
-        up: up,
+        ends: ends_of(s),
+        down: ring_at(s, places::DOWN),
+        up: ring_at(s, places::UP),
     }
 }
 
 // The record of an area.
+#[tactic(auto, unfolding(crate::specs::Reading::decode_of, crate::specs::Layout::record_octets, octets::specs::Octets::cut))]
 pub fn decode(area: &[u8]) -> Record
     requires { area_size ≤ length area.now }
     ensures { result ≡ decode_of area.now }

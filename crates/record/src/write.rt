@@ -31,6 +31,7 @@ const WIRES_AT: usize = RECORD_AT + places::DOWN;
 
 const WIRES_SIZE: usize = places::RING_SIZE + places::RING_SIZE;
 
+#[tactic(auto, unfolding(crate::specs::Writing::profile_octets))]
 fn profile_octets(p: Profile) -> [u8; places::PROFILE_SIZE]
     ensures { result ≡ profile_octets p }
 {
@@ -49,16 +50,18 @@ fn profile_octets(p: Profile) -> [u8; places::PROFILE_SIZE]
     ]
 }
 
+#[tactic(auto, unfolding(crate::specs::Writing::host_octets, crate::specs::Writing::pending_octets))]
 pub fn host_octets(h: Host) -> [u8; places::HOST_SIZE]
     ensures { result ≡ host_octets h }
 {
-    let pending = h.pending;
-    match pending {
+    match h.pending {
         None => [h.size, 0, 0, 0, 0],
         Some(a) => [h.size, 1, a.gid, a.oid, a.aim],
     }
 }
 
+// Lengths by `/` and `%`, here and below: `to_be_bytes` would need names for both octets of each.
+#[tactic(auto, unfolding(crate::specs::Writing::control_run_octets, crate::specs::Layout::bit))]
 fn run_octets(r: ControlRun) -> [u8; places::CONTROL_RUN_SIZE]
     ensures { result ≡ control_run_octets r }
 {
@@ -72,6 +75,8 @@ fn run_octets(r: ControlRun) -> [u8; places::CONTROL_RUN_SIZE]
     ]
 }
 
+// No `From`, here and for rf_octets, as for phase_of in read.
+#[tactic(auto, unfolding(crate::specs::Writing::phase_octet))]
 pub fn phase_octet(p: Phase) -> u8
     ensures { result ≡ phase_octet p }
 {
@@ -82,6 +87,7 @@ pub fn phase_octet(p: Phase) -> u8
     }
 }
 
+#[tactic(auto, unfolding(crate::specs::Writing::rf_octets))]
 pub fn rf_octets(rf: Rf) -> [u8; 4]
     ensures { result ≡ rf_octets rf }
 {
@@ -89,28 +95,19 @@ pub fn rf_octets(rf: Rf) -> [u8; 4]
         Rf::Idle => [0, 0, 0, 0],
         Rf::Discovery => [1, 0, 0, 0],
         Rf::W4AllDiscoveries => [2, 0, 0, 0],
-        Rf::W4HostSelect(s) => match s {
-            None => [3, 0, 0, 0],
-            Some(p) => [3, 1, p.id, p.protocol],
-        },
+        Rf::W4HostSelect(None) => [3, 0, 0, 0],
+        Rf::W4HostSelect(Some(p)) => [3, 1, p.id, p.protocol],
         Rf::PollActive(a) => [4, a.id, a.protocol, a.mode],
         Rf::ListenActive(a) => [5, a.id, a.protocol, a.mode],
         Rf::ListenSleep => [6, 0, 0, 0],
     }
 }
 
+#[tactic(auto, unfolding(crate::specs::Writing::pairs_octets))]
 fn pairs_octets(k: Pairs) -> [u8; places::PAIRS_SIZE]
     ensures { result ≡ pairs_octets k }
 {
-    let count = (k.count % 256) as u8;
-    let p0 = k.list[0];
-    let p1 = k.list[1];
-    let p2 = k.list[2];
-    let p3 = k.list[3];
-    let p4 = k.list[4];
-    let p5 = k.list[5];
-    let p6 = k.list[6];
-    let p7 = k.list[7];
+    let [p0, p1, p2, p3, p4, p5, p6, p7] = k.list;
     [
         p0.id,
         p0.protocol,
@@ -128,10 +125,11 @@ fn pairs_octets(k: Pairs) -> [u8; places::PAIRS_SIZE]
         p6.protocol,
         p7.id,
         p7.protocol,
-        count,
+        (k.count % 256) as u8,
     ]
 }
 
+#[tactic(auto, unfolding(crate::specs::Writing::hand_octets, crate::specs::Layout::bit))]
 fn hand_octets(h: Hand) -> [u8; places::HAND_SIZE]
     ensures { result ≡ hand_octets h }
 {
@@ -144,6 +142,7 @@ fn hand_octets(h: Hand) -> [u8; places::HAND_SIZE]
     ]
 }
 
+#[tactic(auto, unfolding(crate::specs::Writing::counts_octets, crate::specs::Writing::hand_octets, crate::specs::Writing::ring_octets, crate::specs::Layout::bit))]
 fn counts_octets(c: Counts) -> [u8; places::COUNTS_SIZE]
     ensures { result ≡ counts_octets c }
 {
@@ -173,6 +172,7 @@ fn counts_octets(c: Counts) -> [u8; places::COUNTS_SIZE]
     ]
 }
 
+#[tactic(auto, unfolding(crate::specs::Writing::wires_octets, crate::specs::Writing::ring_octets))]
 fn wires_octets(r: Record) -> [u8; WIRES_SIZE]
     ensures { result ≡ wires_octets r }
 {
@@ -189,27 +189,18 @@ fn store_front(area: &mut [u8], at: usize, e: Ends)
     requires { at + front_size ≤ length area.old }
     ensures { area.new ≡ splice area.old at (front_octets e) }
 {
-    let profile = profile_octets(e.profile);
-    let host = host_octets(e.host);
-    let hearing = run_octets(e.hearing);
-    octets::put(area, at, &profile);
-    octets::put(area, at + HOST_PART, &host);
-    octets::put(area, at + HEARING_PART, &hearing);
+    octets::put(area, at, &profile_octets(e.profile));
+    octets::put(area, at + HOST_PART, &host_octets(e.host));
+    octets::put(area, at + HEARING_PART, &run_octets(e.hearing));
 }
 
 fn store_controller(area: &mut [u8], at: usize, k: Controller)
     requires { at + controller_size ≤ length area.old }
     ensures { area.new ≡ splice area.old at (controller_octets k) }
 {
-    let phase = k.phase;
-    let rf = k.rf;
-    let list = k.pairs;
-    let head = [phase_octet(phase), k.given];
-    let state = rf_octets(rf);
-    let pairs = pairs_octets(list);
-    octets::put(area, at, &head);
-    octets::put(area, at + places::RF_PART, &state);
-    octets::put(area, at + places::PAIRS_PART, &pairs);
+    octets::put(area, at, &[phase_octet(k.phase), k.given]);
+    octets::put(area, at + places::RF_PART, &rf_octets(k.rf));
+    octets::put(area, at + places::PAIRS_PART, &pairs_octets(k.pairs));
 }
 
 // What the controller is asked, and the endpoint's message.
@@ -217,42 +208,34 @@ fn store_middle(area: &mut [u8], at: usize, e: Ends)
     requires { at + middle_size ≤ length area.old }
     ensures { area.new ≡ splice area.old at (middle_octets e) }
 {
-    let asking = run_octets(e.asking);
-    let endpoint = hand_octets(e.endpoint);
-    octets::put(area, at, &asking);
-    octets::put(area, at + ENDPOINT_PART, &endpoint);
+    octets::put(area, at, &run_octets(e.asking));
+    octets::put(area, at + ENDPOINT_PART, &hand_octets(e.endpoint));
 }
 
 fn store_counts(area: &mut [u8], at: usize, c: Counts)
     requires { at + counts_size ≤ length area.old }
     ensures { area.new ≡ splice area.old at (counts_octets c) }
 {
-    let o = counts_octets(c);
-    octets::put(area, at, &o);
+    octets::put(area, at, &counts_octets(c));
 }
 
 fn store_conns(area: &mut [u8], at: usize, conns: [Counts; 5])
     requires { at + conns_size ≤ length area.old }
     ensures { area.new ≡ splice area.old at (conns_octets conns) }
 {
-    let c0 = conns[0];
-    let c1 = conns[1];
-    let c2 = conns[2];
-    let c3 = conns[3];
-    let c4 = conns[4];
-    store_counts(area, at, c0);
-    store_counts(area, at + places::COUNTS_1, c1);
-    store_counts(area, at + places::COUNTS_2, c2);
-    store_counts(area, at + places::COUNTS_3, c3);
-    store_counts(area, at + places::COUNTS_4, c4);
+    let [a, b, c, d, e] = conns;
+    store_counts(area, at, a);
+    store_counts(area, at + places::COUNTS_1, b);
+    store_counts(area, at + places::COUNTS_2, c);
+    store_counts(area, at + places::COUNTS_3, d);
+    store_counts(area, at + places::COUNTS_4, e);
 }
 
 fn store_wires(area: &mut [u8], at: usize, r: Record)
     requires { at + wires_size ≤ length area.old }
     ensures { area.new ≡ splice area.old at (wires_octets r) }
 {
-    let o = wires_octets(r);
-    octets::put(area, at, &o);
+    octets::put(area, at, &wires_octets(r));
 }
 
 // The record into its place of the area.
@@ -260,12 +243,9 @@ pub fn encode(area: &mut [u8], r: Record)
     requires { area_size ≤ length area.old }
     ensures { area.new ≡ splice area.old record_at (encode_of r) }
 {
-    let ends = r.ends;
-    let controller = ends.controller;
-    let conns = ends.conns;
-    store_front(area, FRONT_AT, ends);
-    store_controller(area, CONTROLLER_AT, controller);
-    store_middle(area, MIDDLE_AT, ends);
-    store_conns(area, CONNS_AT, conns);
+    store_front(area, FRONT_AT, r.ends);
+    store_controller(area, CONTROLLER_AT, r.ends.controller);
+    store_middle(area, MIDDLE_AT, r.ends);
+    store_conns(area, CONNS_AT, r.ends.conns);
     store_wires(area, WIRES_AT, r);
 }

@@ -2,4 +2,4 @@
 use Rattle.record.proofs.write.store_counts.Goals as goal
 
 pub returns : goal.returns
-returns c = rw (c.put.ensures, c.counts_octets-o.ensures)
+returns c = rw (c.put.ensures, c.counts_octets.ensures)

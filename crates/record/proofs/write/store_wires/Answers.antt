@@ -2,4 +2,4 @@
 use Rattle.record.proofs.write.store_wires.Goals as goal
 
 pub returns : goal.returns
-returns c = rw (c.put.ensures, c.wires_octets-o.ensures)
+returns c = rw (c.put.ensures, c.wires_octets.ensures)
