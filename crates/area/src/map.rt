@@ -9,10 +9,12 @@ pub const AREA: usize = 36864;
 
 pub const RECORD_ROOM: usize = 512;
 
-// The longest payload, and a slot: the longest packet.
+// A packet's header, the longest payload, and a slot: the longest packet.
+pub const HEADER: usize = 3;
+
 pub const PAYLOAD: usize = 255;
 
-pub const SLOT: usize = 3 + PAYLOAD;
+pub const SLOT: usize = HEADER + PAYLOAD;
 
 // Slots of a wire and of a store.
 pub const WIRE: usize = 16;
@@ -51,6 +53,8 @@ pub const ASKING_AT: usize = CONTROLLER_RUNS_AT + PLACES * MESSAGE;
 pub const HEARING_AT: usize = ASKING_AT + CONTROL;
 
 pub const RECORD_AT: usize = AREA - RECORD_ROOM;
+
+// One line each: in place of the four, one function of a start and a place would need every caller to know the start.
 
 // Where the store of a place starts.
 pub fn store_at(place: usize) -> usize

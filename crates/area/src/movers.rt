@@ -9,7 +9,7 @@ ghost use Rattle.area.specs.Ring.{free_at};
 ghost use Rattle.area.specs.Movers.{zeros, puts_all};
 ghost use Rattle.area.specs.Runs.{run_area};
 
-use crate::map::{AREA, MESSAGE, PAYLOAD, SLOT, WIRE};
+use crate::map::{AREA, HEADER, MESSAGE, SLOT, WIRE};
 use crate::ring::{free_at, put_into};
 use packets::Header;
 use state::kinds::{Progress, Ring};
@@ -23,6 +23,7 @@ pub fn read_slot(area: &[u8], slot: usize) -> Option<(Header, usize)>
 }
 
 // Writes a packet into a slot: the packet layer takes that part of the area.
+#[tactic(auto, using(crate::proofs::Moves::packet_lent))]
 pub fn put_packet(area: &mut [u8], slot: usize, h: Header, payload: &[u8])
     requires { (length payload.now ≤ payload_size) × (slot + slot_size ≤ length area.old) }
     ensures { area.new ≡ splice area.old slot (packet_of h payload.now) }
@@ -31,6 +32,7 @@ pub fn put_packet(area: &mut [u8], slot: usize, h: Header, payload: &[u8])
 }
 
 // Writes a segment of a message of the caller into a slot.
+#[tactic(auto, using(crate::proofs::Moves::packet_lent, crate::proofs::Moves::segment_short))]
 pub fn put_piece(area: &mut [u8], slot: usize, h: Header, size: usize, msg: &[u8], at: usize)
     requires { (size ≤ payload_size) × (slot + slot_size ≤ length area.old) }
     ensures { area.new ≡ splice area.old slot (segment_packet h (segment_at size msg.now at)) }
@@ -66,39 +68,37 @@ pub fn copy_slot(area: &mut [u8], from: usize, to: usize)
 }
 
 // Copies a data packet from one slot to another, with n credits in place of those that it carried: from a store to a wire.
+#[tactic(auto, using(crate::proofs::Moves::slot_returned, octets::proofs::Octets::length_cut))]
 pub fn return_slot(area: &mut [u8], from: usize, to: usize, n: u8)
     requires { (from + slot_size ≤ length area.old) × (to + slot_size ≤ length area.old) }
     ensures { area.new ≡ splice area.old to (carrying n (cut from slot_size area.old)) }
 {
-    let mut slot = [0u8; SLOT];
-    octets::put(&mut slot, 0, &area[from..from + SLOT]);
-    packets::set_credits(&mut slot, n);
-    octets::put(area, to, &slot);
+    copy_slot(area, from, to);
+    packets::set_credits(&mut area[to..to + SLOT], n);
 }
 
-// Copies the payload of the packet in a slot to its place in a run. It is that part of the packet itself, and goes through a
-// local array, since two parts of one slice cannot be borrowed at once.
+// Copies the payload of the packet in a slot to its place in a run: it is that part of the slot itself.
+#[tactic(auto, using(crate::proofs::Moves::payload_part))]
 pub fn join_payload(area: &mut [u8], slot: usize, n: usize, to: usize)
     requires { (n ≤ payload_size) × (slot + slot_size ≤ length area.old) × (to + n ≤ length area.old) }
     ensures { area.new ≡ splice area.old to (payload_of (cut slot slot_size area.old) n) }
 {
-    let mut part = [0u8; PAYLOAD];
-    octets::put(&mut part, 0, packets::payload(&area[slot..slot + SLOT], n));
-    octets::put(area, to, &part[0..n]);
+    octets::copy_part(area, slot + HEADER, to, n);
 }
 
 // The payload of the packet in a slot joins a run that lies from base on; past the limit none of it is kept.
+#[tactic(auto, using(crate::proofs::Moves::length_payload), unfolding(crate::specs::Runs::run_area))]
 pub fn join_run(area: &mut [u8], base: usize, limit: usize, p: Progress, slot: usize, n: usize)
     requires { (n ≤ payload_size) × (slot + slot_size ≤ length area.old) × (base + limit ≤ length area.old) }
     ensures { area.new ≡ run_area limit base area.old p (payload_of (cut slot slot_size area.old) n) }
 {
-    let len = p.len;
     if fits(limit, p, n) {
-        join_payload(area, slot, n, base + len);
+        join_payload(area, slot, n, base + p.len);
     }
 }
 
 // Hands out a finished message of n octets; past it the buffer keeps its own.
+#[tactic(auto, using(octets::proofs::Octets::cut_part))]
 pub fn hand_out(area: &[u8], from: usize, n: usize, buffer: &mut [u8])
     requires { (n ≤ length buffer.old) × (from + n ≤ length area.now) }
     ensures { buffer.new ≡ splice buffer.old 0 (cut from n area.now) }
@@ -119,11 +119,7 @@ pub fn clear(area: &mut [u8])
     requires { area_size ≤ length area.old }
     ensures { area.new ≡ splice area.old 0 (zeros area_size) }
 {
-    let mut i = 0;
-    while i < AREA {
-        area[i] = 0;
-        i += 1;
-    }
+    area[..AREA].fill(0);
 }
 
 // Writes a segment of a message of the caller into the first free slot of a wire.
@@ -131,23 +127,19 @@ fn put_next(area: &mut [u8], base: usize, r: Ring, h: Header, size: usize, msg: 
     requires { (size ≤ payload_size) × (r.head < wire_slots) × (r.count < wire_slots) × (base + wire_size ≤ length area.old) }
     ensures { area.new ≡ splice area.old (free_at base wire_slots r) (segment_packet h (segment_at size msg.now at)) }
 {
-    let slot = free_at(base, WIRE, r);
-    put_piece(area, slot, h, size, msg, at);
+    put_piece(area, free_at(base, WIRE, r), h, size, msg, at);
 }
 
-// Writes all segments of a message of the caller, one after the other, into the free slots of a wire. How many they are. The
-// last comes after the loop: an empty message is one segment too.
+// Writes all segments of a message of the caller, one after the other, into the free slots of a wire. How many they are.
 pub fn put_all(area: &mut [u8], base: usize, r: Ring, h: Header, size: usize, msg: &[u8]) -> usize
     requires { (1 ≤ size) × (size ≤ payload_size) × (r.head < wire_slots) × (r.count + length (segments size msg.now) ≤ wire_slots) × (base + wire_size ≤ length area.old) }
     ensures { (result ≡ length (segments size msg.now)) × (area.new ≡ puts_all base area.old r (packets_of h size msg.now)) }
 {
+    let n = packets::segment_count(msg, size);
     let mut q = r;
-    let mut at = 0;
-    while size < msg.len() - at {
-        put_next(area, base, q, h, size, msg, at);
+    for k in 0..n {
+        put_next(area, base, q, h, size, msg, k * size);
         q = put_into(q);
-        at += size;
     }
-    put_next(area, base, q, h, size, msg, at);
-    q.count + 1 - r.count
+    n
 }

@@ -39,7 +39,7 @@ pub fn put_into(r: Ring) -> Ring
     ensures { result ≡ put_into r }
 {
     Ring {
-        head: r.head,
         count: r.count + 1,
+        ..r
     }
 }
