@@ -122,14 +122,6 @@ pub fn clear(area: &mut [u8])
     area[..AREA].fill(0);
 }
 
-// Writes a segment of a message of the caller into the first free slot of a wire.
-fn put_next(area: &mut [u8], base: usize, r: Ring, h: Header, size: usize, msg: &[u8], at: usize)
-    requires { (size ≤ payload_size) × (r.head < wire_slots) × (r.count < wire_slots) × (base + wire_size ≤ length area.old) }
-    ensures { area.new ≡ splice area.old (free_at base wire_slots r) (segment_packet h (segment_at size msg.now at)) }
-{
-    put_piece(area, free_at(base, WIRE, r), h, size, msg, at);
-}
-
 // Writes all segments of a message of the caller, one after the other, into the free slots of a wire. How many they are.
 pub fn put_all(area: &mut [u8], base: usize, r: Ring, h: Header, size: usize, msg: &[u8]) -> usize
     requires { (1 ≤ size) × (size ≤ payload_size) × (r.head < wire_slots) × (r.count + length (segments size msg.now) ≤ wire_slots) × (base + wire_size ≤ length area.old) }
@@ -138,7 +130,7 @@ pub fn put_all(area: &mut [u8], base: usize, r: Ring, h: Header, size: usize, ms
     let n = packets::segment_count(msg, size);
     let mut q = r;
     for k in 0..n {
-        put_next(area, base, q, h, size, msg, k * size);
+        put_piece(area, free_at(base, WIRE, q), h, size, msg, k * size);
         q = put_into(q);
     }
     n
