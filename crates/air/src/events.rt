@@ -5,12 +5,10 @@ ghost use Rattle.state.specs.Names.{gid_rf, oid_discover, oid_activated};
 ghost use Rattle.state.specs.Conn.{terms_of};
 ghost use Rattle.state.specs.Radio.{id_ok};
 ghost use Rattle.state.specs.Runs.{control_limit};
-ghost use Rattle.messages.specs.Layout.{Put, discover_ntf, activated_ntf};
-ghost use Rattle.air.specs.Air.{target_of, found_in, poll_in, listen_in, event_of, kind_of, no_room, found_to, found_by, poll_by, listen_by, failed_by, aired_by, is_refused, air_message};
+ghost use Rattle.messages.specs.Layout.{Put, MayPut, discover_ntf, activated_ntf};
+ghost use Rattle.air.specs.Air.{target_of, found_in, poll_in, listen_in, event_of, kind_of, no_room, found_to, found_by, poll_by, listen_by, failed_by, aired_by, air_message};
 
-use messages::layout::{
-    Note, activated_ntf, deactivate_ntf, discover_ntf, generic_error_ntf, no_message,
-};
+use messages::layout::{Note, activated_ntf, deactivate_ntf, discover_ntf, generic_error_ntf};
 use state::conn::terms_of;
 use state::kinds::{Activation, Pair, Pairs, Profile, Rf};
 use state::names;
@@ -101,7 +99,7 @@ pub fn event_of(m: &[u8]) -> Option<Event>
     }
 }
 
-// The kind of an event, 1 to 8; 0 for octets that are none.
+// The kind of an event, 1 to 8; 0 for octets that are none. A number, since the model's `air_rules` tell the kinds apart by theirs.
 pub fn kind_of(e: Option<Event>) -> u8
     ensures { result ≡ kind_of e }
 {
@@ -122,9 +120,7 @@ pub fn kind_of(e: Option<Event>) -> u8
 fn no_room(ps: Pairs, p: Pair, kind: u8) -> bool
     ensures { result ≡ no_room ps p kind }
 {
-    let count = ps.count;
-    let repeated = is_listed(ps, p);
-    repeated | (8 <= count) | ((kind == names::MORE_FOLLOW) & (7 <= count))
+    is_listed(ps, p) | (8 <= ps.count) | ((kind == names::MORE_FOLLOW) & (7 <= ps.count))
 }
 
 // The state after a target was found: type 2 says that more follow.
@@ -231,26 +227,29 @@ fn active_message(out: &mut [u8; CONTROL_LIMIT], p: Profile, a: Activation, m: &
     requires { 11 + length (drop 4 m.now) ≤ control_limit }
     ensures { Put out.old (record { gid = gid_rf; oid = oid_activated; payload = activated_ntf a (terms_of p 0) (drop 4 m.now) }) result out.new }
 {
-    let t = terms_of(p, 0);
-    activated_ntf(out, a, t, octets::window(m, 4, m.len()))
+    activated_ntf(out, a, terms_of(p, 0), octets::window(m, 4, m.len()))
 }
 
 // The notification that an event gives, where it gives one. That of an event that was
 // read from m is short enough for the buffer, whatever m is (`event_room`).
-#[tactic(auto, using(messages::proofs::Messages::put_nothing), unfolding(crate::specs::Air::air_message))]
-pub fn air_message(out: &mut [u8; CONTROL_LIMIT], p: Profile, e: Option<Event>, m: &[u8]) -> Note
+#[tactic(auto, using(messages::proofs::Messages::put_nothing, messages::proofs::Messages::put_some), unfolding(crate::specs::Air::air_message))]
+pub fn air_message(
+    out: &mut [u8; CONTROL_LIMIT],
+    p: Profile,
+    e: Option<Event>,
+    m: &[u8],
+) -> Option<Note>
     requires { length (air_message p e m.now).payload ≤ control_limit }
-    ensures { Put out.old (air_message p e m.now) result out.new }
+    ensures { MayPut out.old (air_message p e m.now) result out.new }
 {
-    match e {
-        None => no_message(),
-        Some(Event::Found(a, kind)) => found_message(out, a, kind, m),
-        Some(Event::Poll(a)) => active_message(out, p, a, m),
-        Some(Event::Listen(a)) => active_message(out, p, a, m),
-        Some(Event::Failed) => generic_error_ntf(out),
-        Some(Event::Sleeps) => deactivate_ntf(out, names::TO_SLEEP, names::ENDPOINT_REQUEST),
-        Some(Event::LinkLost) => deactivate_ntf(out, names::TO_DISCOVERY, names::LINK_LOSS),
-        Some(Event::Releases) => deactivate_ntf(out, names::TO_DISCOVERY, names::ENDPOINT_REQUEST),
-        Some(Event::Endpoint) => no_message(),
-    }
+    let note = match e? {
+        Event::Found(a, kind) => found_message(out, a, kind, m),
+        Event::Poll(a) | Event::Listen(a) => active_message(out, p, a, m),
+        Event::Failed => generic_error_ntf(out),
+        Event::Sleeps => deactivate_ntf(out, names::TO_SLEEP, names::ENDPOINT_REQUEST),
+        Event::LinkLost => deactivate_ntf(out, names::TO_DISCOVERY, names::LINK_LOSS),
+        Event::Releases => deactivate_ntf(out, names::TO_DISCOVERY, names::ENDPOINT_REQUEST),
+        Event::Endpoint => return None,
+    };
+    Some(note)
 }

@@ -1,9 +1,9 @@
 // air: an event of the RF field. Kinds 1-7 are notified to the host, kind 8 brings the endpoint's message. (A module has not the
 // name of a crate that is used here, so it is not called air.)
-ghost use Rattle.std.specs.Prelude.{◌≡◌, ◌+◌, ◌≤◌, length};
+ghost use Rattle.std.specs.Prelude.{◌≡◌, ◌+◌, ◌≤◌, false, length, eqb};
 ghost use Rattle.octets.specs.Octets.{splice};
 ghost use Rattle.messages.specs.Packets.{notice_packet};
-ghost use Rattle.air.specs.Air.{event_of, air_message};
+ghost use Rattle.air.specs.Air.{event_of, kind_of, air_message};
 ghost use Rattle.area.specs.Map.{slot_size, wire_slots, area_size};
 ghost use Rattle.record.specs.Claims.{saved};
 ghost use Rattle.record.specs.Fit.{FitRing};
@@ -80,34 +80,31 @@ fn plan(r: Record, m: &[u8], spoken: bool) -> Record
 
 // The notification of an event goes into a slot, by way of a buffer.
 fn put_notice(area: &mut [u8], slot: usize, p: Profile, m: &[u8])
-    requires { slot + slot_size ≤ length area.old }
+    requires { (slot + slot_size ≤ length area.old) × (eqb (kind_of (event_of m.now)) 0 ≡ false) × (speaks m.now ≡ false) }
     ensures { area.new ≡ splice area.old slot (notice_packet (air_message p (event_of m.now) m.now)) }
 {
     let mut buffer = [0u8; CONTROL_LIMIT];
     let e = events::event_of(m);
-    let note = events::air_message(&mut buffer, p, e, m);
-    let len = note.len;
-    let header = Header {
-        mt: packets::NOTIFICATION,
-        pbf: false,
-        id: note.gid,
-        oid: note.oid,
-        credits: 0,
-        spare: 0,
-    };
-    movers::put_packet(area, slot, header, &buffer[0..len]);
+    if let Some(note) = events::air_message(&mut buffer, p, e, m) {
+        let header = Header {
+            mt: packets::NOTIFICATION,
+            pbf: false,
+            id: note.gid,
+            oid: note.oid,
+            credits: 0,
+            spare: 0,
+        };
+        movers::put_packet(area, slot, header, &buffer[0..note.len]);
+    }
 }
 
 // It is the first free slot of the up wire.
 fn notify(area: &mut [u8], r: Record, m: &[u8])
-    requires { (area_size ≤ length area.old) × FitRing wire_slots r.up }
+    requires { (area_size ≤ length area.old) × (speaks m.now ≡ false) × Airable r m.now }
     ensures { area.new ≡ aired_slot r m.now area.old }
 {
-    let ends = r.ends;
-    let profile = ends.profile;
-    let up = r.up;
-    let slot = ring::free_at(map::UP_AT, map::WIRE, up);
-    put_notice(area, slot, profile, m);
+    let slot = ring::free_at(map::UP_AT, map::WIRE, r.up);
+    put_notice(area, slot, r.ends.profile, m);
 }
 
 // The octets that an event brings: the endpoint's message goes into its place, or the notification up.

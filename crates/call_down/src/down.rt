@@ -1,5 +1,5 @@
 // down: the controller takes the first down packet, stores data and answers a command when it is whole.
-ghost use Rattle.std.specs.Prelude.{◌≡◌, ◌&&◌, ◌+◌, ◌≤◌, ◌<◌, length, eqb, leb};
+ghost use Rattle.std.specs.Prelude.{◌≡◌, ◌&&◌, ◌+◌, ◌≤◌, ◌<◌, length, eqb, leb, IfSome};
 ghost use Rattle.octets.specs.Octets.{splice};
 ghost use Rattle.state.specs.Conn.{place_of, open_at};
 ghost use Rattle.area.specs.Map.{area_size, slot_size, payload_size, control_size, wire_slots, store_slots, places, up_at};
@@ -183,19 +183,20 @@ fn put_answers(
     up: Ring,
     response: Note,
     rsp: &[u8],
-    notice: Note,
+    notice: Option<Note>,
     ntf: &[u8],
 ) -> usize
-    requires { (area_size ≤ length area.old) × FitRing wire_slots up × (up.count + 2 ≤ wire_slots) × (response.len ≤ control_size) × (notice.len ≤ control_size) }
+    requires { (area_size ≤ length area.old) × FitRing wire_slots up × (up.count + 2 ≤ wire_slots) × (response.len ≤ control_size) × IfSome notice (λ n. n.len ≤ control_size) }
     ensures { (result ≡ length (note_packets response rsp.now notice ntf.now)) × (area.new ≡ puts_all up_at area.old up (note_packets response rsp.now notice ntf.now)) }
 {
     put_note(area, up, packets::RESPONSE, response, rsp);
-    if notice.len == 0 {
-        return 1;
+    match notice {
+        None => 1,
+        Some(notice) => {
+            put_note(area, ring::put_into(up), packets::NOTIFICATION, notice, ntf);
+            2
+        }
     }
-    let next = ring::put_into(up);
-    put_note(area, next, packets::NOTIFICATION, notice, ntf);
-    2
 }
 
 // The configuration after the verdict v on the command m, in place of the one before it. It goes through a local array, since it is

@@ -1,9 +1,10 @@
 -- A whole command is answered on octets as in the model: the verdict, the two ends after it, and the packets that go up.
 -- Assumes nothing.
+use Rattle.std.specs.Prelude.{Option, Some, None, IfSome}
 use Prim.Native.Nat.{ℕ, ◌+◌, ◌≤◌}
 use native.Mathlib.Omega.{arith}
-use mathlib.Core.Path.{◌≡◌, refl, ap, ◌∙◌, subst}
-use mathlib.Core.Bool.{false}
+use mathlib.Core.Path.{◌≡◌, refl, sym, ap, ◌∙◌, subst}
+use mathlib.Core.Bool.{Bool, true, false}
 use mathlib.Core.List.{List, [], ◌∷◌, ◌++◌}
 use lib.ListN.{length, length-take}
 use lib.Dec.{eqb}
@@ -19,8 +20,8 @@ use Rattle.state.specs.Judgement.{Judgement}
 use Rattle.state.specs.Runs.{control_limit}
 use Rattle.state.proofs.Chains.{on}
 use Rattle.nfcc.specs.Controller.{config_by}
-use Rattle.messages.specs.Layout.{Message, Put, response_of, response_message, notice_message}
-use Rattle.messages.specs.Packets.{response_packet, notice_packets}
+use Rattle.messages.specs.Layout.{Message, Put, MayPut, response_of, response_message, notice_message}
+use Rattle.messages.specs.Packets.{response_packet, notice_packet, notice_packets}
 use Rattle.messages.proofs.Lengths.{response_short, notice_short}
 use Rattle.messages.proofs.Small.{response_octal, notice_octal}
 use Rattle.ends.specs.Steps.{verdict_of, decided, Answers}
@@ -69,27 +70,43 @@ unfolding cut
 cut_few at n l = simp length-take (omega arith)
 
 -- the answer: the response, and the notification after it where there is one
-pub note_packets_law : (out after out' after' : Octets) (m m' : Message) (note note' : Note) → Put out m note after → Put out' m' note' after'
+pub note_packets_law : (out after out' after' : Octets) (m m' : Message) (note : Note) (note' : Option Note) → Put out m note after → MayPut out' m' note' after'
     → length m.payload ≤ length out → length m'.payload ≤ length out'
     → note_packets note after note' after' ≡ response_packet m ∷ notice_packets m'
 unfolding note_packets
-note_packets_law out after out' after' m m' note note' p q room room' i =
-    note_packet_law 2 out after m note p room i
-    ∷ pick (eqb (note_length out' after' m' note' q i) 0) [] (note_packet_law 3 out' after' m' note' q room' i ∷ [])
+note_packets_law out after out' after' m m' note note' p q room room' =
+    (λ i. note_packets note after (q.head i) after') ∙ go (eqb (length m'.payload) 0)
+  where
+    said : Note
+    said = record { gid = m'.gid; oid = m'.oid; len = length m'.payload }
 
-pub notes_few : (response notice : Note) (rsp ntf : Octets) → length (note_packets response rsp notice ntf) ≤ 2
+    go : (b : Bool) → note_packets note after (pick b None (Some said)) after' ≡ response_packet m ∷ pick b [] (notice_packet m' ∷ [])
+    go true i = note_packet_law 2 out after m note p room i ∷ []
+    go false i =
+        note_packet_law 2 out after m note p room i
+        ∷ note_packet_law 3 out' after' m' said (record { head = refl; octets = q.octets }) room' i ∷ []
+
+pub notes_few : (response : Note) (notice : Option Note) (rsp ntf : Octets) → length (note_packets response rsp notice ntf) ≤ 2
 unfolding note_packets
-notes_few response notice rsp ntf =
-    on (λ (l : List Octets). length (note_packet 2 response rsp ∷ l) ≤ 2) (eqb notice.len 0) (λ _. omega arith) (λ _. omega arith)
+notes_few response None rsp ntf = omega arith
+notes_few response (Some notice) rsp ntf = omega arith
+
+-- what is noted of a message is no longer than the message
+abbrev NoteFits : Option Note → Type 0
+NoteFits note = IfSome note (λ n. n.len ≤ control_size)
+
+noted_short : (out after : Octets) (m : Message) (note : Option Note) → MayPut out m note after → length m.payload ≤ control_size → NoteFits note
+noted_short out after m said p short =
+    subst NoteFits (sym p.head) (on NoteFits (eqb (length m.payload) 0) (λ _. tt) (λ _. short))
 
 -- both messages have room in a slot, the command m being short enough for one
 pub answers_short : (e : Ends) (gid oid : ℕ) (b m : Octets) (r : Answered) (rsp ntf rsp' ntf' : Octets) → length m ≤ control_size
     → Answers e gid oid b m (decided e gid oid m) r rsp ntf rsp' ntf'
-    → (r.response.len ≤ control_size) × (r.notice.len ≤ control_size)
+    → (r.response.len ≤ control_size) × IfSome r.notice (λ n. n.len ≤ control_size)
 answers_short e gid oid b m r rsp ntf rsp' ntf' few w =
     let v : Judgement = verdict_of e gid oid m in (
       omega (arith, note_length rsp rsp' (response_message gid oid e.profile b m v) r.response w.response, response_short e.profile b m v (verdict_whole e gid oid m few)),
-      omega (arith, note_length ntf ntf' (notice_message v) r.notice w.notice, notice_short v),
+      noted_short ntf ntf' (notice_message v) r.notice w.notice (omega (arith, notice_short v)),
     )
 
 -- what is answered to a command, noted, put up and written with the configuration and the record, is the answer to it: n packets, in two buffers of room

@@ -6,7 +6,7 @@ use Rattle.ends.specs.Kinds.{Ends, Event, Aired, Heard, Decision, Answered, Heed
 use Rattle.state.specs.Judgement.{Judgement}
 use Rattle.state.specs.Conn.{open_at, held_open}
 use Rattle.nfcc.specs.Controller.{judge_of, controller_after, conns_after, endpoint_after}
-use Rattle.messages.specs.Layout.{Put, response_message, notice_message}
+use Rattle.messages.specs.Layout.{Put, MayPut, response_message, notice_message}
 use Rattle.air.specs.Air.{event_of, aired_by, controller_aired, conns_aired, endpoint_aired}
 use Rattle.dh.specs.Host.{hear_of, host_after, conns_heard, drop_heard}
 
@@ -34,7 +34,7 @@ decided e gid oid m = record { verdict = verdict_of e gid oid m; next = ends_aft
 pub record Answers (e : Ends) (gid oid : ℕ) (b m : Octets) (d : Decision) (r : Answered) (rsp ntf rspAfter ntfAfter : Octets) : Type 0 where
   pub decision : r.decision ≡ d
   pub response : Put rsp (response_message gid oid e.profile b m d.verdict) r.response rspAfter
-  pub notice : Put ntf (notice_message d.verdict) r.notice ntfAfter
+  pub notice : MayPut ntf (notice_message d.verdict) r.notice ntfAfter
 
 -- ---- the host takes a control message
 

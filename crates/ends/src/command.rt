@@ -23,7 +23,7 @@ pub struct Decision {
 pub struct Answered {
     pub decision: Decision,
     pub response: Note,
-    pub notice: Note,
+    pub notice: Option<Note>,
 }
 
 // What the controller decides on a command.

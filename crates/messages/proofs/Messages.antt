@@ -1,14 +1,17 @@
 -- Laws of the messages that the controller sends: their lengths, and the entries of a credit notice one after another.
 -- Assumes nothing.
+use Rattle.std.specs.Prelude.{Option, Some, None, is_some}
+use Rattle.std.specs.Option.{unwrap_or}
 use Prim.Native.Nat.{ℕ, suc, ◌+◌, ◌*◌, ◌/◌, ◌≤◌}
 use mathlib.Core.Path.{◌≡◌, refl, sym, ap, subst, ◌∙◌}
-use mathlib.Core.Bool.{Bool, true, false}
+use mathlib.Core.Bool.{Bool, true, false, false≢true}
 use mathlib.Core.List.{List, [], ◌∷◌, ◌++◌}
 use native.Mathlib.Numerals.{add-one}
 use native.Mathlib.Omega.{arith}
 use lib.ListN.{length, drop, get_or, set, length-append, drop_of_length-le}
 use lib.Seq.{drop-cons}
 use lib.Dec.{eqb}
+use borrow.Author.Tests.{ne_eqb}
 use Rattle.octets.specs.Octets.{Octets, pick, splice}
 use Rattle.octets.proofs.Octets.{length_splice, splice_nil, splice_next, splice_ahead}
 use Rattle.state.specs.declared.kinds.Terms.{Terms}
@@ -16,12 +19,38 @@ use Rattle.state.specs.declared.kinds.Activation.{Activation}
 use Rattle.messages.specs.declared.layout.Note.{Note}
 use Rattle.state.specs.declared.kinds.Counts.{Counts}
 use Rattle.state.specs.Conn.{conn_of}
-use Rattle.messages.specs.Layout.{Put, nothing, entries_from, entry_count, owed_of, credits_message, discover_ntf, activated_ntf}
+use Rattle.messages.specs.Layout.{Message, Put, MayPut, nothing, entries_from, entry_count, owed_of, credits_message, discover_ntf, activated_ntf}
 
 -- ---- no message
 
-pub put_nothing : (out : Octets) (r : Note) → r ≡ record { gid = 0; oid = 0; len = 0 } → Put out nothing r out
-put_nothing out r e = record { head = e; octets = sym (splice_nil out 0) }
+pub put_nothing : (out : Octets) → MayPut out nothing None out
+put_nothing out = record { head = refl; octets = sym (splice_nil out 0) }
+
+-- a message that has octets is noted
+pub put_some : {out after : Octets} {m : Message} {r : Note} → 1 ≤ length m.payload → Put out m r after → MayPut out m (Some r) after
+put_some {out} {after} {m} {r} n p =
+    record {
+      head = (λ i. Some (p.head i)) ∙ (λ i. pick (sym (ne_eqb (length m.payload) 0 (λ e. omega arith)) i) None (Some (record { gid = m.gid; oid = m.oid; len = length m.payload })));
+      octets = p.octets;
+    }
+
+-- and the other way: what was noted is the message that was put
+pub put_noted : {out after : Octets} {m : Message} {r : Note} → MayPut out m (Some r) after → Put out m r after
+put_noted {out} {after} {m} {r} p = record { head = go (eqb (length m.payload) 0) p.head; octets = p.octets }
+  where
+    said : Note
+    said = record { gid = m.gid; oid = m.oid; len = length m.payload }
+
+    go : (b : Bool) → Some r ≡ pick b None (Some said) → r ≡ said
+    go true e = absurd (false≢true (sym (ap is_some e)))
+    go false e = ap (λ (o : Option Note). unwrap_or o said) e
+
+pub none_noted : {out after : Octets} {m : Message} → MayPut out m None after → eqb (length m.payload) 0 ≡ true
+none_noted {out} {after} {m} p = go (eqb (length m.payload) 0) (record { gid = m.gid; oid = m.oid; len = length m.payload }) p.head
+  where
+    go : (b : Bool) (said : Note) → None ≡ pick b None (Some said) → b ≡ true
+    go true said e = refl
+    go false said e = absurd (false≢true (ap is_some e))
 
 -- ---- lengths: fixed fields around the parameters
 

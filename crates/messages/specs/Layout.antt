@@ -1,6 +1,6 @@
 -- The octets of every message that the controller sends (document 01, "What the controller answers" and "The air"; 003's tables as named).
 -- Assumes nothing.
-use Rattle.std.specs.Prelude.{ℕ, suc, ◌+◌, ◌≡◌, List, [], ◌∷◌, ◌++◌, map, length, eqb, Ok, Err}
+use Rattle.std.specs.Prelude.{ℕ, suc, ◌+◌, ◌≡◌, List, [], ◌∷◌, ◌++◌, map, length, eqb, Ok, Err, Option, Some, None}
 use Rattle.octets.specs.Octets.{Octets, pick, splice}
 use Rattle.state.specs.Judgement.{Judgement, octet_of}
 use Rattle.state.specs.Names.{gid_core, gid_rf, oid_reset, oid_conn_credits, oid_deactivate, status_ok, frame_interface, host_request, activation_failed}
@@ -27,6 +27,15 @@ nothing = record { gid = 0; oid = 0; payload = [] }
 -- what a function that writes a message into the caller's buffer answers, and the buffer after it
 pub record Put (out : Octets) (m : Message) (note : Note) (after : Octets) : Type 0 where
   pub head : note ≡ record { gid = m.gid; oid = m.oid; len = length m.payload }
+  pub octets : after ≡ splice out 0 m.payload
+
+-- what is noted of a message: none where there is no message
+abbrev pub noted : Message → Option Note
+noted m = pick (eqb (length m.payload) 0) None (Some (record { gid = m.gid; oid = m.oid; len = length m.payload }))
+
+-- what a function answers that writes a message where there is one, and the buffer after it: no message leaves it as it is
+pub record MayPut (out : Octets) (m : Message) (note : Option Note) (after : Octets) : Type 0 where
+  pub head : note ≡ noted m
   pub octets : after ≡ splice out 0 m.payload
 
 -- ---- CORE_RESET (003, Table 5): trigger 02, configuration status, version 2.0, no manufacturer

@@ -6,7 +6,7 @@ ghost use Rattle.state.specs.Names.{gid_core, gid_rf, oid_reset, oid_generic_err
 ghost use Rattle.state.specs.Runs.{control_limit};
 ghost use Rattle.config.specs.Table.{config_size};
 ghost use Rattle.config.specs.Commands.{count_in, param_at, set_rsp, get_rsp};
-ghost use Rattle.messages.specs.Layout.{Put, reset_ntf, init_rsp, create_rsp, generic_error_ntf, discover_ntf, activated_ntf, deactivate_ntf, credits_message, response_message, notice_message};
+ghost use Rattle.messages.specs.Layout.{Put, MayPut, reset_ntf, init_rsp, create_rsp, generic_error_ntf, discover_ntf, activated_ntf, deactivate_ntf, credits_message, response_message, notice_message};
 
 use config::{get, set};
 use state::conn::{conn_of, owing};
@@ -15,7 +15,7 @@ use state::runs::CONTROL_LIMIT;
 use state::verdict::{Status, Verdict};
 use state::{fields, names};
 
-// A message that was written: its GID and OID, and its length; length 0 is no message.
+// A message that was written: its GID and OID, and its length.
 #[derive(Clone, Copy)]
 pub struct Note {
     pub gid: u8,
@@ -30,8 +30,8 @@ fn emit(out: &mut [u8], gid: u8, oid: u8, o: &[u8]) -> Note
 {
     octets::put(out, 0, o);
     Note {
-        gid: gid,
-        oid: oid,
+        gid,
+        oid,
         len: o.len(),
     }
 }
@@ -47,8 +47,8 @@ fn emit_around(out: &mut [u8], gid: u8, oid: u8, head: &[u8], params: &[u8], tai
     octets::put(out, h, params);
     octets::put(out, h + n, tail);
     Note {
-        gid: gid,
-        oid: oid,
+        gid,
+        oid,
         len: h + n + tail.len(),
     }
 }
@@ -91,11 +91,7 @@ fn set_config_rsp(out: &mut [u8; CONTROL_LIMIT], gid: u8, oid: u8, m: &[u8]) -> 
     ensures { Put out.old (record { gid = gid; oid = oid; payload = set_rsp m.now }) result out.new }
 {
     let n = set::set_rsp(out, m);
-    Note {
-        gid: gid,
-        oid: oid,
-        len: n,
-    }
+    Note { gid, oid, len: n }
 }
 
 // CORE_GET_CONFIG_RSP (003, Table 12).
@@ -104,11 +100,7 @@ fn get_config_rsp(out: &mut [u8; CONTROL_LIMIT], gid: u8, oid: u8, b: &[u8], m: 
     ensures { Put out.old (record { gid = gid; oid = oid; payload = get_rsp b.now m.now }) result out.new }
 {
     let n = get::get_rsp(out, b, m);
-    Note {
-        gid: gid,
-        oid: oid,
-        len: n,
-    }
+    Note { gid, oid, len: n }
 }
 
 // The response to a command: its GID and OID, and what the verdict is answered with. b has the values, m is the command's payload.
@@ -135,17 +127,6 @@ pub fn response(
     }
 }
 
-// No message: the buffer stays as it is.
-pub fn no_message() -> Note
-    ensures { result ≡ record { gid = 0; oid = 0; len = 0 } }
-{
-    Note {
-        gid: 0,
-        oid: 0,
-        len: 0,
-    }
-}
-
 // CORE_RESET_NTF (003, Table 5).
 fn reset_ntf(out: &mut [u8; CONTROL_LIMIT], kind: u8) -> Note
     ensures { Put out.old (record { gid = gid_core; oid = oid_reset; payload = reset_ntf kind }) result out.new }
@@ -168,14 +149,14 @@ pub fn deactivate_ntf(out: &mut [u8; CONTROL_LIMIT], kind: u8, reason: u8) -> No
 }
 
 // The notification that follows a verdict's response, where there is one.
-#[tactic(auto, unfolding(crate::specs::Layout::notice_message), using(crate::proofs::Messages::put_nothing))]
-pub fn notice(out: &mut [u8; CONTROL_LIMIT], v: Result<Verdict, Status>) -> Note
-    ensures { Put out.old (notice_message v) result out.new }
+#[tactic(auto, using(crate::proofs::Messages::put_nothing, crate::proofs::Messages::put_some), unfolding(crate::specs::Layout::notice_message))]
+pub fn notice(out: &mut [u8; CONTROL_LIMIT], v: Result<Verdict, Status>) -> Option<Note>
+    ensures { MayPut out.old (notice_message v) result out.new }
 {
     match v {
-        Ok(Verdict::Resets(kind)) => reset_ntf(out, kind),
-        Ok(Verdict::Deactivates(kind, _)) => deactivate_ntf(out, kind, names::HOST_REQUEST),
-        Ok(_) | Err(_) => no_message(),
+        Ok(Verdict::Resets(kind)) => Some(reset_ntf(out, kind)),
+        Ok(Verdict::Deactivates(kind, _)) => Some(deactivate_ntf(out, kind, names::HOST_REQUEST)),
+        Ok(_) | Err(_) => None,
     }
 }
 

@@ -1,6 +1,6 @@
 -- down on octets: the controller takes the first down packet, stores data and answers a command when it is whole.
 -- Assumes nothing.
-use Rattle.std.specs.Prelude.{ℕ, ◌+◌, ◌≤◌, ◌<◌, ◌≡◌, true, false, List, [], ◌∷◌, length, eqb, Some, None}
+use Rattle.std.specs.Prelude.{ℕ, ◌+◌, ◌≤◌, ◌<◌, ◌≡◌, true, false, List, [], ◌∷◌, length, eqb, Some, None, Option}
 use Rattle.octets.specs.Octets.{Octets, pick, cut, splice}
 use Rattle.packets.specs.Packet.{packet_of, read_of, payload_of}
 use Rattle.packets.specs.Reserved.{rfu_by}
@@ -88,10 +88,10 @@ only_joined t slot h n a out =
 abbrev pub note_packet : ℕ → Note → Octets → Octets
 note_packet mt note m = packet_of (control_header mt note.gid note.oid) (cut 0 note.len m)
 
--- a response, and a notification where its length is not 0
-unfoldable pub note_packets : Note → Octets → Note → Octets → List Octets
-note_packets response rsp notice ntf =
-    note_packet 2 response rsp ∷ pick (eqb notice.len 0) [] (note_packet 3 notice ntf ∷ [])
+-- a response, and a notification where there is one
+unfoldable pub note_packets : Note → Octets → Option Note → Octets → List Octets
+note_packets response rsp None ntf = note_packet 2 response rsp ∷ []
+note_packets response rsp (Some notice) ntf = note_packet 2 response rsp ∷ note_packet 3 notice ntf ∷ []
 
 -- ---- a whole command is answered, t and a having its run joined
 

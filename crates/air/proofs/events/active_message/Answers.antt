@@ -14,4 +14,4 @@ pub returns : goal.returns
 returns c =
     let a = c.args in
     let params = c.window.ensures ∙ cut_rest 4 a.m.now in
-    put_same (λ i. activated_ntf a.a (c.terms_of-t.ensures i) (params i)) c.activated_ntf.ensures
+    put_same (λ i. activated_ntf a.a (c.terms_of.ensures i) (params i)) c.activated_ntf.ensures

@@ -3,7 +3,7 @@
 use native.Mathlib.Omega.{arith}
 use mathlib.Core.Path.{sym, subst, ◌∙◌}
 use Rattle.state.specs.Conn.{open_at}
-use Rattle.messages.specs.Layout.{Put, response_message, notice_message}
+use Rattle.messages.specs.Layout.{Put, MayPut, response_message, notice_message}
 use Rattle.nfcc.proofs.Verdicts.{judge_whole}
 use Rattle.ends.specs.Kinds.{Decision}
 use Rattle.ends.proofs.command.answer.Goals as goal
@@ -25,5 +25,5 @@ returns c =
       response =
           subst (λ (x : Decision). Put a.rsp.now (response_message a.gid a.oid a.e.profile a.b.now a.m.now x.verdict) c.response-response.result c.response-response.new.out) d
           c.response-response.ensures;
-      notice = subst (λ (x : Decision). Put a.ntf.now (notice_message x.verdict) c.notice-notice.result c.notice-notice.new.out) d c.notice-notice.ensures;
+      notice = subst (λ (x : Decision). MayPut a.ntf.now (notice_message x.verdict) c.notice-notice.result c.notice-notice.new.out) d c.notice-notice.ensures;
     }
