@@ -14,7 +14,6 @@ ghost use Rattle.calls.specs.Outcome.{lowest, ComesTo};
 ghost use Rattle.calls.specs.calls.Down.{took_down, down_dropped, controller_side, stored_record, stored_slot, data_down, joined_area, note_packet, note_packets, command_in, answered, command_down, arrived, downed, Arrivable, Downable};
 
 use area::{map, movers, ring};
-use config::table::CONFIG_SIZE;
 use ends::command;
 use messages::layout::Note;
 use nfcc::effects;
@@ -205,8 +204,7 @@ fn settle(area: &mut [u8], m: &[u8], v: Result<Verdict, Status>)
     requires { area_size ≤ length area.old }
     ensures { area.new ≡ configured area.old (config_by (config_octets area.old) m.now v) }
 {
-    let mut b = [0u8; CONFIG_SIZE];
-    octets::put(&mut b, 0, parameters::values_of(area));
+    let mut b = *parameters::values_of(area);
     effects::config_by(&mut b, m, v);
     parameters::put_values(area, &b);
 }

@@ -2,7 +2,7 @@
 -- Assumes nothing.
 use Prim.Native.Nat.{ℕ, zero, suc, ◌+◌, ◌-◌, ◌≤◌, ◌<◌}
 use mathlib.Core.Path.{◌≡◌, refl, sym, ◌∙◌, ap}
-use mathlib.Core.Bool.{Bool, true, false, ◌&&◌, ◌||◌, not}
+use mathlib.Core.Bool.{Bool, true, false, ◌&&◌, ◌||◌}
 use mathlib.Core.List.{[], ◌∷◌}
 use mathlib.Core.Logic.{◌⊎◌, inl, inr}
 use native.Mathlib.Omega.{arith}
@@ -13,17 +13,14 @@ use borrow.Author.Tests.{eq-eqb, ne_eqb, leb-true}
 use Rattle.octets.specs.Octets.{Octets, pick, cut}
 use Rattle.octets.proofs.Octets.{length_splice, octet_cut, cut_same, cut_before, cut_after, cut_cut}
 use Rattle.config.specs.declared.table.Row.{Row}
-use Rattle.config.specs.Table.{row, table, row_of, known_row, allowed_by, all_allowed, acceptable}
+use Rattle.std.specs.Prelude.{Some, replicate}
+use Rattle.std.proofs.lemmas.List.{length-replicate, get_or-replicate}
+use Rattle.config.specs.Table.{row, table, row_of, allowed_by, all_allowed, acceptable}
 use Rattle.config.specs.declared.table.Values.{Values}
-use Rattle.config.proofs.Rows.{every, find_all, found_id}
-use Rattle.config.specs.Stored.{is_fixed, lead, room, size_in, value_in, zeroes, form_of, with_value, clear, row_ok}
+use Rattle.config.proofs.Rows.{every, found_all, found_id}
+use Rattle.config.specs.Stored.{is_fixed, lead, room, size_in, value_in, form_of, with_value, clear, row_ok}
 
 -- ---- lengths
-
-pub length_zeroes : (n : ℕ) → length (zeroes n) ≡ n
-unfolding zeroes
-length_zeroes zero = refl
-length_zeroes (suc n) = ap suc (length_zeroes n)
 
 pub long_value : (r : Row) (v b : Octets) → length (with_value r v b) ≡ length b
 unfolding with_value
@@ -48,8 +45,8 @@ pub part_kept : (r : Row) (v b : Octets) (i n : ℕ) → length v ≤ r.most →
 unfolding with_value
 part_kept r v b i n h (inl past) =
     cut_after _ r.at (form_of r v) i n (omega (arith, form_short r v h))
-    ∙ cut_after b r.at (zeroes (room r)) i n (omega (arith, length_zeroes (room r)))
-part_kept r v b i n h (inr front) = cut_before _ r.at (form_of r v) i n front ∙ cut_before b r.at (zeroes (room r)) i n front
+    ∙ cut_after b r.at (replicate (room r) 0x00) i n (omega (arith, length-replicate {A = ℕ} (room r) 0x00))
+part_kept r v b i n h (inr front) = cut_before _ r.at (form_of r v) i n front ∙ cut_before b r.at (replicate (room r) 0x00) i n front
 
 -- an octet is a part
 as_part : (b : Octets) (i : ℕ) → get_or b i 0 ≡ get_or (cut i 1 b) 0 0
@@ -84,12 +81,6 @@ value_kept r q v b h apart =
 
 -- ---- the value itself
 
-zeroes_at : (n i : ℕ) → get_or (zeroes n) i 0 ≡ 0
-unfolding zeroes
-zeroes_at zero i = refl
-zeroes_at (suc n) zero = refl
-zeroes_at (suc n) (suc i) = zeroes_at n i
-
 -- a value of fixed length has that length
 pub record Fits (r : Row) (v b : Octets) : Type 0 where
   pub inside : r.at + room r ≤ length b
@@ -102,7 +93,7 @@ module _ (r : Row) (v b : Octets) (f : Fits r v b) where
   unfolding with_value
   form_there =
       cut_same _ r.at (form_of r v)
-      (omega (arith, form_short r v f.short, length_splice b r.at (zeroes (room r)), f.inside))
+      (omega (arith, form_short r v f.short, length_splice b r.at (replicate (room r) 0x00), f.inside))
 
   size_there : size_in (with_value r v b) r ≡ length v
   size_there = go (is_fixed r) refl form_there f.whole
@@ -152,10 +143,10 @@ module _ (r : Row) (v b : Octets) (f : Fits r v b) where
       as_part _ _
       ∙ ap (λ (l : Octets). get_or l 0 0) (cut_after _ r.at (form_of r v) (r.at + (length (form_of r v) + i)) 1 (omega arith))
       ∙ sym (as_part _ _)
-      ∙ sym (octet_cut r.at (length (zeroes (room r))) _ (length (form_of r v) + i) (omega (arith, length_zeroes (room r))))
+      ∙ sym (octet_cut r.at (length (replicate (room r) 0x00)) _ (length (form_of r v) + i) (omega (arith, length-replicate {A = ℕ} (room r) 0x00)))
       ∙ ap (λ (l : Octets). get_or l (length (form_of r v) + i) 0)
-      (cut_same b r.at (zeroes (room r)) (omega (arith, length_zeroes (room r), f.inside)))
-      ∙ zeroes_at (room r) (length (form_of r v) + i)
+      (cut_same b r.at (replicate (room r) 0x00) (omega (arith, length-replicate {A = ℕ} (room r) 0x00, f.inside)))
+      ∙ get_or-replicate {A = ℕ} (room r) (length (form_of r v) + i) 0x00 0 h
 
   clear_there : (n : ℕ) → length (form_of r v) + n ≤ room r → clear (with_value r v b) (r.at + length (form_of r v)) n ≡ true
   unfolding clear
@@ -197,17 +188,13 @@ or_true : (a b : Bool) → b ≡ true → (a || b) ≡ true
 or_true true b e = refl
 or_true false b e = e
 
--- two rows that are known have different octets, or the same ID
+-- two rows have different octets, or the same ID
 abbrev apart_test : Row → Row → Bool
-apart_test r q =
-    not (known_row q) || (not (known_row r) || (eqb r.id q.id || (leb (r.at + room r) q.at || leb (q.at + room q) r.at)))
+apart_test r q = eqb r.id q.id || (leb (r.at + room r) q.at || leb (q.at + room q) r.at)
 
-apart_tested : (i j : ℕ) → apart_test (row_of i) (row_of j) ≡ true
-unfolding row_of table
-apart_tested i j =
-    find_all (λ q. apart_test (row_of i) q) refl table
-    (find_all (λ r. every (λ q. apart_test r q) table) refl table refl i)
-    j
+apart_tested : (i j : ℕ) (r q : Row) → row_of i ≡ Some r → row_of j ≡ Some q → apart_test r q ≡ true
+unfolding table
+apart_tested i j r q e f = found_all (λ x. apart_test r x) (found_all (λ x. every (λ y. apart_test x y) table) refl i r e) j q f
 
 from_test : (r q : Row) → (leb (r.at + room r) q.at || leb (q.at + room q) r.at) ≡ true → Apart r q
 from_test r q e = go (leb (r.at + room r) q.at) refl e
@@ -216,10 +203,9 @@ from_test r q e = go (leb (r.at + room r) q.at) refl e
     go true x e = inl (leb-true _ _ x)
     go false x e = inr (leb-true _ _ e)
 
-pub apart : (i j : ℕ) → known_row (row_of i) ≡ true → known_row (row_of j) ≡ true → (i ≡ j → ⊥) → Apart (row_of i) (row_of j)
-apart i j ki kj ne =
-    from_test (row_of i) (row_of j)
-    (rw (ki, kj, ne_eqb (row_of i).id (row_of j).id (λ e. ne (sym (found_id i ki) ∙ e ∙ found_id j kj))) at (apart_tested i j))
+pub apart : (i j : ℕ) (r q : Row) → row_of i ≡ Some r → row_of j ≡ Some q → (i ≡ j → ⊥) → Apart r q
+apart i j r q e f ne =
+    from_test r q (rw (ne_eqb r.id q.id (λ x. ne (sym (found_id i r e) ∙ x ∙ found_id j q f))) at (apart_tested i j r q e f))
 
 -- ---- row 1 of a parameter of one octet
 

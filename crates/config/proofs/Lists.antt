@@ -1,11 +1,15 @@
 -- Laws of the two lists: what is accepted, and where parameters stand.
 -- Assumes nothing.
 use Prim.Native.Nat.{ℕ, zero, suc, ◌+◌, ◌*◌, ◌≤◌, ◌<◌}
-use mathlib.Core.Path.{◌≡◌, refl, ◌∙◌, ap}
-use mathlib.Core.Bool.{Bool, true, false, ◌&&◌}
+use mathlib.Core.Path.{◌≡◌, refl, sym, ◌∙◌, ap}
+use mathlib.Core.Bool.{Bool, true, false, ◌&&◌, ◌||◌}
 use mathlib.Core.List.{[], ◌∷◌, ◌++◌}
 use native.Mathlib.Omega.{arith}
-use lib.ListN.{length, length-append, length-take, length-drop, set, get_or}
+use native.Mathlib.Numerals.{add-one}
+use lib.ListN.{length, length-append, length-take, length-drop, set, get_or, take}
+use lib.Seq.{take_all}
+use Rattle.std.specs.List.{list_all}
+use Rattle.std.proofs.lemmas.List.Folds.{list_all_more}
 use lib.Dec.{eqb, leb}
 use Rattle.octets.specs.Octal.{Octal, octal_nil, octal_cons}
 use Rattle.octets.proofs.Octal.{octal_at, octal_append, octal_cut}
@@ -14,39 +18,54 @@ use Rattle.octets.specs.Octets.{Octets, pick, cut, over, splice}
 use Rattle.octets.proofs.Octets.{length_splice, splice_next}
 use Rattle.state.proofs.Chains.{and_left, and_right}
 use Rattle.config.specs.declared.table.Row.{Row}
-use Rattle.config.specs.Table.{config_size, row_of, known_row, acceptable, default_of}
-use Rattle.config.specs.Stored.{lead, size_in, value_in, with_value}
-use Rattle.config.specs.Commands.{param_at, id_in, param_in, settled, accepted, set_one, set_first, invalid_in, count_in, asked_in, shown_in, unavailable_in, unavailable_count, set_rsp, within, get_rsp}
+use Rattle.config.specs.Table.{config_size, row_of, known_row, allowed_by, all_allowed, acceptable, default_of}
+use Rattle.config.specs.declared.table.Values.{Values}
+use Rattle.std.specs.Prelude.{Option, Some, None}
+use Rattle.config.specs.Stored.{lead, size_in, value_in, value_of, with_value}
+use Rattle.config.specs.Commands.{param_at, id_in, param_in, settled, accepted, set_found, set_one, set_first, invalid_in, count_in, asked_in, shown_in, unavailable_in, unavailable_count, set_rsp, within, get_rsp}
 use Rattle.state.specs.Names.{invalid_param, size_exceeded}
 use Rattle.config.proofs.Rows.{found_default}
 
 -- ---- what is accepted
 
-pub accepted_empty : (id : ℕ) (v : Octets) → length v ≡ 0 → accepted id v ≡ known_row (row_of id)
-accepted_empty id v e = rw (eq-eqb (length v) 0 e) (found_default id)
+pub accepted_default : (id : ℕ) (r : Row) (v : Octets) → row_of id ≡ Some r → length v ≡ 0 → acceptable r (settled r v) ≡ true
+accepted_default id r v k e = rw (eq-eqb (length v) 0 e) (found_default id r k)
 
-pub accepted_full : (id : ℕ) (v : Octets) → (length v ≡ 0 → ⊥) → accepted id v ≡ acceptable (row_of id) v
-accepted_full id v e = rw (ne_eqb (length v) 0 e)
+pub accepted_law : (id : ℕ) (r : Row) (v : Octets) → row_of id ≡ Some r → (eqb (length v) 0 || acceptable r v) ≡ accepted id v
+accepted_law id r v k = rw k (go (eqb (length v) 0) refl)
+  where
+    go : (t : Bool) → eqb (length v) 0 ≡ t → (t || acceptable r v) ≡ acceptable r (pick t (default_of r) v)
+    go true e = sym (found_default id r k)
+    go false e = refl
 
 pub acceptable_short : (r : Row) (v : Octets) → acceptable r v ≡ true → length v ≤ r.most
 unfolding acceptable
 acceptable_short r v e = leb-true _ _ (and_right (leb r.least (length v)) _ (and_left (leb r.least (length v) && leb (length v) r.most) _ e))
 
+-- ---- octets that a value may have
+
+allowed_front : (vs : Values) (v : Octets) (n : ℕ) → n ≤ length v → all_allowed vs v n ≡ list_all (allowed_by vs) (take n v)
+unfolding all_allowed
+allowed_front vs v zero h = refl
+allowed_front vs v (suc n) h =
+    ap (λ (b : Bool). b && allowed_by vs (get_or v n 0)) (allowed_front vs v n (omega arith))
+    ∙ sym (list_all_more (allowed_by vs) v n 0 (omega arith))
+    ∙ (λ i. list_all (allowed_by vs) (take (add-one n i) v))
+
+pub allowed_all : (vs : Values) (v : Octets) → all_allowed vs v (length v) ≡ list_all (allowed_by vs) v
+allowed_all vs v = allowed_front vs v (length v) (omega arith) ∙ ap (list_all (allowed_by vs)) (take_all (length v) v (omega arith))
+
 -- ---- what is set
 
-pub set_default : (id : ℕ) (v b : Octets) → length v ≡ 0 → known_row (row_of id) ≡ true
-    → set_one id v b ≡ with_value (row_of id) (default_of (row_of id)) b
-set_default id v b e k = rw (accepted_empty id v e, k, eq-eqb (length v) 0 e)
+pub set_default : (id : ℕ) (r : Row) (v b : Octets) → row_of id ≡ Some r → length v ≡ 0 → set_one id v b ≡ with_value r (default_of r) b
+set_default id r v b k e = rw (k, accepted_default id r v k e, eq-eqb (length v) 0 e)
 
-pub set_unknown : (id : ℕ) (v b : Octets) → length v ≡ 0 → known_row (row_of id) ≡ false → set_one id v b ≡ b
-set_unknown id v b e k = rw (accepted_empty id v e, k)
+pub set_value : (id : ℕ) (r : Row) (v b : Octets) → row_of id ≡ Some r → (length v ≡ 0 → ⊥) → acceptable r v ≡ true
+    → set_one id v b ≡ with_value r v b
+set_value id r v b k e ok = rw (k, ne_eqb (length v) 0 e, ok)
 
-pub set_value : (id : ℕ) (v b : Octets) → (length v ≡ 0 → ⊥) → acceptable (row_of id) v ≡ true
-    → set_one id v b ≡ with_value (row_of id) v b
-set_value id v b e k = rw (ne_eqb (length v) 0 e, k)
-
-pub set_invalid : (id : ℕ) (v b : Octets) → (length v ≡ 0 → ⊥) → acceptable (row_of id) v ≡ false → set_one id v b ≡ b
-set_invalid id v b e k = rw (ne_eqb (length v) 0 e, k)
+pub set_invalid : (id : ℕ) (r : Row) (v b : Octets) → row_of id ≡ Some r → (length v ≡ 0 → ⊥) → acceptable r v ≡ false → set_one id v b ≡ b
+set_invalid id r v b k e bad = rw (k, ne_eqb (length v) 0 e, bad)
 
 -- ---- where parameters stand
 
@@ -68,11 +87,21 @@ invalid_few m (suc n) = go (accepted (id_in m n) (param_in m n)) (invalid_few m 
 
 -- ---- a parameter that is read
 
-pub id_read : (m : Octets) (at i id : ℕ) → at ≡ param_at m i → id ≡ get_or m at 0 → id ≡ id_in m i
-id_read m at i id place e = e ∙ ap (λ (k : ℕ). get_or m k 0) place
+-- what `set::param_at` reads where parameter i stands
+pub record Read (m : Octets) (i id next : ℕ) (v : Octets) : Type 0 where
+  pub id_is : id ≡ id_in m i
+  pub value_is : v ≡ param_in m i
+  pub next_is : next ≡ param_at m (suc i)
 
-pub param_read : (m : Octets) (at i n : ℕ) (v : Octets) → at ≡ param_at m i → n ≡ get_or m (at + 1) 0 → v ≡ cut (at + 2) n m → v ≡ param_in m i
-param_read m at i n v place e w = w ∙ (λ k. cut (place k + 2) ((e ∙ ap (λ (x : ℕ). get_or m (x + 1) 0) place) k) m)
+pub param_read : (m : Octets) (at i id next : ℕ) (v : Octets) → at ≡ param_at m i → id ≡ get_or m at 0
+    → v ≡ cut (at + 2) (get_or m (at + 1) 0) m → next ≡ at + 2 + get_or m (at + 1) 0 → Read m i id next v
+unfolding param_at
+param_read m at i id next v place e w n =
+    record {
+      id_is = e ∙ ap (λ (k : ℕ). get_or m k 0) place;
+      value_is = w ∙ ap (λ (k : ℕ). cut (k + 2) (get_or m (k + 1) 0) m) place;
+      next_is = n ∙ ap (λ (k : ℕ). k + 2 + get_or m (k + 1) 0) place;
+    }
 
 -- ---- lengths
 
@@ -80,15 +109,18 @@ long_value : (r : Row) (v b : Octets) → length (with_value r v b) ≡ length b
 unfolding with_value
 long_value r v b = length_splice _ _ _ ∙ length_splice _ _ _
 
+one_long : (o : Option Row) (v b : Octets) → length (set_found o v b) ≡ length b
+one_long None v b = refl
+one_long (Some r) v b = go (acceptable r (settled r v))
+  where
+    go : (ok : Bool) → length (pick ok (with_value r (settled r v) b) b) ≡ length b
+    go true = long_value _ _ _
+    go false = refl
+
 pub set_long : (b m : Octets) (n : ℕ) → length (set_first b m n) ≡ length b
 unfolding set_first
 set_long b m zero = refl
-set_long b m (suc n) = go (accepted (id_in m n) (param_in m n)) (set_long b m n)
-  where
-    go : (ok : Bool) → length (set_first b m n) ≡ length b
-        → length (pick ok (with_value (row_of (id_in m n)) (settled (row_of (id_in m n)) (param_in m n)) (set_first b m n)) (set_first b m n)) ≡ length b
-    go true h = long_value _ _ _ ∙ h
-    go false h = h
+set_long b m (suc n) = one_long (row_of (id_in m n)) (param_in m n) (set_first b m n) ∙ set_long b m n
 
 -- ---- a response that is written part by part, from index 2 on, its first two octets last
 
@@ -107,9 +139,10 @@ ahead_two (a ∷ c ∷ l) x y vs = refl
 
 -- ---- what a get shows
 
-pub value_short : (b : Octets) (r : Row) → length (value_in b r) ≤ length b
+pub value_short : (b : Octets) (o : Option Row) → length (value_of b o) ≤ length b
 unfolding value_in cut
-value_short b r = simp (length-take, length-drop) (omega arith)
+value_short b None = omega arith
+value_short b (Some r) = simp (length-take, length-drop) (omega arith)
 
 pub shown_grows : (b m : Octets) (i n : ℕ) → i ≤ n → length (shown_in b m i) ≤ length (shown_in b m n)
 unfolding shown_in
@@ -205,13 +238,18 @@ set_octal {m} o h =
     status true = omega arith
     status false = omega arith
 
+value_octal : {b : Octets} → Octal b → (o : Option Row) → Octal (value_of b o)
+unfolding value_in
+value_octal ob None = octal_nil
+value_octal {b} ob (Some r) = octal_cut 0 (size_in b r) (octal_cut (r.at + lead r) r.most ob)
+
 pub shown_octal : {b m : Octets} → length b ≡ config_size → Octal b → Octal m → (n : ℕ) → Octal (shown_in b m n)
-unfolding shown_in value_in
+unfolding shown_in
 shown_octal l ob om zero = octal_nil
 shown_octal {b} {m} l ob om (suc n) =
     let r = row_of (asked_in m n) in
     octal_append (shown_octal l ob om n)
-    (octal_cons (octal_at om (1 + n)) (low (length (value_in b r)) (omega (arith, value_short b r)) (octal_cut 0 (size_in b r) (octal_cut (r.at + lead r) r.most ob))))
+    (octal_cons (octal_at om (1 + n)) (low (length (value_of b r)) (omega (arith, value_short b r)) (value_octal ob r)))
 
 pub unavailable_octal : {m : Octets} → Octal m → (n : ℕ) → Octal (unavailable_in m n)
 unfolding unavailable_in

@@ -13,10 +13,11 @@ use Rattle.octets.specs.Octal.{Octal, octal_nil, octal_cons}
 use Rattle.octets.proofs.Octal.{octal_cut, octal_splice}
 use Rattle.state.proofs.Chains.{and_left, and_right, on}
 use Rattle.config.specs.declared.table.Row.{Row}
-use Rattle.config.specs.Table.{table, row_of, default_of}
-use Rattle.config.specs.Stored.{is_fixed, room, zeroes, with_value, defaults}
-use Rattle.config.specs.Commands.{param_at, id_in, length_in, settled, accepted, set_one, set_first}
-use Rattle.config.proofs.Rows.{find_all, found_short}
+use Rattle.std.specs.Prelude.{Option, Some, None, replicate}
+use Rattle.config.specs.Table.{table, row_of, acceptable, default_of}
+use Rattle.config.specs.Stored.{is_fixed, room, with_value, defaults}
+use Rattle.config.specs.Commands.{param_at, id_in, length_in, settled, set_found, set_first}
+use Rattle.config.proofs.Rows.{found_all, found_short}
 use Rattle.config.proofs.Lists.{acceptable_short}
 
 -- ---- by default
@@ -34,14 +35,13 @@ pub defaults_octal : Octal defaults
 unfolding all_octets
 defaults_octal = all_octal defaults refl
 
-default_octal : (id : ℕ) → Octal (default_of (row_of id))
-unfolding all_octets row_of table
-default_octal id = all_octal (default_of (row_of id)) (find_all (λ r. all_octets (default_of r)) refl table refl id)
+default_octal : (id : ℕ) (r : Row) → row_of id ≡ Some r → Octal (default_of r)
+unfolding all_octets table
+default_octal id r e = all_octal (default_of r) (found_all (λ q. all_octets (default_of q)) refl id r e)
 
 -- ---- a value written
 
-zeroes_octal : (n : ℕ) → Octal (zeroes n)
-unfolding zeroes
+zeroes_octal : (n : ℕ) → Octal (replicate n 0x00)
 zeroes_octal zero = octal_nil
 zeroes_octal (suc n) = octal_cons {x = 0} (omega arith) (zeroes_octal n)
 
@@ -52,16 +52,16 @@ value_octal r short ov ob =
 
 -- ---- a set
 
-one_octal : (id : ℕ) {v b : Octets} → Octal v → Octal b → Octal (set_one id v b)
-one_octal id {v} {b} ov ob =
-    let u : Octets = settled (row_of id) v in
-    on Octal (accepted id v)
-    (λ e.
-    value_octal (row_of id) (omega (arith, acceptable_short (row_of id) u e, found_short id))
-    (on Octal (eqb (length v) 0) (λ _. default_octal id) (λ _. ov)) ob)
+one_octal : (id : ℕ) (o : Option Row) → row_of id ≡ o → {v b : Octets} → Octal v → Octal b → Octal (set_found o v b)
+one_octal id None e ov ob = ob
+one_octal id (Some r) e {v} {b} ov ob =
+    on Octal (acceptable r (settled r v))
+    (λ ok.
+    value_octal r (omega (arith, acceptable_short r (settled r v) ok, found_short id r e))
+    (on Octal (eqb (length v) 0) (λ _. default_octal id r e) (λ _. ov)) ob)
     (λ _. ob)
 
 pub set_first_octal : {b m : Octets} → Octal b → Octal m → (n : ℕ) → Octal (set_first b m n)
 unfolding set_first
 set_first_octal ob om zero = ob
-set_first_octal {b} {m} ob om (suc n) = one_octal (id_in m n) (octal_cut (param_at m n + 2) (length_in m n) om) (set_first_octal ob om n)
+set_first_octal {b} {m} ob om (suc n) = one_octal (id_in m n) (row_of (id_in m n)) refl (octal_cut (param_at m n + 2) (length_in m n) om) (set_first_octal ob om n)

@@ -2,7 +2,7 @@
 -- Assumes nothing.
 use Prim.Native.Nat.{ℕ, zero, suc, ◌+◌, ◌*◌, ◌≤◌, ◌<◌}
 use mathlib.Core.Path.{◌≡◌, refl, sym, ◌∙◌, ap}
-use mathlib.Core.Bool.{Bool, true, false, ◌&&◌, not}
+use mathlib.Core.Bool.{Bool, true, false, ◌&&◌, not, false≢true}
 use mathlib.Core.List.{[], ◌∷◌, ◌++◌, append_assoc, append-nil}
 use native.Mathlib.Omega.{arith}
 use native.Mathlib.Numerals.{add-one}
@@ -15,8 +15,9 @@ use Rattle.octets.specs.Octets.{Octets, pick, cut}
 use Rattle.octets.proofs.Octets.{length_cut}
 use Rattle.state.proofs.Chains.{and_left, and_right}
 use Rattle.config.specs.declared.table.Row.{Row}
-use Rattle.config.specs.Table.{config_size, row_of, known_row, all_allowed, acceptable}
-use Rattle.config.specs.Stored.{lead, room, size_in, value_in, row_ok}
+use Rattle.config.specs.Table.{config_size, row_of, known_row, all_allowed, acceptable, acceptable_by}
+use Rattle.std.specs.Prelude.{Option, Some, None}
+use Rattle.config.specs.Stored.{lead, room, size_in, value_in, value_of, row_ok}
 use Rattle.config.specs.Commands.{count_in, param_at, id_in, param_in, invalid_in, set_rsp, asked_in, shown_one, shown_in, unavailable_in, unavailable_count}
 use Rattle.state.specs.Names.{invalid_param}
 use Rattle.config.specs.Written.{set_written, values_written, unavailable_written, get_written, list_written}
@@ -103,7 +104,7 @@ module _ (b m : Octets) (x n : ℕ) where
   -- what parameter i of the list is
   record Entry (i : ℕ) : Type 0 where
     id : id_in shown_list i ≡ asked_in m i
-    value : param_in shown_list i ≡ value_in b (row_of (asked_in m i))
+    value : param_in shown_list i ≡ value_of b (row_of (asked_in m i))
     next : param_at shown_list (suc i) ≡ suc (length (shown_in b m (suc i)))
 
   entry : (i : ℕ) → i < n → param_at shown_list i ≡ suc (length (shown_in b m i)) → Entry i
@@ -111,7 +112,7 @@ module _ (b m : Octets) (x n : ℕ) where
   entry i h place =
       let s = shown_split b m i n h in
       let a = asked_in m i in
-      let v = value_in b (row_of a) in
+      let v = value_of b (row_of a) in
       let p = x ∷ shown_in b m i in
       let l : shown_list ≡ list p a v s.others = ap (λ (k : Octets). x ∷ k) s.split in
       let len : get_or shown_list (param_at shown_list i + 1) 0 ≡ length v = (λ j. get_or (l j) (place j + 1) 0) ∙ entry_length p a v s.others in
@@ -127,6 +128,15 @@ module _ (b m : Octets) (x n : ℕ) where
   places zero h = refl
   places (suc i) h = (entry i (omega arith) (places i (omega arith))).next
 
+  -- a parameter that is known has an acceptable value
+  known_acceptable : length b ≡ config_size → EachOk b → (id : ℕ) → known_row (row_of id) ≡ true
+      → acceptable_by (row_of id) (value_of b (row_of id)) ≡ true
+  known_acceptable l ok id known = go (row_of id) refl known
+    where
+      go : (o : Option Row) → row_of id ≡ o → known_row o ≡ true → acceptable_by o (value_of b o) ≡ true
+      go None e k = absurd (false≢true k)
+      go (Some r) e k = row_acceptable b r (omega (arith, found_fits id r e)) (ok id r e)
+
   shown_values : length b ≡ config_size → EachOk b → ((i : ℕ) → i < n → known_row (row_of (asked_in m i)) ≡ true)
       → (i : ℕ) → i ≤ n → values_written shown_list i ≡ true
   unfolding values_written
@@ -135,8 +145,7 @@ module _ (b m : Octets) (x n : ℕ) where
       let e = entry i (omega arith) (places i (omega arith)) in
       let a = asked_in m i in
       rw (shown_values l ok known i (omega arith))
-      ((λ j. acceptable (row_of (e.id j)) (e.value j))
-      ∙ row_acceptable b (row_of a) (omega (arith, found_fits a)) (ok a (known i (omega arith))))
+      ((λ j. acceptable_by (row_of (e.id j)) (e.value j)) ∙ known_acceptable l ok a (known i (omega arith)))
 
 -- an OK response
 pub get_is_written : (b m : Octets) → length b ≡ config_size → EachOk b → unavailable_count m (count_in m) ≡ 0

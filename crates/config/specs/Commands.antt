@@ -1,12 +1,12 @@
 -- CORE_SET_CONFIG and CORE_GET_CONFIG (003, 4.3): their lists, what a set leaves, and both responses. All of it is said for every payload; a list that is cut
 -- short is told by its end alone, and is refused before the rest is asked (`shortest` of the controller).
 -- Assumes nothing.
-use Rattle.std.specs.Prelude.{ℕ, zero, suc, ◌+◌, Bool, false, ◌||◌, [], ◌∷◌, ◌++◌, length, get_or, eqb, leb}
+use Rattle.std.specs.Prelude.{ℕ, zero, suc, ◌+◌, Bool, false, ◌||◌, [], ◌∷◌, ◌++◌, length, get_or, eqb, leb, Option, Some, None}
 use Rattle.octets.specs.Octets.{Octets, pick, cut}
 use Rattle.state.specs.Names.{status_ok, invalid_param, size_exceeded}
 use Rattle.config.specs.declared.table.Row.{Row}
 use Rattle.config.specs.Table.{row_of, known_row, acceptable, default_of}
-use Rattle.config.specs.Stored.{value_in, with_value}
+use Rattle.config.specs.Stored.{value_of, with_value}
 
 -- ---- CORE_SET_CONFIG_CMD (003, Table 11): the count, then ID, length and value for each
 
@@ -33,13 +33,21 @@ abbrev pub settled : Row → Octets → Octets
 settled r v = pick (eqb (length v) 0) (default_of r) v
 
 -- known, and with an acceptable value. Every default is one
+abbrev pub accepted_by : Option Row → Octets → Bool
+accepted_by None v = false
+accepted_by (Some r) v = acceptable r (settled r v)
+
 abbrev pub accepted : ℕ → Octets → Bool
-accepted id v = acceptable (row_of id) (settled (row_of id) v)
+accepted id v = accepted_by (row_of id) v
 
 -- ---- what it sets
 
+abbrev pub set_found : Option Row → Octets → Octets → Octets
+set_found None v b = b
+set_found (Some r) v b = pick (acceptable r (settled r v)) (with_value r (settled r v) b) b
+
 abbrev pub set_one : ℕ → Octets → Octets → Octets
-set_one id v b = pick (accepted id v) (with_value (row_of id) (settled (row_of id) v) b) b
+set_one id v b = set_found (row_of id) v b
 
 -- after the first n parameters: in the order given; what is invalid changes nothing
 unfoldable pub set_first : Octets → Octets → ℕ → Octets
@@ -74,7 +82,7 @@ asked_in m n = get_or m (1 + n) 0
 -- ---- CORE_GET_CONFIG_RSP: status, count, then ID, length and value for each, in the order asked; or those not known, each with length 0
 
 abbrev pub shown_one : Octets → ℕ → Octets
-shown_one b id = id ∷ length (value_in b (row_of id)) ∷ value_in b (row_of id)
+shown_one b id = id ∷ length (value_of b (row_of id)) ∷ value_of b (row_of id)
 
 unfoldable pub shown_in : Octets → Octets → ℕ → Octets
 shown_in b m zero = []

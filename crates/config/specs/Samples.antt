@@ -1,10 +1,10 @@
 -- Lists and what becomes of them, computed: each line is what a table and functions in another language, made from 003 alone, gave for the same payload.
 -- Assumes nothing.
-use Rattle.std.specs.Prelude.{ℕ, zero, suc, ◌+◌, ◌≡◌, Bool, true, false, [], ◌∷◌, ◌++◌, length, leb}
+use Rattle.std.specs.Prelude.{ℕ, zero, suc, ◌+◌, ◌≡◌, Bool, true, false, [], ◌∷◌, ◌++◌, length, leb, replicate}
 use Rattle.octets.specs.Octets.{Octets}
 use Rattle.octets.specs.Hex.{hex}
 use Rattle.config.specs.Table.{table}
-use Rattle.config.specs.Stored.{defaults, restored, zeroes, parameters_ok}
+use Rattle.config.specs.Stored.{defaults, restored, parameters_ok}
 use Rattle.config.specs.Commands.{param_at, count_in, config_after, set_rsp, get_rsp}
 
 -- a list that is not cut short, by the octets that a command must have
@@ -20,7 +20,7 @@ repeated zero v = []
 repeated (suc n) v = v ++ repeated n v
 
 pub record Samples : Type 0 where
-  pub all_restored_law : restored table (zeroes 30) ≡ defaults
+  pub all_restored_law : restored table (replicate 30 0x00) ≡ defaults
   pub set_two : config_after defaults (hex 7 0x02080101180102) ≡ hex 30 0x010800000008020008000000000000000000000000000000000000300801
   pub set_two_rsp : set_rsp (hex 7 0x02080101180102) ≡ 0x00 ∷ 0x00 ∷ []
   pub set_invalid : config_after defaults (hex 9 0x03080102180102FF00) ≡ hex 30 0x000800000008020008000000000000000000000000000000000000300801

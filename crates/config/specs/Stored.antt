@@ -1,6 +1,6 @@
 -- The values as octets of the record: one for each parameter of fixed length, and its length before one whose length varies, 0 past its end.
 -- Assumes nothing.
-use Rattle.std.specs.Prelude.{ℕ, zero, suc, ◌+◌, ◌-◌, Bool, true, ◌&&◌, List, [], ◌∷◌, length, get_or, eqb, leb}
+use Rattle.std.specs.Prelude.{ℕ, zero, suc, ◌+◌, ◌-◌, Bool, true, ◌&&◌, List, [], ◌∷◌, length, get_or, replicate, eqb, leb, Option, Some, None}
 use Rattle.octets.specs.Octets.{Octets, pick, cut, splice}
 use Rattle.config.specs.declared.table.Row.{Row}
 use Rattle.config.specs.Table.{row_at, row_count, default_of, all_allowed}
@@ -25,18 +25,19 @@ size_in b r = pick (is_fixed r) r.most (get_or b r.at 0)
 unfoldable pub value_in : Octets → Row → Octets
 value_in b r = cut 0 (size_in b r) (cut (r.at + lead r) r.most b)
 
--- ---- written
+-- the value by a row that may be there: a parameter that is not known has none
+abbrev pub value_of : Octets → Option Row → Octets
+value_of b None = []
+value_of b (Some r) = value_in b r
 
-unfoldable pub zeroes : ℕ → Octets
-zeroes zero = []
-zeroes (suc n) = 0 ∷ zeroes n
+-- ---- written
 
 abbrev pub form_of : Row → Octets → Octets
 form_of r v = pick (is_fixed r) v (length v ∷ v)
 
 -- the parameter's octets are cleared, then the value is written
 unfoldable pub with_value : Row → Octets → Octets → Octets
-with_value r v b = splice (splice b r.at (zeroes (room r))) r.at (form_of r v)
+with_value r v b = splice (splice b r.at (replicate (room r) 0x00)) r.at (form_of r v)
 
 -- ---- by default
 

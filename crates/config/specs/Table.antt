@@ -1,6 +1,6 @@
 -- The configuration parameters (003, Tables 24 to 32; IDs by Table 138): the one table, and which values a parameter may have.
 -- Assumes nothing.
-use Rattle.std.specs.Prelude.{ℕ, zero, suc, Bool, true, ◌&&◌, ◌||◌, List, [], ◌∷◌, length, get_or, eqb, leb}
+use Rattle.std.specs.Prelude.{ℕ, zero, suc, Bool, true, false, ◌&&◌, ◌||◌, List, [], ◌∷◌, length, get_or, eqb, leb, Option, Some, None, find, is_some}
 use Rattle.octets.specs.Octets.{Octets, pick}
 use Rattle.config.specs.declared.table.Row.{Row}
 use Rattle.config.specs.declared.table.Values.{Values}
@@ -40,23 +40,19 @@ row_count = 15
 abbrev pub config_size : ℕ
 config_size = 30
 
--- no length is from 1 to 0: no value is acceptable
+-- what is read past the table's end. No length is from 1 to 0: no value is acceptable
 abbrev pub no_row : Row
 no_row = row 0 0 1 0 0 (Range 0 0)
 
 unfoldable pub row_at : ℕ → Row
 row_at i = get_or table i no_row
 
-unfoldable pub find_in : List Row → ℕ → Row
-find_in [] id = no_row
-find_in (r ∷ rs) id = pick (eqb r.id id) r (find_in rs id)
+-- the row of an ID, none for one that the controller does not know
+unfoldable pub row_of : ℕ → Option Row
+row_of id = find (λ (r : Row). eqb r.id id) table
 
--- the row of an ID, `no_row` for one that the controller does not know
-unfoldable pub row_of : ℕ → Row
-row_of id = find_in table id
-
-abbrev pub known_row : Row → Bool
-known_row r = leb r.least r.most
+abbrev pub known_row : Option Row → Bool
+known_row r = is_some r
 
 -- ---- values
 
@@ -72,6 +68,11 @@ all_allowed vs v (suc n) = all_allowed vs v n && allowed_by vs (get_or v n 0)
 
 unfoldable pub acceptable : Row → Octets → Bool
 acceptable r v = leb r.least (length v) && leb (length v) r.most && all_allowed r.values v (length v)
+
+-- by a row that may be there: a parameter that is not known has no acceptable value
+abbrev pub acceptable_by : Option Row → Octets → Bool
+acceptable_by None v = false
+acceptable_by (Some r) v = acceptable r v
 
 -- a parameter of least length 0 has no octet by default
 abbrev pub default_of : Row → Octets

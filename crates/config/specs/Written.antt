@@ -4,7 +4,7 @@
 use Rattle.std.specs.Prelude.{ℕ, zero, suc, ◌+◌, ◌*◌, Bool, true, ◌&&◌, not, length, get_or, eqb, leb}
 use Rattle.octets.specs.Octets.{Octets, pick, cut}
 use Rattle.state.specs.Names.{status_ok, invalid_param}
-use Rattle.config.specs.Table.{row_of, known_row, acceptable}
+use Rattle.config.specs.Table.{row_of, known_row, acceptable_by}
 use Rattle.config.specs.Commands.{count_in, param_at, id_in, param_in}
 
 -- ---- CORE_SET_CONFIG_RSP
@@ -19,7 +19,7 @@ set_written m =
 -- the first n parameters of a list have acceptable values
 unfoldable pub values_written : Octets → ℕ → Bool
 values_written m zero = true
-values_written m (suc n) = values_written m n && acceptable (row_of (id_in m n)) (param_in m n)
+values_written m (suc n) = values_written m n && acceptable_by (row_of (id_in m n)) (param_in m n)
 
 -- the list ends with the payload
 abbrev pub list_written : Octets → Bool

@@ -1,5 +1,5 @@
 // The values as octets of the record: one for each parameter of fixed length, and its length before one whose length varies, 0 past its end.
-ghost use Rattle.std.specs.Prelude.{◌≡◌, ◌+◌, ◌-◌, ◌≤◌, length, get_or};
+ghost use Rattle.std.specs.Prelude.{◌≡◌, ◌+◌, ◌-◌, ◌<◌, ◌≤◌, length, get_or};
 ghost use Rattle.octets.specs.Octets.{splice};
 ghost use Rattle.config.specs.Table.{config_size, allowed_by};
 ghost use Rattle.config.specs.Stored.{lead, room, size_in, value_in, form_of, with_value, defaults, clear, row_ok, rows_ok, parameters_ok};
@@ -32,8 +32,7 @@ pub fn value_in<'a>(b: &'a [u8], r: Row) -> &'a [u8]
     ensures { result.now ≡ value_in b.now r }
 {
     let n = size_in(b, r);
-    let before = lead(r);
-    octets::window(octets::window(b, r.at + before, r.most), 0, n)
+    octets::window(octets::window(b, r.at + lead(r), r.most), 0, n)
 }
 
 // A value is written, its length before it if that varies.
@@ -41,14 +40,12 @@ fn put_form(b: &mut [u8], r: Row, v: &[u8])
     requires { (r.at + room r ≤ length b.old) × (length v.now ≤ r.most) × (r.most ≤ 15) }
     ensures { b.new ≡ splice b.old r.at (form_of r v.now) }
 {
-    let at = r.at;
     if r.least == r.most {
-        octets::put(b, at, v);
+        octets::put(b, r.at, v);
         return;
     }
-    let head = [v.len() as u8];
-    octets::put(b, at, &head);
-    octets::put(b, at + 1, v);
+    octets::put(b, r.at, &[v.len() as u8]);
+    octets::put(b, r.at + 1, v);
 }
 
 // A parameter's octets are cleared, then its value is written.
@@ -80,20 +77,17 @@ fn clear_past(b: &[u8], i: usize, n: usize, room: usize) -> bool
     ensures { result ≡ clear b.now (i + n) (room - n) }
 {
     let mut all = true;
-    let mut k: usize = 0;
-    while k < room {
+    for k in 0..room {
         all = all & ((k < n) | (b[i + k] == 0x00));
-        k += 1;
     }
     all
 }
 
 // Row 1 of a parameter: an acceptable value, and 00 past its end.
-fn row_ok(b: &[u8], r: Row) -> bool
-    requires { (length b.now ≡ config_size) × (r.at + room r ≤ config_size) }
+fn row_ok(b: &[u8; CONFIG_SIZE], r: Row) -> bool
+    requires { r.at + room r ≤ config_size }
     ensures { result ≡ row_ok b.now r }
 {
-    let values = r.values;
     let n = size_in(b, r);
     if n < r.least {
         return false;
@@ -102,21 +96,19 @@ fn row_ok(b: &[u8], r: Row) -> bool
         return false;
     }
     let v = value_in(b, r);
-    let from = r.at + lead(r);
-    table::all_allowed(values, v) & clear_past(b, from, n, r.most)
+    table::all_allowed(r.values, v) & clear_past(b, r.at + lead(r), n, r.most)
 }
 
 // Row 1 of a parameter of one octet.
-fn octet_ok(b: &[u8], at: usize, values: Values) -> bool
-    requires { at + 1 ≤ length b.now }
+fn octet_ok(b: &[u8; CONFIG_SIZE], at: usize, values: Values) -> bool
+    requires { at < config_size }
     ensures { result ≡ allowed_by values (get_or b.now at 0) }
 {
     table::allowed_by(values, b[at])
 }
 
 // Row 1 of the parameters before the one whose length varies. It is not a loop over the table: every call comes by here.
-fn front_ok(b: &[u8]) -> bool
-    requires { length b.now ≡ config_size }
+fn front_ok(b: &[u8; CONFIG_SIZE]) -> bool
     ensures { result ≡ rows_ok b.now 9 }
 {
     octet_ok(b, 0, Values::Range(0x00, 0x01))
@@ -131,8 +123,7 @@ fn front_ok(b: &[u8]) -> bool
 }
 
 // Row 1 of all parameters.
-pub fn parameters_ok(b: &[u8]) -> bool
-    requires { length b.now ≡ config_size }
+pub fn parameters_ok(b: &[u8; CONFIG_SIZE]) -> bool
     ensures { result ≡ parameters_ok b.now }
 {
     let info = row_ok(b, table::row_at(9));

@@ -1,6 +1,6 @@
 // The table of the configuration parameters (003, Tables 24 to 32; IDs by Table 138), and which values a parameter may have.
-ghost use Rattle.std.specs.Prelude.{◌≡◌, ◌<◌, length};
-ghost use Rattle.config.specs.Table.{row_count, row_at, row_of, allowed_by, all_allowed, acceptable};
+ghost use Rattle.std.specs.Prelude.{◌≡◌, ◌<◌, length, find, eqb};
+ghost use Rattle.config.specs.Table.{row_count, row_at, row_of, allowed_by, all_allowed, acceptable, acceptable_by};
 
 // The octets that a value may have: a range, or the bit rates of Table 132 that are not RFU.
 #[derive(Clone, Copy)]
@@ -170,27 +170,19 @@ pub fn row_at(i: usize) -> Row
     TABLE[i]
 }
 
-// The parameter with this ID.
-pub fn row_of(id: u8) -> Row
+// The first of some rows with this ID.
+fn row_in(rows: &[Row], id: u8) -> Option<Row>
+    ensures { result ≡ find (λ r. eqb r.id id) rows.now }
+{
+    rows.iter().copied().find(|r| r.id == id)
+}
+
+// The parameter with this ID, if the controller knows it.
+#[tactic(auto, unfolding(crate::specs::Table::row_of, crate::specs::Table::table))]
+pub fn row_of(id: u8) -> Option<Row>
     ensures { result ≡ row_of id }
 {
-    let all = TABLE;
-    let mut i: usize = 0;
-    while i < ROWS {
-        let r = all[i];
-        if r.id == id {
-            return r;
-        }
-        i += 1;
-    }
-    Row {
-        id: 0,
-        at: 0,
-        least: 1,
-        most: 0,
-        default: 0,
-        values: Values::Range(0, 0),
-    }
+    row_in(&TABLE, id)
 }
 
 // Whether a value may have this octet.
@@ -198,8 +190,8 @@ pub fn allowed_by(values: Values, x: u8) -> bool
     ensures { result ≡ allowed_by values x }
 {
     match values {
-        Values::Range(low, high) => (low <= x) & (x <= high),
-        Values::BitRates => (x <= 0x06) | (x == 0x20) | ((0x80 <= x) & (x <= 0xFE)),
+        Values::Range(low, high) => (low..=high).contains(&x),
+        Values::BitRates => matches!(x, 0x00..=0x06 | 0x20 | 0x80..=0xFE),
     }
 }
 
@@ -208,10 +200,8 @@ pub fn all_allowed(values: Values, v: &[u8]) -> bool
     ensures { result ≡ all_allowed values v.now (length v.now) }
 {
     let mut all = true;
-    let mut i: usize = 0;
-    while i < v.len() {
-        all = all & allowed_by(values, v[i]);
-        i += 1;
+    for x in v {
+        all = all & allowed_by(values, *x);
     }
     all
 }
@@ -220,7 +210,16 @@ pub fn all_allowed(values: Values, v: &[u8]) -> bool
 pub fn acceptable(r: Row, v: &[u8]) -> bool
     ensures { result ≡ acceptable r v.now }
 {
-    let values = r.values;
-    let all = all_allowed(values, v);
+    let all = all_allowed(r.values, v);
     (r.least <= v.len()) & (v.len() <= r.most) & all
+}
+
+// Whether the parameter with this ID may have this value; one that is not known has none.
+pub(crate) fn acceptable_by(id: u8, v: &[u8]) -> bool
+    ensures { result ≡ acceptable_by (row_of id) v.now }
+{
+    match row_of(id) {
+        Some(r) => acceptable(r, v),
+        None => false,
+    }
 }

@@ -19,17 +19,12 @@ pub fn set_written(m: &[u8]) -> bool
 fn values_written(m: &[u8], n: u8) -> bool
     ensures { result ≡ values_written m.now n }
 {
-    let count = n as usize;
     let mut ok = true;
     let mut at: usize = 1;
-    let mut i: usize = 0;
-    while i < count {
-        let id = octets::octet_at(m, at);
-        let n = octets::octet_at(m, at + 1) as usize;
-        let r = table::row_of(id);
-        ok = ok & table::acceptable(r, octets::window(m, at + 2, n));
-        at = at + 2 + n;
-        i += 1;
+    for _ in 0..n {
+        let p = set::param_at(m, at);
+        ok = ok & table::acceptable_by(p.id, p.value);
+        at = p.next;
     }
     ok
 }
@@ -39,23 +34,19 @@ fn list_written(m: &[u8]) -> bool
     ensures { result ≡ list_written m.now }
 {
     let n = octets::octet_at(m, 0);
-    let end = set::list_end(m, n);
     let values = values_written(m, n);
-    (end == m.len()) & values
+    (set::list_end(m, n) == m.len()) & values
 }
 
 // Whether the first n entries are IDs that are not known, each with length 0.
 fn unavailable_written(m: &[u8], n: u8) -> bool
     ensures { result ≡ unavailable_written m.now n }
 {
-    let count = n as usize;
     let mut ok = true;
-    let mut i: usize = 0;
-    while i < count {
-        let r = table::row_of(octets::octet_at(m, 2 + 2 * i));
+    for i in 0..usize::from(n) {
+        let unknown = table::row_of(octets::octet_at(m, 2 + 2 * i)).is_none();
         let none = octets::octet_at(m, 3 + 2 * i);
-        ok = ok & (!(r.least <= r.most) & (none == 0x00));
-        i += 1;
+        ok = ok & (unknown & (none == 0x00));
     }
     ok
 }

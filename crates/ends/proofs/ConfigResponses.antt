@@ -18,7 +18,7 @@ use Rattle.state.specs.Names.{status_ok, invalid_param, size_exceeded}
 use Rattle.state.specs.Commands.{command_of}
 use Rattle.state.proofs.Chains.{on, pick_same, every_at, and_left, and_right, elements_are}
 use Rattle.config.specs.Table.{config_size, row_of, known_row}
-use Rattle.config.specs.Stored.{value_in, parameters_ok}
+use Rattle.config.specs.Stored.{value_of, parameters_ok}
 use Rattle.config.specs.Commands.{count_in, param_at, id_in, length_in, param_in, invalid_in, set_rsp, asked_in, shown_in, unavailable_in, unavailable_count, get_rsp}
 use Rattle.config.specs.Written.{set_written, values_written, list_written, unavailable_written, get_written}
 use Rattle.config.proofs.Lists.{param_far}
@@ -87,8 +87,8 @@ unfolding shown_params shown_in param_octets
 shown_list_law b m zero = (refl, refl)
 shown_list_law b m (suc n) =
     let before = shown_list_law b m n in
-    let one : List Param = record { id = asked_in m n; value = value_in b (row_of (asked_in m n)) } ∷ [] in
-    let v = value_in b (row_of (asked_in m n)) in (
+    let one : List Param = record { id = asked_in m n; value = value_of b (row_of (asked_in m n)) } ∷ [] in
+    let v = value_of b (row_of (asked_in m n)) in (
       omega (arith, before.0, length-append (shown_params b m n) one),
       (λ i. before.1 i ++ (asked_in m n ∷ length v ∷ sym (append-nil v) i)) ∙ sym (params_append (shown_params b m n) one),
     )

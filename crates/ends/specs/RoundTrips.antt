@@ -14,7 +14,7 @@ use Rattle.state.specs.Conn.{conn_of}
 use Rattle.state.specs.Radio.{polls, listens, id_ok}
 use Rattle.state.specs.Profile.{credits_ok}
 use Rattle.config.specs.Table.{config_size, row_of, known_row}
-use Rattle.config.specs.Stored.{value_in, parameters_ok}
+use Rattle.config.specs.Stored.{value_of, parameters_ok}
 use Rattle.config.specs.Commands.{count_in, param_at, invalid_in, set_rsp, asked_in, get_rsp}
 use Rattle.nfcc.specs.CommandTrips.{Param, params_in}
 use Rattle.messages.specs.Layout.{reset_ntf, init_rsp, create_rsp, credits_ntf, generic_error_ntf, discover_ntf, activated_ntf, deactivate_ntf}
@@ -59,7 +59,7 @@ listed_params m = params_in (cut 1 (length m) m)
 -- the first n that are asked for: all of them with their values, or those that are not known, without a value
 unfoldable pub shown_params : Octets → Octets → ℕ → List Param
 shown_params b m zero = []
-shown_params b m (suc n) = shown_params b m n ++ (record { id = asked_in m n; value = value_in b (row_of (asked_in m n)) } ∷ [])
+shown_params b m (suc n) = shown_params b m n ++ (record { id = asked_in m n; value = value_of b (row_of (asked_in m n)) } ∷ [])
 
 unfoldable pub unavailable_params : Octets → ℕ → List Param
 unavailable_params m zero = []

@@ -1,9 +1,9 @@
 // A whole command at the controller (document 01, "What the controller answers").
 ghost use Rattle.std.specs.Prelude.{◌≡◌, ◌≤◌, length};
 ghost use Rattle.state.specs.Runs.{control_limit};
-ghost use Rattle.config.specs.Table.{config_size};
 ghost use Rattle.ends.specs.Steps.{decided, Answers};
 
+use config::table::CONFIG_SIZE;
 use messages::layout;
 use messages::layout::Note;
 use nfcc::{controller, effects};
@@ -49,12 +49,12 @@ pub fn answer(
     e: Ends,
     gid: u8,
     oid: u8,
-    b: &[u8],
+    b: &[u8; CONFIG_SIZE],
     m: &[u8],
     rsp: &mut [u8; CONTROL_LIMIT],
     ntf: &mut [u8; CONTROL_LIMIT],
 ) -> Answered
-    requires { (length b.now ≡ config_size) × (length m.now ≤ control_limit) }
+    requires { length m.now ≤ control_limit }
     ensures { Answers e gid oid b.now m.now (decided e gid oid m.now) result rsp.old ntf.old rsp.new ntf.new }
 {
     let d = decide(e, gid, oid, m);

@@ -4,10 +4,10 @@ ghost use Rattle.std.specs.Prelude.{◌≡◌, [], ◌∷◌, ◌++◌, ◌+◌,
 ghost use Rattle.octets.specs.Octets.{pick, splice};
 ghost use Rattle.state.specs.Names.{gid_core, gid_rf, oid_reset, oid_generic_error, oid_discover, oid_activated, oid_deactivate};
 ghost use Rattle.state.specs.Runs.{control_limit};
-ghost use Rattle.config.specs.Table.{config_size};
 ghost use Rattle.config.specs.Commands.{count_in, param_at, set_rsp, get_rsp};
 ghost use Rattle.messages.specs.Layout.{Put, MayPut, reset_ntf, init_rsp, create_rsp, generic_error_ntf, discover_ntf, activated_ntf, deactivate_ntf, credits_message, response_message, notice_message};
 
+use config::table::CONFIG_SIZE;
 use config::{get, set};
 use state::conn::{conn_of, owing};
 use state::kinds::{Activation, Counts, Profile, Terms};
@@ -95,8 +95,7 @@ fn set_config_rsp(out: &mut [u8; CONTROL_LIMIT], gid: u8, oid: u8, m: &[u8]) -> 
 }
 
 // CORE_GET_CONFIG_RSP (003, Table 12).
-fn get_config_rsp(out: &mut [u8; CONTROL_LIMIT], gid: u8, oid: u8, b: &[u8], m: &[u8]) -> Note
-    requires { length b.now ≡ config_size }
+fn get_config_rsp(out: &mut [u8; CONTROL_LIMIT], gid: u8, oid: u8, b: &[u8; CONFIG_SIZE], m: &[u8]) -> Note
     ensures { Put out.old (record { gid = gid; oid = oid; payload = get_rsp b.now m.now }) result out.new }
 {
     let n = get::get_rsp(out, b, m);
@@ -110,11 +109,11 @@ pub fn response(
     gid: u8,
     oid: u8,
     p: Profile,
-    b: &[u8],
+    b: &[u8; CONFIG_SIZE],
     m: &[u8],
     v: Result<Verdict, Status>,
 ) -> Note
-    requires { (length b.now ≡ config_size) × (v ≡ Ok Verdict.SetsConfig → param_at m.now (count_in m.now) ≤ control_limit) }
+    requires { v ≡ Ok Verdict.SetsConfig → param_at m.now (count_in m.now) ≤ control_limit }
     ensures { Put out.old (response_message gid oid p b.now m.now v) result out.new }
 {
     match v {

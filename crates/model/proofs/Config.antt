@@ -20,7 +20,7 @@ use Rattle.state.specs.Runs.{control_limit}
 use Rattle.state.specs.Profile.{profile_in}
 use Rattle.state.proofs.Chains.{on, and_left, and_right}
 use Rattle.config.specs.Table.{config_size, row_of, known_row}
-use Rattle.config.specs.Stored.{value_in, defaults}
+use Rattle.config.specs.Stored.{value_of, defaults}
 use Rattle.config.specs.Commands.{count_in, invalid_in, set_rsp}
 use Rattle.config.specs.Accepted.{all_restored, showing}
 use Rattle.config.proofs.Accepted.{set_accepted, get_ok_shows, defaults_restored}
@@ -61,10 +61,10 @@ use Rattle.model.proofs.Always.{Noting, always_noted}
 -- ---- the values after a verdict are those that its response tells the diary
 
 module _ (p : Profile) (k : Controller) (is_open : ℕ → Bool) (b m : Octets) (n : Diary) (long : length b ≡ config_size) (same : m ≡ n.payload)
-    (id : ℕ) (known : known_row (row_of id) ≡ true) (before : value_in b (row_of id) ≡ n.values id) where
+    (id : ℕ) (known : known_row (row_of id) ≡ true) (before : value_of b (row_of id) ≡ n.values id) where
   -- where the response to this command says so
   abbrev Tells : ℕ → ℕ → Judgement → Type 0
-  Tells gid oid v = value_in (config_by b m v) (row_of id) ≡ values_by gid oid (response_of p b m v) n id
+  Tells gid oid v = value_of (config_by b m v) (row_of id) ≡ values_by gid oid (response_of p b m v) n id
 
   set_tells : Tells 0 2 (judge_of p k is_open 0 2 m)
   unfolding config_by response_of
@@ -83,7 +83,7 @@ module _ (p : Profile) (k : Controller) (is_open : ℕ → Bool) (b m : Octets) 
       (ap (λ (x : Octets). restored (eqb (get_or x 0 0) 1)) same ∙ go (eqb (get_or n.payload 0 0) 1))
     where
       restored : Bool → Octets
-      restored t = value_in (pick t defaults b) (row_of id)
+      restored t = value_of (pick t defaults b) (row_of id)
 
       go : (t : Bool) → restored t ≡ pick t all_restored n.values id
       go true = defaults_restored id known
@@ -144,7 +144,7 @@ none_told n = record { shown = λ p behind b e. absurd (cons≢nil (sym e)); lis
 
 -- a whole command is decided on
 module _ (s : State) (n : Diary) (long : length s.config ≡ config_size)
-    (values : (id : ℕ) → known_row (row_of id) ≡ true → value_in s.config (row_of id) ≡ n.values id) (way : OnItsWay (Last n) s.asking s.down)
+    (values : (id : ℕ) → known_row (row_of id) ≡ true → value_of s.config (row_of id) ≡ n.values id) (way : OnItsWay (Last n) s.asking s.down)
     (gid oid : ℕ) (low : gid < 16) (small : oid < 64) (m : Octets) (asked : Last n (named gid oid) m) where
   abbrev v : Judgement
   v = judge_of s.profile s.controller (is_open s) gid oid m
@@ -227,7 +227,7 @@ module _ (s : State) (long : length s.config ≡ config_size) (p : Octets) (w : 
   ignored : (t : State) → orders_in (meaning p) ≡ [] → t.config ≡ s.config → t.asking ≡ s.asking → t.down ≡ w → Configured t n
   ignored t e same joins wire =
       record {
-        values = λ id known. ap (λ (b : Octets). value_in b (row_of id)) same ∙ c.values id known;
+        values = λ id known. ap (λ (b : Octets). value_of b (row_of id)) same ∙ c.values id known;
         way = subst (λ (r : ControlRun). OnItsWay (Last n) r t.down) (sym joins) (subst (OnItsWay (Last n) s.asking) (sym wire) (other_way (Last n) s.asking p w c.way e));
       }
 
@@ -280,7 +280,7 @@ Aside s t = (t.config ≡ s.config) × (t.asking ≡ s.asking) × (t.down ≡ s.
 aside : (s t : State) (n : Diary) → Aside s t → Configured s n → Configured t n
 aside s t n (same, joins, wire) c =
     record {
-      values = λ id known. ap (λ (b : Octets). value_in b (row_of id)) same ∙ c.values id known;
+      values = λ id known. ap (λ (b : Octets). value_of b (row_of id)) same ∙ c.values id known;
       way = subst (λ (r : ControlRun). OnItsWay (Last n) r t.down) (sym joins) (subst (OnItsWay (Last n) s.asking) (sym wire) c.way);
     }
 

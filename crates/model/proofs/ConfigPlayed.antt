@@ -16,8 +16,8 @@ use Rattle.model.specs.Bench.{step}
 use Rattle.model.specs.Observer.{events}
 use Rattle.model.specs.Table.{Plays}
 use Rattle.nfcc.specs.Controller.{discover_by, configs_ok, set_by, config_by}
-use Rattle.config.specs.Table.{table, find_in, row_of, all_allowed, acceptable}
-use Rattle.config.specs.Stored.{value_in, zeroes, with_value}
+use Rattle.config.specs.Table.{table, row_of, all_allowed, acceptable}
+use Rattle.config.specs.Stored.{value_in, with_value}
 use Rattle.config.specs.Commands.{param_at, set_first, invalid_in, names_known, shown_in, unavailable_in, unavailable_count}
 use Rattle.config.specs.Accepted.{last_accepted}
 use Rattle.config.specs.Written.{set_written, values_written, unavailable_written, get_written}
@@ -25,7 +25,7 @@ use Rattle.model.specs.Config.{diary}
 use Rattle.model.specs.ConfigPlayed.{ConfigPlayed}
 
 pub config_played : ConfigPlayed Plays
-unfolding cut octet0 octet1 packet_of oid_of carried_of spare_of header_of read_of segments_within segments place_of conn_of terms_of command_of shortest allowed reset_by after seek next_id create_by close_by judge_of controller_after response_of notice_message notice_of zeros init_written create_written written answer_of heard_written hear_of host_after drop_heard meaning first step events diary discover_by configs_ok set_by config_by table find_in row_of all_allowed acceptable value_in zeroes with_value param_at set_first invalid_in names_known shown_in unavailable_in unavailable_count last_accepted set_written values_written unavailable_written get_written over splice
+unfolding cut octet0 octet1 packet_of oid_of carried_of spare_of header_of read_of segments_within segments place_of conn_of terms_of command_of shortest allowed reset_by after seek next_id create_by close_by judge_of controller_after response_of notice_message notice_of zeros init_written create_written written answer_of heard_written hear_of host_after drop_heard meaning first step events diary discover_by configs_ok set_by config_by table row_of all_allowed acceptable value_in with_value param_at set_first invalid_in names_known shown_in unavailable_in unavailable_count last_accepted set_written values_written unavailable_written get_written over splice
 config_played =
     record {
       in_order = λ s. refl;

@@ -1,13 +1,13 @@
 // What a verdict does: to the controller's numbers, to the connections, to the endpoint's message, and to the configuration parameters.
-ghost use Rattle.std.specs.Prelude.{◌≡◌, eqb, length};
+ghost use Rattle.std.specs.Prelude.{◌≡◌, eqb};
 ghost use Rattle.octets.specs.Octets.{pick};
 ghost use Rattle.state.specs.Conn.{empty};
-ghost use Rattle.config.specs.Table.{config_size};
 ghost use Rattle.config.specs.Stored as values;
 ghost use Rattle.nfcc.specs.Controller.{turned, controller_after, conns_after, endpoint_after, config_by};
 
 use config::set::set_all;
 use config::stored::defaults;
+use config::table::CONFIG_SIZE;
 use state::conn::{controller_all_closed, controller_closed_at, controller_opened_at, empty_hand};
 use state::kinds::{Controller, Counts, Hand, Phase, Rf};
 use state::radio::{is_idle, no_pairs};
@@ -78,20 +78,17 @@ pub fn endpoint_after(h: Hand, v: Result<Verdict, Status>) -> Hand
 }
 
 // The values after a RESET: type 1 restores all, type 0 keeps all.
-fn reset_values(b: &mut [u8], kind: u8)
-    requires { length b.old ≡ config_size }
+fn reset_values(b: &mut [u8; CONFIG_SIZE], kind: u8)
     ensures { b.new ≡ pick (eqb kind 1) values.defaults b.old }
 {
     if kind == 1 {
-        let all = defaults();
-        octets::put(b, 0, &all);
+        *b = defaults();
     }
 }
 
 // The values after a verdict on the command m. They are of all parameters. A refusal leaves them.
 #[tactic(auto, unfolding(crate::specs::Controller::config_by))]
-pub fn config_by(b: &mut [u8], m: &[u8], v: Result<Verdict, Status>)
-    requires { length b.old ≡ config_size }
+pub fn config_by(b: &mut [u8; CONFIG_SIZE], m: &[u8], v: Result<Verdict, Status>)
     ensures { b.new ≡ config_by b.old m.now v }
 {
     match v {

@@ -11,8 +11,8 @@ use Rattle.state.specs.Radio.{listed_in, added_to}
 use Rattle.state.specs.Commands.{command_of}
 use Rattle.state.specs.Profile.{profile_in}
 use Rattle.nfcc.specs.Controller.{shortest, allowed, reset_by, after, seek, next_id, create_by, close_by, configs_ok, discover_by, deactivate_by, set_by, judge_of, controller_after, config_by}
-use Rattle.config.specs.Table.{table, find_in, row_of, all_allowed, acceptable}
-use Rattle.config.specs.Stored.{value_in, zeroes, with_value}
+use Rattle.config.specs.Table.{table, row_of, all_allowed, acceptable}
+use Rattle.config.specs.Stored.{value_in, with_value}
 use Rattle.config.specs.Commands.{param_at, set_first, invalid_in, names_known, shown_in, unavailable_in, unavailable_count}
 use Rattle.config.specs.Written.{set_written, values_written, unavailable_written, get_written}
 use Rattle.messages.specs.Layout.{entries_from, entry_count, response_of, notice_message}
@@ -91,7 +91,7 @@ start = cold (profile_in profile)
 
 -- each call's line. What is named below unfolds wherever `lines` does, so that a list of calls computes.
 unfoldable pub lines : List Call → State → List Line
-unfolding cut over splice octet0 octet1 packet_of oid_of carried_of spare_of header_of read_of carrying segments_within segments place_of conn_of terms_of carriable listed_in added_to command_of shortest allowed reset_by after seek next_id create_by close_by configs_ok discover_by deactivate_by set_by judge_of controller_after config_by entries_from entry_count response_of notice_message table find_in row_of all_allowed acceptable value_in zeroes with_value param_at set_first invalid_in names_known shown_in unavailable_in unavailable_count set_written values_written unavailable_written get_written found_in poll_in listen_in event_of found_by poll_by listen_by failed_by aired_by air_message controller_aired notice_of zeros init_written create_written entries_ok credits_written discover_written activated_written deactivate_written written answer_of heard_written hear_of credits_in names_closed host_after drop_heard meaning data_count inside_of counted_up first all_zero step
+unfolding cut over splice octet0 octet1 packet_of oid_of carried_of spare_of header_of read_of carrying segments_within segments place_of conn_of terms_of carriable listed_in added_to command_of shortest allowed reset_by after seek next_id create_by close_by configs_ok discover_by deactivate_by set_by judge_of controller_after config_by entries_from entry_count response_of notice_message table row_of all_allowed acceptable value_in with_value param_at set_first invalid_in names_known shown_in unavailable_in unavailable_count set_written values_written unavailable_written get_written found_in poll_in listen_in event_of found_by poll_by listen_by failed_by aired_by air_message controller_aired notice_of zeros init_written create_written entries_ok credits_written discover_written activated_written deactivate_written written answer_of heard_written hear_of credits_in names_closed host_after drop_heard meaning data_count inside_of counted_up first all_zero step
 lines [] s = []
 lines (c ∷ cs) s = line_of (step c s) ∷ lines cs (step c s).effect.next
 

@@ -5,7 +5,6 @@ use Rattle.calls.proofs.DownAnswer.{notes_few, answers_short, answer_made}
 use Rattle.area.proofs.Puts.{length_puts}
 use Rattle.area.specs.Map.{asking_at}
 use Rattle.octets.proofs.Octets.{length_splice, length_cut, cut_short, cut_copied}
-use Rattle.record.proofs.Configured.{length_config}
 use lib.ListN.{length, take, drop}
 use Rattle.octets.specs.Octets.{Octets, cut}
 use Prim.Native.Nat.{ℕ, ◌-◌, ◌≤◌}
@@ -19,7 +18,7 @@ part_short n k l h = omega (arith, h, cut_short 0 (n - 0) l)
 
 pub answer-a-requires : goal.answer-a-requires
 answer-a-requires c =
-    (ap length c.values_of.ensures ∙ length_config c.args.area.now c.requires.0, part_short _ _ _ c.requires.1)
+    part_short _ _ _ c.requires.1
 
 pub slice_bounds-put_answers-end : goal.slice_bounds-put_answers-end
 slice_bounds-put_answers-end c = omega (arith, simp length_splice at (ap length c.answer-a.ensures.response.octets))

@@ -7,7 +7,4 @@ use Rattle.config.specs.Commands.{shown_in}
 use Rattle.config.proofs.get.all_shown.Given as goal
 
 abbrev pub invariant-loop-i : goal.invariant-loop-i
-invariant-loop-i l = (l.i ≤ l.n) × (l.out ≡ splice l.initial.out 2 (shown_in l.b l.m l.i)) × (l.to ≡ 2 + length (shown_in l.b l.m l.i))
-
-abbrev pub decreases-loop-i : goal.decreases-loop-i
-decreases-loop-i l = l.n - l.i
+invariant-loop-i l = (l.out ≡ splice l.initial.out 2 (shown_in l.b l.m l.i)) × (l.to ≡ 2 + length (shown_in l.b l.m l.i))

@@ -13,7 +13,7 @@ use Rattle.config.proofs.get.all_unavailable.Goals as goal
 
 pub loop-i-init : goal.loop-i-init
 unfolding unavailable_in
-loop-i-init c = (omega arith, sym (splice_nil _ _), refl)
+loop-i-init c = (sym (splice_nil _ _), refl)
 
 pub put_unavailable-to-requires : goal.put_unavailable-to-requires
 unfolding unavailable_in
@@ -23,7 +23,7 @@ put_unavailable-to-requires c =
     let more : suc i ≤ a.n = omega arith in
     let fits = unavailable_grows a.m.now (suc i) a.n more in
     let one = ap (λ x. length (unavailable_one x)) c.octet_at.ensures in
-    let long = ap length c.loop-i.invariant.1 ∙ length_splice _ _ _ in
+    let long = ap length c.loop-i.invariant.0 ∙ length_splice _ _ _ in
     let e = length-append (unavailable_in a.m.now i) (unavailable_one (asked_in a.m.now i)) in
     omega arith
 
@@ -33,12 +33,12 @@ loop-i-preserved c =
     let id = c.octet_at.ensures in
     let a = c.args in
     let i = c.loop-i.i in
-    let more = grown a.out.now _ (unavailable_in a.m.now i) _ _ _ _ c.loop-i.invariant.1 c.loop-i.invariant.2
+    let more = grown a.out.now _ (unavailable_in a.m.now i) _ _ _ _ c.loop-i.invariant.0 c.loop-i.invariant.1
     (c.put_unavailable-to.ensures.octets ∙ (λ k. splice c.loop-i.out c.loop-i.to (unavailable_one (id k))))
     (c.put_unavailable-to.ensures.next ∙ (λ k. c.loop-i.to + length (unavailable_one (id k)))) in
-    rw (add-one i) (omega arith, more.0, more.1)
+    rw (add-one i) (more.0, more.1)
 
 pub returns : goal.returns
 returns c =
     let a = c.args in
-    let all : c.loop-i.i ≡ a.n = omega arith in record { octets = c.loop-i.invariant.1 ∙ (λ k. splice a.out.now 2 (unavailable_in a.m.now (all k))); next = c.loop-i.invariant.2 ∙ (λ k. 2 + length (unavailable_in a.m.now (all k))) }
+    let all : c.loop-i.i ≡ a.n = omega arith in record { octets = c.loop-i.invariant.0 ∙ (λ k. splice a.out.now 2 (unavailable_in a.m.now (all k))); next = c.loop-i.invariant.1 ∙ (λ k. 2 + length (unavailable_in a.m.now (all k))) }

@@ -7,7 +7,4 @@ use Rattle.config.specs.Commands.{unavailable_in}
 use Rattle.config.proofs.get.all_unavailable.Given as goal
 
 abbrev pub invariant-loop-i : goal.invariant-loop-i
-invariant-loop-i l = (l.i ≤ l.n) × (l.out ≡ splice l.initial.out 2 (unavailable_in l.m l.i)) × (l.to ≡ 2 + length (unavailable_in l.m l.i))
-
-abbrev pub decreases-loop-i : goal.decreases-loop-i
-decreases-loop-i l = l.n - l.i
+invariant-loop-i l = (l.out ≡ splice l.initial.out 2 (unavailable_in l.m l.i)) × (l.to ≡ 2 + length (unavailable_in l.m l.i))

@@ -11,14 +11,14 @@ use Rattle.config.proofs.get.get_rsp.Goals as goal
 two_more : (n : ℕ) → 2 + n ≡ suc (suc n)
 two_more n = omega arith
 
-pub returns-then-size-gt253 : goal.returns-then-size-gt253
-returns-then-size-gt253 c =
+pub returns-then-shown_size-gt253 : goal.returns-then-shown_size-gt253
+returns-then-shown_size-gt253 c =
     let n = c.octet_at-count.ensures in
     let a = c.args in
     let m = a.m.now in
     let none : unavailable_count m (count_in m) ≡ 0 = sym (c.unavailable_count-unavailable.ensures.0 ∙ ap (unavailable_count m) n) ∙ c.if-unavailable-eq0.true in
-    let size = c.shown_size-size.ensures ∙ (λ k. length (shown_in a.b.now m (n k))) in
-    let e = get_long a.b.now m none (subst (λ (x : ℕ). 253 < x) size c.if-size-gt253.true) in
+    let size = c.shown_size.ensures ∙ (λ k. length (shown_in a.b.now m (n k))) in
+    let e = get_long a.b.now m none (subst (λ (x : ℕ). 253 < x) size c.if-shown_size-gt253.true) in
     record { octets = c.alone.ensures.octets ∙ (λ k. splice a.out.now 0 (sym e k)); length = c.alone.ensures.length ∙ (λ k. length (sym e k)) }
 
 pub returns-then-unavailable-eq0 : goal.returns-then-unavailable-eq0
@@ -27,8 +27,8 @@ returns-then-unavailable-eq0 c =
     let a = c.args in
     let m = a.m.now in
     let none : unavailable_count m (count_in m) ≡ 0 = sym (c.unavailable_count-unavailable.ensures.0 ∙ ap (unavailable_count m) n) ∙ c.if-unavailable-eq0.true in
-    let size = c.shown_size-size.ensures ∙ (λ k. length (shown_in a.b.now m (n k))) in
-    let fits : length (shown_in a.b.now m (count_in m)) ≤ 253 = omega (arith, c.if-size-gt253.false) in
+    let size = c.shown_size.ensures ∙ (λ k. length (shown_in a.b.now m (n k))) in
+    let fits : length (shown_in a.b.now m (count_in m)) ≤ 253 = omega (arith, c.if-shown_size-gt253.false) in
     let e = get_ok a.b.now m none fits in record {
       octets = (λ k. set (set ((c.all_shown-to.ensures.octets ∙ (λ j. splice a.out.now 2 (shown_in a.b.now m (n j)))) k) 1 (n k)) 0 0x00)
           ∙ ahead_two _ _ _ _ ∙ (λ k. splice a.out.now 0 (sym e k));

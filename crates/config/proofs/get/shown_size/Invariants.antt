@@ -6,7 +6,4 @@ use Rattle.config.specs.Commands.{shown_in}
 use Rattle.config.proofs.get.shown_size.Given as goal
 
 abbrev pub invariant-loop-i : goal.invariant-loop-i
-invariant-loop-i l = (l.i ≤ l.n) × (l.size ≡ length (shown_in l.b l.m l.i)) × (l.size ≤ 32 * l.i)
-
-abbrev pub decreases-loop-i : goal.decreases-loop-i
-decreases-loop-i l = l.n - l.i
+invariant-loop-i l = (l.size ≡ length (shown_in l.b l.m l.i)) × (l.size ≤ 32 * l.i)

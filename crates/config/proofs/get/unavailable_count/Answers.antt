@@ -11,20 +11,13 @@ use Rattle.config.proofs.get.unavailable_count.Goals as goal
 
 pub loop-i-init : goal.loop-i-init
 unfolding unavailable_count
-loop-i-init c = (omega arith, refl, omega arith)
+loop-i-init c = (refl, omega arith)
 
 pub loop-i-preserved : goal.loop-i-preserved
 unfolding unavailable_count
 loop-i-preserved c =
     let m = c.args.m.now in
-    let one : c.choose-one.result ≡ pick (known_row (row_of (asked_in m c.loop-i.i))) 0 1 = c.choose-one.ensures ∙ ap (λ x. pick (known_row x) 0 1) (c.row_of-r.ensures ∙ ap row_of c.octet_at.ensures) in (
-      omega arith,
-      rw (add-one c.loop-i.i) (λ k. c.loop-i.invariant.1 k + one k),
+    let known = c.choose.ensures ∙ (λ k. pick (c.is_some.ensures k) 0 1) ∙ ap (λ x. pick (known_row x) 0 1) (c.row_of-r.ensures ∙ ap row_of c.octet_at.ensures) in (
+      rw (add-one c.loop-i.i) (λ k. c.loop-i.invariant.0 k + known k),
       omega (arith, at_most_one (known_row (row_of (asked_in m c.loop-i.i)))),
     )
-
-pub returns : goal.returns
-returns c =
-    let a = c.args in
-    let all : c.loop-i.i ≡ a.n = omega arith in
-    (c.loop-i.invariant.1 ∙ ap (unavailable_count a.m.now) all, omega arith)

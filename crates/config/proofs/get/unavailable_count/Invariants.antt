@@ -5,7 +5,4 @@ use Rattle.config.specs.Commands.{unavailable_count}
 use Rattle.config.proofs.get.unavailable_count.Given as goal
 
 abbrev pub invariant-loop-i : goal.invariant-loop-i
-invariant-loop-i l = (l.i ≤ l.n) × (l.unavailable ≡ unavailable_count l.m l.i) × (l.unavailable ≤ l.i)
-
-abbrev pub decreases-loop-i : goal.decreases-loop-i
-decreases-loop-i l = l.n - l.i
+invariant-loop-i l = (l.unavailable ≡ unavailable_count l.m l.i) × (l.unavailable ≤ l.i)

@@ -4,8 +4,5 @@ use mathlib.Core.Path.{◌≡◌}
 use Rattle.config.specs.Commands.{param_at}
 use Rattle.config.proofs.set.list_end.Given as goal
 
-abbrev pub invariant-loop-i : goal.invariant-loop-i
-invariant-loop-i l = (l.i ≤ l.n) × (l.at ≡ param_at l.m l.i) × (l.at ≤ 1 + 257 * l.i)
-
-abbrev pub decreases-loop-i : goal.decreases-loop-i
-decreases-loop-i l = l.n - l.i
+abbrev pub invariant-loop : goal.invariant-loop
+invariant-loop l = (l.at ≡ param_at l.m l.counter) × (l.at ≤ 1 + 257 * l.counter)

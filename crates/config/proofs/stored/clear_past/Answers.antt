@@ -27,16 +27,16 @@ one_more b i n k = go (ltb k n) refl
 
 pub loop-k-init : goal.loop-k-init
 unfolding clear
-loop-k-init c = let none : 0 - c.args.n ≡ 0 = omega arith in (omega arith, rw none)
+loop-k-init c = let none : 0 - c.args.n ≡ 0 = omega arith in rw none
 
 pub loop-k-preserved : goal.loop-k-preserved
 loop-k-preserved c =
     let a = c.args in
     let k = c.loop-k.k in
-    (omega arith, ap (λ (x : Bool). x && (ltb k a.n || eqb (get_or a.b.now (a.i + k) 0) 0)) c.loop-k.invariant.1 ∙ one_more a.b.now a.i a.n k)
+    (ap (λ (x : Bool). x && (ltb k a.n || eqb (get_or a.b.now (a.i + k) 0) 0)) c.loop-k.invariant ∙ one_more a.b.now a.i a.n k)
 
 pub returns : goal.returns
 returns c =
     let a = c.args in
     let all : c.loop-k.k ≡ a.room = omega arith in
-    c.loop-k.invariant.1 ∙ ap (λ (k : ℕ). clear a.b.now (a.i + a.n) (k - a.n)) all
+    c.loop-k.invariant ∙ ap (λ (k : ℕ). clear a.b.now (a.i + a.n) (k - a.n)) all

@@ -10,7 +10,7 @@ use Rattle.config.proofs.Rows.{row_fits}
 use Rattle.config.proofs.stored.parameters_ok.Goals as goal
 
 pub row_ok-info-requires : goal.row_ok-info-requires
-row_ok-info-requires c = (c.requires, rw c.row_at.ensures (row_fits 9 (omega arith)))
+row_ok-info-requires c = rw c.row_at.ensures (row_fits 9 (omega arith))
 
 pub returns : goal.returns
 unfolding table row_at rows_ok

@@ -10,4 +10,4 @@ unfolding value_in
 returns c =
     let n = c.size_in-n.ensures in
     let a = c.args in
-    c.window-2.ensures ∙ (λ i. cut 0 (n i) ((c.window.ensures ∙ (λ j. cut (a.r.at + c.lead-before.ensures.value j) a.r.most a.b.now)) i))
+    c.window-2.ensures ∙ (λ i. cut 0 (n i) ((c.window.ensures ∙ (λ j. cut (a.r.at + c.lead.ensures.value j) a.r.most a.b.now)) i))

@@ -5,7 +5,4 @@ use Rattle.config.specs.Written.{unavailable_written}
 use Rattle.config.proofs.written.unavailable_written.Given as goal
 
 abbrev pub invariant-loop-i : goal.invariant-loop-i
-invariant-loop-i l = (l.i ≤ l.n) × (l.ok ≡ unavailable_written l.m l.i)
-
-abbrev pub decreases-loop-i : goal.decreases-loop-i
-decreases-loop-i l = l.n - l.i
+invariant-loop-i l = l.ok ≡ unavailable_written l.m l.i

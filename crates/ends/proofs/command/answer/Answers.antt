@@ -11,10 +11,9 @@ use Rattle.ends.proofs.command.answer.Goals as goal
 pub response-response-requires : goal.response-response-requires
 response-response-requires c =
     let a = c.args in
-    let pre = c.requires in
     let e = a.e in
     let d = c.decide-d.ensures in
-    (pre.0, λ v. omega (arith, pre.1, judge_whole e.profile e.controller (open_at e.conns) a.gid a.oid a.m.now ((λ i. (sym d i).verdict) ∙ v)))
+    λ v. omega (arith, c.requires, judge_whole e.profile e.controller (open_at e.conns) a.gid a.oid a.m.now ((λ i. (sym d i).verdict) ∙ v))
 
 pub returns : goal.returns
 returns c =

@@ -2,4 +2,4 @@
 use Rattle.record.proofs.parameters.restore.Goals as goal
 
 pub returns : goal.returns
-returns c = rw (c.put.ensures, c.defaults-all.ensures)
+returns c = rw (c.put_values.ensures, c.defaults.ensures)
