@@ -33,8 +33,12 @@ notice_of gid oid =
 abbrev pub status_alone : Octets → Bool
 status_alone m = eqb (length m) 1 && not (eqb (get_or m 0 0) status_ok)
 
+-- a message of one octet, this status
+abbrev pub alone : ℕ → Octets → Bool
+alone status m = eqb (length m) 1 && eqb (get_or m 0 0) status
+
 abbrev pub ok_alone : Octets → Bool
-ok_alone m = eqb (length m) 1 && eqb (get_or m 0 0) status_ok
+ok_alone m = alone status_ok m
 
 -- the n octets from index i on are all 00
 unfoldable pub zeros : Octets → ℕ → ℕ → Bool
@@ -110,7 +114,7 @@ deactivate_written m =
 abbrev pub notice_written : Notice → Octets → Bool
 notice_written notice.Reset m = reset_written m
 notice_written notice.Credits m = credits_written m
-notice_written notice.GenericError m = eqb (length m) 1 && eqb (get_or m 0 0) activation_failed
+notice_written notice.GenericError m = alone activation_failed m
 notice_written notice.Discover m = discover_written m
 notice_written notice.Activated m = activated_written m
 notice_written notice.Deactivate m = deactivate_written m

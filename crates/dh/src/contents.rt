@@ -1,7 +1,7 @@
 // Contents that the bench's controller writes (document 01, "Contents never written here have no effect", up under "Calls"): its
 // layouts at their exact lengths, with values inside its limits.
 ghost use Rattle.std.specs.Prelude.{◌≡◌, ◌≤◌};
-ghost use Rattle.dh.specs.Contents.{notice_of, status_alone, ok_alone, zeros, init_written, create_written, ok_written, reset_written, entry_ok, entries_ok, credits_written, discover_written, activated_written, deactivate_written, notice_written, written};
+ghost use Rattle.dh.specs.Contents.{notice_of, status_alone, alone, zeros, init_written, create_written, ok_written, reset_written, entry_ok, entries_ok, credits_written, discover_written, activated_written, deactivate_written, notice_written, written};
 ghost use Rattle.dh.specs.Hearing.{init_front, activated_front, ascends};
 
 use config::written::{get_written, set_written};
@@ -46,16 +46,14 @@ pub fn notice_of(gid: u8, oid: u8) -> Notice
 fn status_alone(m: &[u8]) -> bool
     ensures { result ≡ status_alone m.now }
 {
-    let status = octets::octet_at(m, fields::STATUS);
-    (m.len() == fields::STATUS_LENGTH) & (status != names::STATUS_OK)
+    (m.len() == fields::STATUS_LENGTH) & (octets::octet_at(m, fields::STATUS) != names::STATUS_OK)
 }
 
-// A response of one octet, STATUS_OK.
-fn ok_alone(m: &[u8]) -> bool
-    ensures { result ≡ ok_alone m.now }
+// A message of one octet, this status.
+fn alone(m: &[u8], status: u8) -> bool
+    ensures { result ≡ alone status m.now }
 {
-    let status = octets::octet_at(m, fields::STATUS);
-    (m.len() == fields::STATUS_LENGTH) & (status == names::STATUS_OK)
+    (m.len() == fields::STATUS_LENGTH) & (octets::octet_at(m, fields::STATUS) == status)
 }
 
 // Whether the n octets from index i on are all 00: fields that the bench's controller has nothing to say in.
@@ -64,11 +62,8 @@ fn zeros(m: &[u8], i: usize, n: usize) -> bool
     ensures { result ≡ zeros m.now i n }
 {
     let mut all = true;
-    let mut k: usize = 0;
-    while k < n {
-        let o = octets::octet_at(m, i + k);
-        all = all & (o == 0x00);
-        k += 1;
+    for k in 0..n {
+        all = all & (octets::octet_at(m, i + k) == 0x00);
     }
     all
 }
@@ -124,13 +119,13 @@ fn ok_written(c: Command, m: &[u8]) -> bool
     ensures { result ≡ ok_written c m.now }
 {
     match c {
-        Command::Reset => ok_alone(m),
+        Command::Reset => alone(m, names::STATUS_OK),
         Command::Init => init_written(m),
         Command::ConnCreate => create_written(m),
-        Command::ConnClose => ok_alone(m),
-        Command::Discover => ok_alone(m),
-        Command::Select => ok_alone(m),
-        Command::Deactivate => ok_alone(m),
+        Command::ConnClose => alone(m, names::STATUS_OK),
+        Command::Discover => alone(m, names::STATUS_OK),
+        Command::Select => alone(m, names::STATUS_OK),
+        Command::Deactivate => alone(m, names::STATUS_OK),
         Command::Unknown => false,
         Command::SetConfig => set_written(m),
         Command::GetConfig => get_written(m),
@@ -182,12 +177,8 @@ fn entries_ok(m: &[u8], n: usize) -> bool
     ensures { result ≡ entries_ok m.now n }
 {
     let mut all = true;
-    let mut i: usize = 0;
-    while i < n {
-        let ok = entry_ok(m, i);
-        let above = ascends(m, i);
-        all = all & ok & above;
-        i += 1;
+    for i in 0..n {
+        all = all & entry_ok(m, i) & ascends(m, i);
     }
     all
 }
@@ -260,14 +251,6 @@ fn deactivate_written(m: &[u8]) -> bool
                 & (reason <= names::LINK_LOSS)))
 }
 
-// A CORE_GENERIC_ERROR_NTF of the bench: the activation failed.
-fn error_written(m: &[u8]) -> bool
-    ensures { result ≡ notice_written Notice.GenericError m.now }
-{
-    let status = octets::octet_at(m, fields::STATUS);
-    (m.len() == fields::STATUS_LENGTH) & (status == names::ACTIVATION_FAILED)
-}
-
 // A notification as the bench's controller writes it.
 fn notice_written(n: Notice, m: &[u8]) -> bool
     ensures { result ≡ notice_written n m.now }
@@ -275,7 +258,8 @@ fn notice_written(n: Notice, m: &[u8]) -> bool
     match n {
         Notice::Reset => reset_written(m),
         Notice::Credits => credits_written(m),
-        Notice::GenericError => error_written(m),
+        // a CORE_GENERIC_ERROR_NTF: the activation failed
+        Notice::GenericError => alone(m, names::ACTIVATION_FAILED),
         Notice::Discover => discover_written(m),
         Notice::Activated => activated_written(m),
         Notice::Deactivate => deactivate_written(m),

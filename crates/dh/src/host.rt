@@ -37,13 +37,8 @@ pub enum Heard {
 pub fn asked_of(gid: u8, oid: u8, m: &[u8]) -> Asked
     ensures { result ≡ asked_of gid oid m.now }
 {
-    let first = octets::octet_at(m, 0);
-    let aim = octets::choose(m.len() == 0, 1, first % 16);
-    Asked {
-        gid: gid,
-        oid: oid,
-        aim: aim,
-    }
+    let aim = m.first().map_or(1, |first| first % 16);
+    Asked { gid, oid, aim }
 }
 
 // Whether a response with this GID and OID is the one that the unanswered command awaits.
@@ -93,22 +88,14 @@ fn ok_answer(c: Command, aim: u8, m: &[u8]) -> Answer
 {
     match c {
         Command::Reset => Answer::ClosesAll,
-        Command::Init => {
-            let size = octets::octet_at(m, fields::INIT_CONTROL);
-            Answer::Sized(size)
-        }
-        Command::ConnCreate => {
-            let payload = octets::octet_at(m, fields::CREATE_PAYLOAD);
-            let credits = octets::octet_at(m, fields::CREATE_CREDITS);
-            let id = octets::octet_at(m, fields::CREATE_CONN);
-            Answer::Opens(
-                id,
-                Terms {
-                    payload: payload,
-                    credits: credits,
-                },
-            )
-        }
+        Command::Init => Answer::Sized(octets::octet_at(m, fields::INIT_CONTROL)),
+        Command::ConnCreate => Answer::Opens(
+            octets::octet_at(m, fields::CREATE_CONN),
+            Terms {
+                payload: octets::octet_at(m, fields::CREATE_PAYLOAD),
+                credits: octets::octet_at(m, fields::CREATE_CREDITS),
+            },
+        ),
         Command::ConnClose => Answer::Closes(aim),
         Command::Discover => Answer::Done,
         Command::Select => Answer::Done,
@@ -123,8 +110,7 @@ fn ok_answer(c: Command, aim: u8, m: &[u8]) -> Answer
 fn answer_of(c: Command, aim: u8, m: &[u8]) -> Answer
     ensures { result ≡ answer_of c aim m.now }
 {
-    let status = octets::octet_at(m, fields::STATUS);
-    if status == names::STATUS_OK {
+    if octets::octet_at(m, fields::STATUS) == names::STATUS_OK {
         ok_answer(c, aim, m)
     } else {
         Answer::Done
@@ -140,14 +126,10 @@ fn noticed(n: Notice, m: &[u8]) -> Heard
         Notice::Credits => Heard::Credits,
         Notice::GenericError => Heard::Nothing,
         Notice::Discover => Heard::Nothing,
-        Notice::Activated => {
-            let payload = octets::octet_at(m, fields::ACTIVATED_PAYLOAD);
-            let credits = octets::octet_at(m, fields::ACTIVATED_CREDITS);
-            Heard::Activated(Terms {
-                payload: payload,
-                credits: credits,
-            })
-        }
+        Notice::Activated => Heard::Activated(Terms {
+            payload: octets::octet_at(m, fields::ACTIVATED_PAYLOAD),
+            credits: octets::octet_at(m, fields::ACTIVATED_CREDITS),
+        }),
         Notice::Deactivate => Heard::Deactivated,
         Notice::Unknown => Heard::Nothing,
     }
@@ -159,13 +141,9 @@ fn heard_written(p: Option<Asked>, mt: u8, gid: u8, oid: u8, m: &[u8]) -> Heard
     ensures { result ≡ heard_written p mt gid oid m.now }
 {
     if mt == packets::RESPONSE {
-        let c = commands::command_of(gid, oid);
-        let aim = aim_of(p);
-        let a = answer_of(c, aim, m);
-        Heard::Answered(a)
+        Heard::Answered(answer_of(commands::command_of(gid, oid), aim_of(p), m))
     } else {
-        let n = contents::notice_of(gid, oid);
-        noticed(n, m)
+        noticed(contents::notice_of(gid, oid), m)
     }
 }
 
@@ -184,16 +162,13 @@ fn expected(p: Option<Asked>, mt: u8, gid: u8, oid: u8) -> bool
 pub fn hear(p: Option<Asked>, mt: u8, gid: u8, oid: u8, m: &[u8]) -> Heard
     ensures { result ≡ hear_of p mt gid oid m.now }
 {
-    let mine = expected(p, mt, gid, oid);
-    let ours = contents::written(mt, gid, oid, m);
-    if mine {
-        if ours {
-            heard_written(p, mt, gid, oid, m)
-        } else {
-            Heard::Nothing
-        }
+    if !expected(p, mt, gid, oid) {
+        return Heard::Dropped;
+    }
+    if contents::written(mt, gid, oid, m) {
+        heard_written(p, mt, gid, oid, m)
     } else {
-        Heard::Dropped
+        Heard::Nothing
     }
 }
 
@@ -213,11 +188,8 @@ pub fn credits_for(m: &[u8], conn: u8) -> usize
 {
     let n = octets::octet_at(m, fields::ENTRY_COUNT) as usize;
     let mut sum: usize = 0;
-    let mut i: usize = 0;
-    while i < n {
-        let more = entry_for(m, i, conn);
-        sum += more as usize;
-        i += 1;
+    for i in 0..n {
+        sum += entry_for(m, i, conn) as usize;
     }
     sum
 }
@@ -228,12 +200,9 @@ fn names_closed(conns: [Counts; 5], m: &[u8], n: usize) -> bool
     ensures { result ≡ names_closed (held_open conns) m.now n }
 {
     let mut closed = false;
-    let mut i: usize = 0;
-    while i < n {
+    for i in 0..n {
         let id = octets::octet_at(m, fields::ENTRY_CONN + fields::ENTRY_SIZE * i);
-        let opened = conn::held_open(conns, id);
-        closed = closed | !opened;
-        i += 1;
+        closed = closed | !conn::held_open(conns, id);
     }
     closed
 }
@@ -279,21 +248,22 @@ pub fn host_after(h: Host, x: Heard) -> Host
 pub fn credited(s: HostSide, n: usize) -> HostSide
     ensures { result ≡ credited s n }
 {
-    let mut next = s;
     if s.opened & (s.grant != conn::UNMETERED) {
-        next.held = conn::credit_sum(s.held, n);
+        HostSide {
+            held: conn::credit_sum(s.held, n),
+            ..s
+        }
+    } else {
+        s
     }
-    next
 }
 
 // The credits of a notice are added to one connection.
 fn credited_at(conns: [Counts; 5], m: &[u8], conn: u8) -> [Counts; 5]
     ensures { result ≡ credited_at conns m.now conn }
 {
-    let n = credits_for(m, conn);
     let c = conn::counts_of(conns, conn);
-    let next = credited(c.host, n);
-    conn::with_host(conns, conn, next)
+    conn::with_host(conns, conn, credited(c.host, credits_for(m, conn)))
 }
 
 // The credits of a notice are added to all connections.
@@ -345,8 +315,7 @@ pub fn drop_heard(conns: [Counts; 5], m: &[u8], x: Heard) -> bool
         Heard::Activated(_) => false,
         Heard::Deactivated => false,
         Heard::Credits => {
-            let n = octets::octet_at(m, fields::ENTRY_COUNT) as usize;
-            names_closed(conns, m, n)
+            names_closed(conns, m, octets::octet_at(m, fields::ENTRY_COUNT) as usize)
         }
     }
 }

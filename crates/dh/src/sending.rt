@@ -13,10 +13,10 @@ use state::kinds::{Host, HostSide};
 pub fn sent(h: HostSide, n: usize) -> HostSide
     ensures { result ≡ sent_side n h }
 {
-    let mut next = h;
-    let hand = conn::hand_with(n);
-    next.hand = hand;
-    next
+    HostSide {
+        hand: conn::hand_with(n),
+        ..h
+    }
 }
 
 // The credits held after a packet has gone.
@@ -24,30 +24,20 @@ fn spent(grant: u8, held: u8) -> u8
     ensures { result ≡ pick (flows grant) (held - 1) held }
 {
     if grant == conn::UNMETERED {
-        return held;
+        held
+    } else {
+        held.saturating_sub(1)
     }
-    if held == 0 {
-        return 0;
-    }
-    held - 1
 }
 
 // The connection after a packet of the message in hand has gone.
 pub fn pushed(h: HostSide) -> HostSide
     ensures { result ≡ pushed_side h }
 {
-    let size = h.payload as usize;
-    let hand = h.hand;
-    let run = h.run;
-    let held = spent(h.grant, h.held);
-    let next = conn::hand_after(size, hand);
     HostSide {
-        opened: h.opened,
-        payload: h.payload,
-        grant: h.grant,
-        held: held,
-        hand: next,
-        run: run,
+        held: spent(h.grant, h.held),
+        hand: conn::hand_after(h.payload as usize, h.hand),
+        ..h
     }
 }
 

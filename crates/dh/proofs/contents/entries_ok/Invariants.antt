@@ -5,7 +5,4 @@ use Rattle.dh.specs.Contents.{entries_ok}
 use Rattle.dh.proofs.contents.entries_ok.Given as goal
 
 abbrev pub invariant-loop-i : goal.invariant-loop-i
-invariant-loop-i l = (l.i ≤ l.n) × (l.all ≡ entries_ok l.m l.i)
-
-abbrev pub decreases-loop-i : goal.decreases-loop-i
-decreases-loop-i l = l.n - l.i
+invariant-loop-i l = l.all ≡ entries_ok l.m l.i

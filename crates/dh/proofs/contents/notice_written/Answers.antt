@@ -8,7 +8,7 @@ pub returns-in-Credits : goal.returns-in-Credits
 returns-in-Credits c = rw c.in-Credits.is c.credits_written.ensures
 
 pub returns-in-GenericError : goal.returns-in-GenericError
-returns-in-GenericError c = rw c.in-GenericError.is c.error_written.ensures
+returns-in-GenericError c = rw c.in-GenericError.is c.alone.ensures
 
 pub returns-in-Discover : goal.returns-in-Discover
 returns-in-Discover c = rw c.in-Discover.is c.discover_written.ensures

@@ -8,15 +8,10 @@ use Rattle.dh.proofs.contents.zeros.Goals as goal
 
 pub loop-k-init : goal.loop-k-init
 unfolding zeros
-loop-k-init c = (search rules, refl)
+loop-k-init c = refl
 
 pub loop-k-preserved : goal.loop-k-preserved
 unfolding zeros
 loop-k-preserved c =
     let h = c.loop-k in
-    (search rules, rw (add-one h.k, c.octet_at-o.ensures, h.invariant.1))
-
-pub returns : goal.returns
-returns c =
-    let whole : c.loop-k.k ≡ c.args.n = omega arith in
-    c.loop-k.invariant.1 ∙ rw whole
+    rw (add-one h.k, c.octet_at.ensures, h.invariant)

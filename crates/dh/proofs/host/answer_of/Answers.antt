@@ -4,10 +4,10 @@ use borrow.Author.Tests.{eq-eqb, ne_eqb}
 use Rattle.dh.specs.Host.{answer_of}
 use Rattle.dh.proofs.host.answer_of.Goals as goal
 
-pub returns-then-status-eq-STATUS_OK : goal.returns-then-status-eq-STATUS_OK
+pub returns-then-octet_at-eq-STATUS_OK : goal.returns-then-octet_at-eq-STATUS_OK
 unfolding answer_of
-returns-then-status-eq-STATUS_OK c = rw (eq-eqb _ 0 (sym c.octet_at-status.ensures ∙ c.if-status-eq-STATUS_OK.true)) c.ok_answer.ensures
+returns-then-octet_at-eq-STATUS_OK c = rw (eq-eqb _ 0 (sym c.octet_at.ensures ∙ c.if-octet_at-eq-STATUS_OK.true)) c.ok_answer.ensures
 
-pub returns-else-status-eq-STATUS_OK : goal.returns-else-status-eq-STATUS_OK
+pub returns-else-octet_at-eq-STATUS_OK : goal.returns-else-octet_at-eq-STATUS_OK
 unfolding answer_of
-returns-else-status-eq-STATUS_OK c = rw (ne_eqb _ 0 (λ q. c.if-status-eq-STATUS_OK.false (c.octet_at-status.ensures ∙ q)))
+returns-else-octet_at-eq-STATUS_OK c = rw (ne_eqb _ 0 (λ q. c.if-octet_at-eq-STATUS_OK.false (c.octet_at.ensures ∙ q)))

@@ -8,18 +8,12 @@ use Rattle.dh.proofs.host.credits_for.Goals as goal
 
 pub loop-i-init : goal.loop-i-init
 unfolding credits_in
-loop-i-init c = (search rules, refl, search rules)
+loop-i-init c = (refl, search rules)
 
 pub loop-i-preserved : goal.loop-i-preserved
 unfolding credits_in
 loop-i-preserved c =
     let h = c.loop-i in (
-      search rules,
-      rw (add-one h.i, c.entry_for-more.ensures, h.invariant.1),
+      rw (add-one h.i, c.entry_for.ensures, h.invariant.0),
       search rules,
     )
-
-pub returns : goal.returns
-returns c =
-    let all : c.loop-i.i ≡ c.octet_at-n.result = omega arith in
-    c.loop-i.invariant.1 ∙ rw (all, c.octet_at-n.ensures)

@@ -24,4 +24,4 @@ returns-in-Deactivated c = rw c.in-Deactivated.is
 
 pub returns-in-Credits : goal.returns-in-Credits
 unfolding drop_heard
-returns-in-Credits c = rw (c.in-Credits.is, c.names_closed.ensures, c.octet_at-n.ensures)
+returns-in-Credits c = rw (c.in-Credits.is, c.names_closed.ensures, c.octet_at.ensures)

@@ -3,20 +3,20 @@ use mathlib.Core.Path.{sym, ◌∙◌}
 use Rattle.dh.specs.Host.{hear_of}
 use Rattle.dh.proofs.host.hear.Goals as goal
 
-pub returns-then-ours : goal.returns-then-ours
+pub returns-then-not-expected : goal.returns-then-not-expected
 unfolding hear_of
-returns-then-ours c =
-    let mine = sym c.expected-mine.ensures ∙ c.if-mine.true in
-    let ours = sym c.written-ours.ensures ∙ c.if-ours.true in
+returns-then-not-expected c = let mine = sym c.expected.ensures ∙ c.if-not-expected.true in rw mine
+
+pub returns-then-written : goal.returns-then-written
+unfolding hear_of
+returns-then-written c =
+    let mine = sym c.expected.ensures ∙ c.if-not-expected.false in
+    let ours = sym c.written.ensures ∙ c.if-written.true in
     rw (mine, ours) c.heard_written.ensures
 
-pub returns-else-ours : goal.returns-else-ours
+pub returns-else-written : goal.returns-else-written
 unfolding hear_of
-returns-else-ours c =
-    let mine = sym c.expected-mine.ensures ∙ c.if-mine.true in
-    let ours = sym c.written-ours.ensures ∙ c.if-ours.false in
+returns-else-written c =
+    let mine = sym c.expected.ensures ∙ c.if-not-expected.false in
+    let ours = sym c.written.ensures ∙ c.if-written.false in
     rw (mine, ours)
-
-pub returns-else-mine : goal.returns-else-mine
-unfolding hear_of
-returns-else-mine c = let mine = sym c.expected-mine.ensures ∙ c.if-mine.false in rw mine

@@ -8,15 +8,10 @@ use Rattle.dh.proofs.host.names_closed.Goals as goal
 
 pub loop-i-init : goal.loop-i-init
 unfolding names_closed
-loop-i-init c = (search rules, refl)
+loop-i-init c = refl
 
 pub loop-i-preserved : goal.loop-i-preserved
 unfolding names_closed
 loop-i-preserved c =
     let h = c.loop-i in
-    (search rules, rw (add-one h.i, c.held_open-opened.ensures, c.octet_at-id.ensures, h.invariant.1))
-
-pub returns : goal.returns
-returns c =
-    let all : c.loop-i.i ≡ c.args.n = omega arith in
-    c.loop-i.invariant.1 ∙ rw all
+    rw (add-one h.i, c.held_open.ensures, c.octet_at-id.ensures, h.invariant)

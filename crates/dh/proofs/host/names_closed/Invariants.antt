@@ -6,7 +6,4 @@ use Rattle.dh.specs.Host.{names_closed}
 use Rattle.dh.proofs.host.names_closed.Given as goal
 
 abbrev pub invariant-loop-i : goal.invariant-loop-i
-invariant-loop-i l = (l.i ≤ l.n) × (l.closed ≡ names_closed (held_open l.conns) l.m l.i)
-
-abbrev pub decreases-loop-i : goal.decreases-loop-i
-decreases-loop-i l = l.n - l.i
+invariant-loop-i l = l.closed ≡ names_closed (held_open l.conns) l.m l.i

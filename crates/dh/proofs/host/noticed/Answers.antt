@@ -2,7 +2,7 @@
 use Rattle.dh.proofs.host.noticed.Goals as goal
 
 pub returns-in-Activated : goal.returns-in-Activated
-returns-in-Activated c = rw (c.octet_at-credits.ensures, c.octet_at-payload.ensures, c.in-Activated.is)
+returns-in-Activated c = rw (c.octet_at-in-Activated.ensures, c.octet_at.ensures, c.in-Activated.is)
 
 pub returns-in-Deactivate : goal.returns-in-Deactivate
 returns-in-Deactivate c = rw c.in-Deactivate.is

@@ -2,11 +2,11 @@
 use Rattle.dh.proofs.host.ok_answer.Goals as goal
 
 pub returns-in-Init : goal.returns-in-Init
-returns-in-Init c = rw (c.octet_at-size.ensures, c.in-Init.is)
+returns-in-Init c = rw (c.octet_at.ensures, c.in-Init.is)
 
 pub returns-in-ConnCreate : goal.returns-in-ConnCreate
 returns-in-ConnCreate c =
-    rw (c.octet_at-id.ensures, c.octet_at-credits.ensures, c.octet_at-payload.ensures, c.in-ConnCreate.is)
+    rw (c.octet_at-in-ConnCreate.ensures, c.octet_at-in-ConnCreate-2.ensures, c.octet_at-in-ConnCreate-3.ensures, c.in-ConnCreate.is)
 
 pub returns-in-ConnClose : goal.returns-in-ConnClose
 returns-in-ConnClose c = rw c.in-ConnClose.is
