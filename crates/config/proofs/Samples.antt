@@ -8,7 +8,7 @@ use Rattle.config.specs.Commands.{param_at, set_first, invalid_in, shown_in, una
 use Rattle.config.specs.Samples.{Samples}
 
 pub samples : Samples
-unfolding table row_at row_of all_allowed acceptable value_in with_value restored clear row_ok rows_ok param_at set_first invalid_in shown_in unavailable_in unavailable_count cut over splice
+unfolding table row_at row_of all_allowed acceptable value_in with_value restored row_ok rows_ok param_at set_first invalid_in shown_in unavailable_in unavailable_count cut over splice
 samples =
     record {
       all_restored_law = refl;

@@ -54,8 +54,8 @@ defaults =
 
 -- ---- row 1
 
--- the n octets from index i on are all 00
-unfoldable pub clear : Octets → ℕ → ℕ → Bool
+-- the n octets from index i on are all 00. It opens freely, so that `zeros` of dh/Contents, which is this, opens with it
+abbrev pub clear : Octets → ℕ → ℕ → Bool
 clear b i zero = true
 clear b i (suc n) = clear b i n && eqb (get_or b (i + n) 0) 0x00
 

@@ -12,6 +12,7 @@ use Rattle.state.specs.Conn.{place_of}
 use Rattle.state.specs.Commands.{command_of}
 use Rattle.state.specs.Radio.{polls, listens, id_ok}
 use Rattle.state.specs.Profile.{least_size, credits_ok}
+use Rattle.config.specs.Stored.{clear}
 use Rattle.config.specs.Written.{set_written, get_written}
 
 -- ---- the notifications (003, Table 139)
@@ -41,9 +42,8 @@ abbrev pub ok_alone : Octets → Bool
 ok_alone m = alone status_ok m
 
 -- the n octets from index i on are all 00
-unfoldable pub zeros : Octets → ℕ → ℕ → Bool
-zeros m i zero = true
-zeros m i (suc n) = zeros m i n && eqb (get_or m (i + n) 0) 0x00
+abbrev pub zeros : Octets → ℕ → ℕ → Bool
+zeros m i n = clear m i n
 
 unfoldable pub init_written : Octets → Bool
 init_written m =

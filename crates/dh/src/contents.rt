@@ -72,43 +72,35 @@ fn zeros(m: &[u8], i: usize, n: usize) -> bool
 fn init_front(m: &[u8]) -> bool
     ensures { result ≡ init_front m.now }
 {
-    let status = zeros(m, fields::STATUS, 5);
-    let most = octets::octet_at(m, fields::INIT_CONNS);
-    let routes = zeros(m, fields::INIT_ROUTES, 2);
-    (m.len() == fields::INIT_LENGTH) & status & (most == 0x04) & routes
+    (m.len() == fields::INIT_LENGTH)
+        & zeros(m, fields::STATUS, 5)
+        & (octets::octet_at(m, fields::INIT_CONNS) == 0x04)
+        & zeros(m, fields::INIT_ROUTES, 2)
 }
 
 // A CORE_INIT_RSP of the bench: 16 octets, of which the control payload alone is free.
+#[tactic(auto, unfolding(crate::specs::Contents::init_written))]
 fn init_written(m: &[u8]) -> bool
     ensures { result ≡ init_written m.now }
 {
-    let front = init_front(m);
-    let size = octets::octet_at(m, fields::INIT_CONTROL);
-    let hci = zeros(m, fields::INIT_HCI, 4);
-    let count = octets::octet_at(m, fields::INIT_INTERFACES);
-    let frame = octets::octet_at(m, fields::INIT_INTERFACE);
-    let extension = zeros(m, fields::INIT_EXTENSIONS, 1);
-    front
-        & (LEAST_SIZE <= size)
-        & hci
-        & (count == 0x01)
-        & (frame == names::FRAME_INTERFACE)
-        & extension
+    init_front(m)
+        & (LEAST_SIZE <= octets::octet_at(m, fields::INIT_CONTROL))
+        & zeros(m, fields::INIT_HCI, 4)
+        & (octets::octet_at(m, fields::INIT_INTERFACES) == 0x01)
+        & (octets::octet_at(m, fields::INIT_INTERFACE) == names::FRAME_INTERFACE)
+        & zeros(m, fields::INIT_EXTENSIONS, 1)
 }
 
 // A CORE_CONN_CREATE_RSP that opens one of the connections 2-5.
+#[tactic(auto, unfolding(crate::specs::Contents::create_written))]
 pub fn create_written(m: &[u8]) -> bool
     ensures { result ≡ create_written m.now }
 {
-    let status = octets::octet_at(m, fields::STATUS);
-    let payload = octets::octet_at(m, fields::CREATE_PAYLOAD);
-    let credits = octets::octet_at(m, fields::CREATE_CREDITS);
     let id = octets::octet_at(m, fields::CREATE_CONN);
-    let ok = credits_ok(credits);
     (m.len() == fields::CREATE_LENGTH)
-        & (status == names::STATUS_OK)
-        & (1 <= payload)
-        & ok
+        & (octets::octet_at(m, fields::STATUS) == names::STATUS_OK)
+        & (1 <= octets::octet_at(m, fields::CREATE_PAYLOAD))
+        & credits_ok(octets::octet_at(m, fields::CREATE_CREDITS))
         & (2 <= id)
         & (id <= 5)
 }
@@ -136,15 +128,11 @@ fn ok_written(c: Command, m: &[u8]) -> bool
 fn reset_written(m: &[u8]) -> bool
     ensures { result ≡ reset_written m.now }
 {
-    let trigger = octets::octet_at(m, fields::RESET_TRIGGER);
-    let config = octets::octet_at(m, fields::RESET_CONFIG);
-    let version = octets::octet_at(m, fields::RESET_VERSION);
-    let maker = zeros(m, fields::RESET_MAKER, 2);
     (m.len() == fields::RESET_LENGTH)
-        & (trigger == 0x02)
-        & (config <= 1)
-        & (version == 0x20)
-        & maker
+        & (octets::octet_at(m, fields::RESET_TRIGGER) == 0x02)
+        & (octets::octet_at(m, fields::RESET_CONFIG) <= 1)
+        & (octets::octet_at(m, fields::RESET_VERSION) == 0x20)
+        & zeros(m, fields::RESET_MAKER, 2)
 }
 
 // Entry i of a CORE_CONN_CREDITS_NTF: a Conn ID that there is, with 1-8 credits.
@@ -154,8 +142,7 @@ fn entry_ok(m: &[u8], i: usize) -> bool
 {
     let id = octets::octet_at(m, fields::ENTRY_CONN + fields::ENTRY_SIZE * i);
     let credits = octets::octet_at(m, fields::ENTRY_CREDITS + fields::ENTRY_SIZE * i);
-    let place = conn::place_of(id);
-    (place < 5) & (1 <= credits) & (credits <= 8)
+    (conn::place_of(id) < 5) & (1 <= credits) & (credits <= 8)
 }
 
 // Whether entry i's Conn ID is above that of the entry before it.
@@ -184,57 +171,54 @@ fn entries_ok(m: &[u8], n: usize) -> bool
 }
 
 // A CORE_CONN_CREDITS_NTF of the bench: 1-5 entries, and no octet more.
+#[tactic(auto, unfolding(crate::specs::Contents::credits_written))]
 pub fn credits_written(m: &[u8]) -> bool
     ensures { result ≡ credits_written m.now }
 {
     let n = octets::octet_at(m, fields::ENTRY_COUNT) as usize;
-    let ok = entries_ok(m, n);
-    (1 <= n) & (n <= 5) & (m.len() == fields::ENTRY_CONN + fields::ENTRY_SIZE * n) & ok
+    (1 <= n)
+        & (n <= 5)
+        & (m.len() == fields::ENTRY_CONN + fields::ENTRY_SIZE * n)
+        & entries_ok(m, n)
 }
 
 // An RF_DISCOVER_NTF of the bench.
+#[tactic(auto, unfolding(crate::specs::Contents::discover_written))]
 fn discover_written(m: &[u8]) -> bool
     ensures { result ≡ discover_written m.now }
 {
-    let id = octets::octet_at(m, fields::FOUND_ID);
-    let mode = octets::octet_at(m, fields::FOUND_MODE);
     let n = octets::octet_at(m, fields::FOUND_PARAMS_LENGTH) as usize;
-    let kind = octets::octet_at(m, fields::FOUND_TYPE + n);
-    let named = radio::id_ok(id);
-    let polled = radio::polls(mode);
-    named
-        & polled
+    radio::id_ok(octets::octet_at(m, fields::FOUND_ID))
+        & radio::polls(octets::octet_at(m, fields::FOUND_MODE))
         & (n <= 32)
         & (m.len() == fields::FOUND_LENGTH + n)
-        & (kind <= names::MORE_FOLLOW)
+        & (octets::octet_at(m, fields::FOUND_TYPE + n) <= names::MORE_FOLLOW)
 }
 
 // The front of an RF_INTF_ACTIVATED_NTF, up to the payload size of connection 0: the Frame interface alone.
 fn activated_front(m: &[u8]) -> bool
     ensures { result ≡ activated_front m.now }
 {
-    let id = octets::octet_at(m, fields::ACTIVATED_ID);
-    let interface = octets::octet_at(m, fields::ACTIVATED_INTERFACE);
     let mode = octets::octet_at(m, fields::ACTIVATED_MODE);
-    let payload = octets::octet_at(m, fields::ACTIVATED_PAYLOAD);
-    let named = radio::id_ok(id);
-    let polled = radio::polls(mode);
-    let listened = radio::listens(mode);
-    named & (interface == names::FRAME_INTERFACE) & (polled | listened) & (1 <= payload)
+    radio::id_ok(octets::octet_at(m, fields::ACTIVATED_ID))
+        & (octets::octet_at(m, fields::ACTIVATED_INTERFACE) == names::FRAME_INTERFACE)
+        & (radio::polls(mode) | radio::listens(mode))
+        & (1 <= octets::octet_at(m, fields::ACTIVATED_PAYLOAD))
 }
 
 // An RF_INTF_ACTIVATED_NTF of the bench: its mode stands twice, and it has no activation parameters.
+#[tactic(auto, unfolding(crate::specs::Contents::activated_written))]
 pub fn activated_written(m: &[u8]) -> bool
     ensures { result ≡ activated_written m.now }
 {
     let mode = octets::octet_at(m, fields::ACTIVATED_MODE);
-    let credits = octets::octet_at(m, fields::ACTIVATED_CREDITS);
     let n = octets::octet_at(m, fields::ACTIVATED_PARAMS_LENGTH) as usize;
-    let again = octets::octet_at(m, fields::ACTIVATED_EXCHANGE + n);
-    let rest = zeros(m, fields::ACTIVATED_RATES + n, 3);
-    let ok = credits_ok(credits);
-    let front = activated_front(m);
-    front & ok & (n <= 32) & (m.len() == fields::ACTIVATED_LENGTH + n) & (again == mode) & rest
+    activated_front(m)
+        & credits_ok(octets::octet_at(m, fields::ACTIVATED_CREDITS))
+        & (n <= 32)
+        & (m.len() == fields::ACTIVATED_LENGTH + n)
+        & (octets::octet_at(m, fields::ACTIVATED_EXCHANGE + n) == mode)
+        & zeros(m, fields::ACTIVATED_RATES + n, 3)
 }
 
 // An RF_DEACTIVATE_NTF of the bench: of any type where the host asked, or the endpoint's sleep, lost link or release.
@@ -272,12 +256,8 @@ pub fn written(mt: u8, gid: u8, oid: u8, m: &[u8]) -> bool
     ensures { result ≡ written mt gid oid m.now }
 {
     if mt == packets::RESPONSE {
-        let c = commands::command_of(gid, oid);
-        let alone = status_alone(m);
-        let ok = ok_written(c, m);
-        alone | ok
+        status_alone(m) | ok_written(commands::command_of(gid, oid), m)
     } else {
-        let n = notice_of(gid, oid);
-        notice_written(n, m)
+        notice_written(notice_of(gid, oid), m)
     }
 }

@@ -12,7 +12,6 @@ use Rattle.config.specs.Stored.{clear}
 use Rattle.config.proofs.stored.clear_past.Goals as goal
 
 one_more : (b : Octets) (i n k : ℕ) → (clear b (i + n) (k - n) && (ltb k n || eqb (get_or b (i + k) 0) 0)) ≡ clear b (i + n) (k + 1 - n)
-unfolding clear
 one_more b i n k = go (ltb k n) refl
   where
     go : (t : Bool) → ltb k n ≡ t → (clear b (i + n) (k - n) && (t || eqb (get_or b (i + k) 0) 0)) ≡ clear b (i + n) (k + 1 - n)
@@ -26,7 +25,6 @@ one_more b i n k = go (ltb k n) refl
         (λ j. clear b (i + n) (k - n) && eqb (get_or b (same j) 0) 0) ∙ sym (ap (clear b (i + n)) next)
 
 pub loop-k-init : goal.loop-k-init
-unfolding clear
 loop-k-init c = let none : 0 - c.args.n ≡ 0 = omega arith in rw none
 
 pub loop-k-preserved : goal.loop-k-preserved

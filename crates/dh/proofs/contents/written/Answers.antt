@@ -6,8 +6,8 @@ use Rattle.dh.proofs.contents.written.Goals as goal
 pub returns-then-mt-eq-RESPONSE : goal.returns-then-mt-eq-RESPONSE
 unfolding written
 returns-then-mt-eq-RESPONSE c =
-    rw (eq-eqb _ 2 c.if-mt-eq-RESPONSE.true, c.ok_written-ok.ensures, c.status_alone-alone.ensures, c.command_of-c.ensures)
+    rw (eq-eqb _ 2 c.if-mt-eq-RESPONSE.true, c.ok_written.ensures, c.status_alone.ensures, c.command_of.ensures)
 
 pub returns-else-mt-eq-RESPONSE : goal.returns-else-mt-eq-RESPONSE
 unfolding written
-returns-else-mt-eq-RESPONSE c = rw (ne_eqb _ 2 c.if-mt-eq-RESPONSE.false, c.notice_written.ensures, c.notice_of-n.ensures)
+returns-else-mt-eq-RESPONSE c = rw (ne_eqb _ 2 c.if-mt-eq-RESPONSE.false, c.notice_written.ensures, c.notice_of.ensures)

@@ -7,11 +7,9 @@ use Rattle.dh.specs.Contents.{zeros}
 use Rattle.dh.proofs.contents.zeros.Goals as goal
 
 pub loop-k-init : goal.loop-k-init
-unfolding zeros
 loop-k-init c = refl
 
 pub loop-k-preserved : goal.loop-k-preserved
-unfolding zeros
 loop-k-preserved c =
     let h = c.loop-k in
     rw (add-one h.k, c.octet_at.ensures, h.invariant)
