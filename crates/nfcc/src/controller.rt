@@ -1,8 +1,7 @@
 // The controller's judgement of a whole command (document 01, "What the controller answers"). What a verdict does is in effects.
 ghost use Rattle.std.specs.Prelude.{◌≡◌};
-ghost use Rattle.nfcc.specs.Kinds.rf.{ListenActive, ListenSleep};
 ghost use Rattle.state.specs.Conn.{open_at};
-ghost use Rattle.nfcc.specs.Controller.{shortest, is_reset, is_ready, allowed, reset_by, after, next_id, opens_as, create_by, close_by, config_ok, configs_ok, discover_by, select_by, sleep_rejected, rest_state, ended, deactivate_by, set_by, values_of, judge_of};
+ghost use Rattle.nfcc.specs.Controller.{shortest, allowed, reset_by, after, next_id, create_by, close_by, config_ok, configs_ok, discover_by, select_by, sleep_rejected, rest_state, ended, deactivate_by, set_by, values_of, judge_of};
 
 use config::set;
 use state::commands::Command;
@@ -16,67 +15,36 @@ use state::verdict::{Status, Verdict};
 use state::{commands, fields};
 
 // The octets that a command must have; an unknown one is judged whatever its payload.
+#[tactic(auto, unfolding(crate::specs::Controller::shortest))]
 fn shortest(c: Command, m: &[u8]) -> usize
     ensures { result ≡ shortest c m.now }
 {
     match c {
-        Command::Reset => 1,
-        Command::Init => 2,
-        Command::ConnCreate => 2,
-        Command::ConnClose => 1,
-        Command::Discover => fields::CONFIG_MODE
-            + fields::CONFIG_SIZE * (octets::octet_at(m, fields::CONFIG_COUNT) as usize),
-        Command::Select => 3,
-        Command::Deactivate => 1,
         Command::Unknown => 0,
+        Command::Reset | Command::ConnClose | Command::Deactivate => 1,
+        Command::Init | Command::ConnCreate => 2,
+        Command::Select => 3,
+        Command::Discover => fields::CONFIG_MODE
+            + fields::CONFIG_SIZE * usize::from(octets::octet_at(m, fields::CONFIG_COUNT)),
         Command::SetConfig => set::list_end(m, octets::octet_at(m, 0)),
-        Command::GetConfig => 1 + (octets::octet_at(m, 0) as usize),
-    }
-}
-
-// After a RESET that no INIT has followed.
-fn is_reset(p: Phase) -> bool
-    ensures { result ≡ is_reset p }
-{
-    match p {
-        Phase::Cold => false,
-        Phase::Reset => true,
-        Phase::Ready => false,
-    }
-}
-
-// After INIT.
-fn is_ready(p: Phase) -> bool
-    ensures { result ≡ is_ready p }
-{
-    match p {
-        Phase::Cold => false,
-        Phase::Reset => false,
-        Phase::Ready => true,
+        Command::GetConfig => 1 + usize::from(octets::octet_at(m, 0)),
     }
 }
 
 // Whether a command is taken in a phase: RESET in every one, INIT once after each RESET, the others after INIT.
+#[tactic(auto, unfolding(crate::specs::Controller::allowed))]
 fn allowed(p: Phase, c: Command) -> bool
     ensures { result ≡ allowed p c }
 {
-    let reset = is_reset(p);
-    let ready = is_ready(p);
     match c {
-        Command::Reset => true,
-        Command::Init => reset,
-        Command::ConnCreate => ready,
-        Command::ConnClose => ready,
-        Command::Discover => ready,
-        Command::Select => ready,
-        Command::Deactivate => ready,
-        Command::Unknown => true,
-        Command::SetConfig => ready,
-        Command::GetConfig => ready,
+        Command::Reset | Command::Unknown => true,
+        Command::Init => matches!(p, Phase::Reset),
+        _ => matches!(p, Phase::Ready),
     }
 }
 
 // CORE_RESET_CMD: type 0 or 1.
+#[tactic(auto, unfolding(crate::specs::Controller::reset_by))]
 fn reset_by(kind: u8) -> Result<Verdict, Status>
     ensures { result ≡ reset_by kind }
 {
@@ -88,15 +56,13 @@ fn reset_by(kind: u8) -> Result<Verdict, Status>
 }
 
 // The Conn ID after another, round 2-5; 2 after none.
+#[tactic(auto, unfolding(crate::specs::Controller::after))]
 fn after(id: u8) -> u8
     ensures { result ≡ after id }
 {
-    if id < 2 {
-        2
-    } else if id < 5 {
-        id + 1
-    } else {
-        2
+    match id {
+        2..=4 => id + 1,
+        _ => 2,
     }
 }
 
@@ -130,12 +96,12 @@ fn create_by(p: Profile, conns: [Counts; 5], given: u8, m: &[u8]) -> Result<Verd
 }
 
 // CORE_CONN_CLOSE_CMD: the low four bits name an open dynamic connection.
+#[tactic(auto, unfolding(crate::specs::Controller::close_by))]
 fn close_by(conns: [Counts; 5], octet: u8) -> Result<Verdict, Status>
     ensures { result ≡ close_by (open_at conns) octet }
 {
     let id = octet % 16;
-    let opened = open_at(conns, id);
-    if (id != 0) & opened {
+    if (id != 0) & open_at(conns, id) {
         Ok(Verdict::Closes(id))
     } else {
         Err(Status::Rejected)
@@ -147,37 +113,34 @@ fn close_by(conns: [Counts; 5], octet: u8) -> Result<Verdict, Status>
 fn config_ok(mode: u8, frequency: u8) -> bool
     ensures { result ≡ config_ok mode frequency }
 {
-    let polling = polls(mode);
-    let listening = listens(mode);
-    (polling & ((0x01 <= frequency) & (frequency <= 0x0A))) | (listening & (frequency == 0x01))
+    (polls(mode) & ((0x01 <= frequency) & (frequency <= 0x0A)))
+        | (listens(mode) & (frequency == 0x01))
 }
 
 // Whether the first n pairs of mode and frequency, after the octet that counts them, are such.
+#[tactic(auto, unfolding(crate::specs::Controller::configs_ok))]
 fn configs_ok(m: &[u8], n: u8) -> bool
     ensures { result ≡ configs_ok m.now n }
 {
-    let count = n as usize;
     let mut ok = true;
-    let mut i: usize = 0;
-    while i < count {
-        let mode = octets::octet_at(m, fields::CONFIG_MODE + fields::CONFIG_SIZE * i);
-        let frequency = octets::octet_at(m, fields::CONFIG_FREQUENCY + fields::CONFIG_SIZE * i);
-        ok = ok & config_ok(mode, frequency);
-        i += 1;
+    for i in 0..usize::from(n) {
+        let at = fields::CONFIG_SIZE * i;
+        let mode = octets::octet_at(m, fields::CONFIG_MODE + at);
+        let frequency = octets::octet_at(m, fields::CONFIG_FREQUENCY + at);
+        ok &= config_ok(mode, frequency);
     }
     ok
 }
 
 // RF_DISCOVER_CMD, in IDLE alone: up to eight pairs of mode and frequency.
+#[tactic(auto, unfolding(crate::specs::Controller::discover_by))]
 fn discover_by(rf: Rf, m: &[u8]) -> Result<Verdict, Status>
     ensures { result ≡ discover_by rf m.now }
 {
-    let idle = is_idle(rf);
     let n = octets::octet_at(m, fields::CONFIG_COUNT);
-    let ok = configs_ok(m, n);
-    if !idle {
+    if !is_idle(rf) {
         Err(Status::AlreadyStarted)
-    } else if (n <= 8) & ok {
+    } else if n <= 8 && configs_ok(m, n) {
         Ok(Verdict::Turns(Rf::Discovery))
     } else {
         Err(Status::Rejected)
@@ -190,19 +153,13 @@ fn select_by(rf: Rf, ps: Pairs, p: Pair, interface: u8) -> Result<Verdict, Statu
 {
     match rf {
         Rf::W4HostSelect(_) => {
-            let found = is_listed(ps, p);
-            if found & (interface == FRAME_INTERFACE) {
+            if is_listed(ps, p) & (interface == FRAME_INTERFACE) {
                 Ok(Verdict::Selects(p))
             } else {
                 Err(Status::Rejected)
             }
         }
-        Rf::Idle => Err(Status::SemanticError),
-        Rf::Discovery => Err(Status::SemanticError),
-        Rf::W4AllDiscoveries => Err(Status::SemanticError),
-        Rf::PollActive(_) => Err(Status::SemanticError),
-        Rf::ListenActive(_) => Err(Status::SemanticError),
-        Rf::ListenSleep => Err(Status::SemanticError),
+        _ => Err(Status::SemanticError),
     }
 }
 
@@ -232,66 +189,35 @@ fn ended(kind: u8, asleep: Rf) -> Verdict
     Verdict::Deactivates(kind, rest_state(kind, asleep))
 }
 
-// RF_DEACTIVATE_CMD in LISTEN_ACTIVE. A type over 3 is RFU.
-fn listen_ended(a: Activation, kind: u8) -> Result<Verdict, Status>
-    ensures { result ≡ deactivate_by (ListenActive a) kind }
-{
-    let kept = sleep_rejected(a, kind);
-    if TO_DISCOVERY < kind {
-        Err(Status::SyntaxError)
-    } else if kept {
-        Err(Status::Rejected)
-    } else {
-        Ok(ended(kind, Rf::ListenSleep))
-    }
-}
-
-// RF_DEACTIVATE_CMD in LISTEN_SLEEP: only type 0 is taken.
-fn rested(kind: u8) -> Result<Verdict, Status>
-    ensures { result ≡ deactivate_by ListenSleep kind }
-{
-    if TO_DISCOVERY < kind {
-        Err(Status::SyntaxError)
-    } else if kind == TO_IDLE {
-        Ok(Verdict::Turns(Rf::Idle))
-    } else {
-        Err(Status::SemanticError)
-    }
-}
-
 // RF_DEACTIVATE_CMD. Where the type is ignored, any is taken as 0, to IDLE: in both W4 states, and in DISCOVERY (003, L1824),
-// where document 01 would look at it.
+// where document 01 would look at it. A type over 3 is RFU. In LISTEN_SLEEP only type 0 is taken.
+#[tactic(auto, unfolding(crate::specs::Controller::deactivate_by))]
 fn deactivate_by(rf: Rf, kind: u8) -> Result<Verdict, Status>
     ensures { result ≡ deactivate_by rf kind }
 {
     match rf {
         Rf::Idle => Err(Status::SemanticError),
-        Rf::Discovery => rested(TO_IDLE),
-        Rf::W4AllDiscoveries => rested(TO_IDLE),
-        Rf::W4HostSelect(_) => rested(TO_IDLE),
-        Rf::ListenSleep => rested(kind),
-        Rf::PollActive(_) => {
-            if TO_DISCOVERY < kind {
-                Err(Status::SyntaxError)
-            } else {
-                Ok(ended(kind, Rf::W4HostSelect(None)))
-            }
-        }
-        Rf::ListenActive(a) => listen_ended(a, kind),
+        Rf::Discovery | Rf::W4AllDiscoveries | Rf::W4HostSelect(_) => Ok(Verdict::Turns(Rf::Idle)),
+        _ if TO_DISCOVERY < kind => Err(Status::SyntaxError),
+        Rf::ListenSleep if kind == TO_IDLE => Ok(Verdict::Turns(Rf::Idle)),
+        Rf::ListenSleep => Err(Status::SemanticError),
+        Rf::PollActive(_) => Ok(ended(kind, Rf::W4HostSelect(None))),
+        Rf::ListenActive(a) if sleep_rejected(a, kind) => Err(Status::Rejected),
+        Rf::ListenActive(_) => Ok(ended(kind, Rf::ListenSleep)),
     }
 }
 
 // CORE_SET_CONFIG_CMD: one that names a known parameter is taken in IDLE alone (003, 5.2.1).
+#[tactic(auto, unfolding(crate::specs::Controller::set_by))]
 fn set_by(rf: Rf, m: &[u8]) -> Result<Verdict, Status>
     ensures { result ≡ set_by rf m.now }
 {
-    let idle = is_idle(rf);
-    let n = octets::octet_at(m, 0);
-    let known = set::names_known(m, n);
-    if idle | !known {
-        return Ok(Verdict::SetsConfig);
+    let known = set::names_known(m, octets::octet_at(m, 0));
+    if is_idle(rf) | !known {
+        Ok(Verdict::SetsConfig)
+    } else {
+        Err(Status::SemanticError)
     }
-    Err(Status::SemanticError)
 }
 
 // The verdict on a command that is long enough and allowed, by its values.
@@ -304,36 +230,30 @@ fn values_of(
 ) -> Result<Verdict, Status>
     ensures { result ≡ values_of p k (open_at conns) c m.now }
 {
-    let rf = k.rf;
     let first = octets::octet_at(m, 0);
     match c {
         Command::Reset => reset_by(first),
         Command::Init => Ok(Verdict::Initialises),
         Command::ConnCreate => create_by(p, conns, k.given, m),
         Command::ConnClose => close_by(conns, first),
-        Command::Discover => discover_by(rf, m),
+        Command::Discover => discover_by(k.rf, m),
         Command::Select => {
-            let ps = k.pairs;
-            let protocol = octets::octet_at(m, fields::SELECT_PROTOCOL);
+            let pair = Pair {
+                id: first,
+                protocol: octets::octet_at(m, fields::SELECT_PROTOCOL),
+            };
             let interface = octets::octet_at(m, fields::SELECT_INTERFACE);
-            select_by(
-                rf,
-                ps,
-                Pair {
-                    id: first,
-                    protocol: protocol,
-                },
-                interface,
-            )
+            select_by(k.rf, k.pairs, pair, interface)
         }
-        Command::Deactivate => deactivate_by(rf, first),
+        Command::Deactivate => deactivate_by(k.rf, first),
         Command::Unknown => Err(Status::SyntaxError),
-        Command::SetConfig => set_by(rf, m),
+        Command::SetConfig => set_by(k.rf, m),
         Command::GetConfig => Ok(Verdict::GetsConfig),
     }
 }
 
 // The verdict on a whole command. In order: unknown or too short, wrong state, values.
+#[tactic(auto, unfolding(crate::specs::Controller::judge_of))]
 pub fn judge(
     p: Profile,
     k: Controller,
@@ -344,14 +264,11 @@ pub fn judge(
 ) -> Result<Verdict, Status>
     ensures { result ≡ judge_of p k (open_at conns) gid oid m.now }
 {
-    let phase = k.phase;
     let c = commands::command_of(gid, oid);
-    let least = shortest(c, m);
-    let taken = allowed(phase, c);
-    if m.len() < least {
+    if m.len() < shortest(c, m) {
         return Err(Status::SyntaxError);
     }
-    if !taken {
+    if !allowed(k.phase, c) {
         return Err(Status::SemanticError);
     }
     values_of(p, k, conns, c, m)
