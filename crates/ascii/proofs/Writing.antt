@@ -6,10 +6,11 @@ use mathlib.Core.List.{[], ◌∷◌, ◌++◌}
 use native.Mathlib.Nat.{le_of_suc-le-suc, not-suc-le-zero}
 use native.Mathlib.Omega.{arith}
 use native.Mathlib.Decide.{dec_le}
-use lib.ListN.{length, take, drop, length-append, take-append-drop}
-use lib.Seq.{length-take-le, take_all}
-use Rattle.octets.specs.Octets.{Octets, over, splice}
-use Rattle.octets.proofs.Octets.{splice_nil, splice_next, length_splice}
+use lib.ListN.{length, take, drop, length-append, length-take, take-append-drop}
+use lib.Seq.{length-take-le, take_all, take-append-add}
+use Rattle.std.proofs.lemmas.List.{take_min}
+use Rattle.octets.specs.Octets.{Octets, cut, over, splice}
+use Rattle.octets.proofs.Octets.{splice_nil, splice_next, length_splice, cut_grown}
 use Rattle.ascii.specs.Writing.{Wrote}
 
 -- nothing is written
@@ -94,3 +95,22 @@ wrote_then {l} {m} {k} {at} {n} {e} s t w v = go (dec_le (at + length s) (length
           next = end;
           room = v.room;
         }
+
+-- what stands before the end of a text that was written, as far as there is room
+pub wrote_front : {l m : Octets} {at n : ℕ} {t : Octets} → at ≤ length l → Wrote l at t n m → take n m ≡ take (length l) (take at l ++ t)
+unfolding cut
+wrote_front {l} {m} {at} {n} {t} h w =
+    let room = length l - at in
+    let k = min (length t) room in
+    let start : at ≡ 0 + at = omega arith in
+    let least : k ≡ min room (length t) = omega arith in
+    let fitting = length-take k t in
+    let front : length (take at l) ≡ at = length-take-le at l h in
+    let end : n ≡ at + length (take k t) = omega (arith, w.next) in
+    let all : length l ≡ length (take at l) + room = omega arith in
+    (λ i. take (end i) ((w.octets ∙ sym (splice_fitting l t at k refl)) i))
+    ∙ (λ i. take (at + length (take k t)) (splice l (start i) (take k t)))
+    ∙ cut_grown l 0 at (take k t) (omega arith)
+    ∙ (λ i. take at l ++ (ap (λ (j : ℕ). take j t) least ∙ take_min room t) i)
+    ∙ sym (take-append-add (take at l) t room)
+    ∙ ap (λ (j : ℕ). take j (take at l ++ t)) (sym all)

@@ -3,5 +3,4 @@ pub mod Digits
 pub mod Words
 pub mod Fields
 pub mod Writing
-pub mod Kinds
 pub mod Input

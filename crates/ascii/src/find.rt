@@ -1,5 +1,5 @@
 // Words of a text: compared, and found by the character that ends them.
-ghost use Rattle.std.specs.Prelude.{◌≡◌, length};
+ghost use Rattle.std.specs.Prelude.{◌≡◌, ◌≤◌, length};
 ghost use Rattle.ascii.specs.Words.{same_as, starts_with, up_to};
 
 // Whether two texts have the same characters.
@@ -20,7 +20,8 @@ pub fn starts(text: &[u8], word: &[u8]) -> bool
 
 // How many characters stand before the first c: all where there is none.
 pub fn before(text: &[u8], c: u8) -> usize
-    ensures { result ≡ length (up_to c text.now) }
+    ensures count { result ≡ length (up_to c text.now) }
+    ensures within { result ≤ length text.now }
 {
     text.iter().position(|x| *x == c).unwrap_or(text.len())
 }

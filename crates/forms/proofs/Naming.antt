@@ -1,31 +1,38 @@
 -- The laws of `specs/Names.antt`: a word against a list of names.
 -- Assumes nothing.
 use Prim.Native.Nat.{◌≤◌}
-use mathlib.Core.Path.{◌≡◌, refl, ap}
-use mathlib.Core.Bool.{Bool, true, false}
+use mathlib.Core.Path.{◌≡◌, refl, sym, ap, ◌∙◌}
+use mathlib.Core.Bool.{Bool, true, false, cond}
 use mathlib.Core.List.{List, [], ◌∷◌}
 use native.Mathlib.Omega.{arith}
 use lib.ListN.{length}
+use Rattle.std.specs.Prelude.{Option, Some, None}
+use Rattle.std.specs.Option.{unwrap_or, option_map}
+use Rattle.std.specs.List.{find}
 use Rattle.octets.specs.Octets.{Octets, pick}
 use Rattle.ascii.specs.Words.{same_as}
 use Rattle.forms.specs.Kinds.{Name}
 use Rattle.forms.specs.Kinds.name.{Fresh, Power, Command, Send, Push, Down, Consume, Credit, Air, Reply, Up, Report, Read, Bad, Run}
 use Rattle.forms.specs.Names.{text_of, among}
 
-module _ (x : Name) (xs : List Name) (l : Octets) where
-  -- the first of them
-  pub itself : same_as l (text_of x) ≡ true → among (x ∷ xs) l ≡ x
-  unfolding among
-  itself e = ap (λ (t : Bool). pick t x (among xs l)) e
-
-  -- one of the others
-  pub others : same_as l (text_of x) ≡ false → among (x ∷ xs) l ≡ among xs l
-  unfolding among
-  others e = ap (λ (t : Bool). pick t x (among xs l)) e
-
-pub no_name : (l : Octets) → among [] l ≡ Bad
+-- the search of a list
+among_find : (xs : List Name) (l : Octets) → unwrap_or (find (λ x. same_as l (text_of x)) xs) Bad ≡ among xs l
 unfolding among
-no_name l = refl
+among_find [] l = refl
+among_find (x ∷ xs) l = go (same_as l (text_of x)) (among_find xs l)
+  where
+    go : (t : Bool) → unwrap_or (find (λ y. same_as l (text_of y)) xs) Bad ≡ among xs l
+        → unwrap_or (cond t (Some x) (find (λ y. same_as l (text_of y)) xs)) Bad ≡ pick t x (among xs l)
+    go true e = refl
+    go false e = e
+
+as_found : (r : Option Name) → option_map (λ x. x) r ≡ r
+as_found None = refl
+as_found (Some x) = refl
+
+pub found_among : (r : Option Name) (xs : List Name) (l : Octets) → option_map (λ x. x) r ≡ find (λ x. same_as l (text_of x)) xs
+    → unwrap_or r Bad ≡ among xs l
+found_among r xs l e = ap (λ (o : Option Name). unwrap_or o Bad) (sym (as_found r) ∙ e) ∙ among_find xs l
 
 pub name_short : (x : Name) → length (text_of x) ≤ 7
 name_short Fresh = omega arith

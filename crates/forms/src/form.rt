@@ -17,32 +17,25 @@ fn digits<'a>(line: &'a [u8]) -> &'a [u8]
 }
 
 // Whether a line has the form, whatever its name.
+#[tactic(auto, unfolding(crate::specs::Form::formed))]
 fn formed(line: &[u8]) -> bool
     ensures { result ≡ Form·formed line.now }
 {
-    let event = has(line, b"ev");
-    let argument = only(after(line), b"arg");
-    let octets = is_hex(digits(line));
-    (line.len() <= 2100) & event & argument & octets
+    line.len() <= 2100 && has(line, b"ev") && only(after(line), b"arg") && is_hex(digits(line))
 }
 
 // Whether an event of a kind has octets enough, and none to spare; kinds that there are not go to the call.
+#[tactic(auto, unfolding(crate::specs::Form::kind_fits))]
 fn kind_fits(kind: u8, n: usize) -> bool
     ensures { result ≡ kind_fits kind n }
 {
-    if kind == 0 {
-        return 1 <= n;
+    match kind {
+        0 => 1 <= n,
+        1 => 5 <= n,
+        2..=3 => 4 <= n,
+        4..=7 => n == 1,
+        _ => 1 <= n,
     }
-    if kind == 1 {
-        return 5 <= n;
-    }
-    if kind < 4 {
-        return 4 <= n;
-    }
-    if kind < 8 {
-        return n == 1;
-    }
-    1 <= n
 }
 
 // Whether a call has its fixed octets, and none to spare.
@@ -52,20 +45,13 @@ fn fits(name: Name, args: &[u8]) -> bool
     let n = args.len();
     match name {
         Name::Fresh => (n == 5) | (n == 11),
-        Name::Power => n == 0,
         Name::Command => 2 <= n,
         Name::Send => 1 <= n,
-        Name::Push => n == 1,
-        Name::Down => n == 0,
-        Name::Consume => n == 1,
-        Name::Credit => n == 0,
+        Name::Push | Name::Consume | Name::Report => n == 1,
+        Name::Power | Name::Down | Name::Credit | Name::Reply | Name::Up | Name::Run => n == 0,
         Name::Air => kind_fits(octets::octet_at(args, 0), n),
-        Name::Reply => n == 0,
-        Name::Up => n == 0,
-        Name::Report => n == 1,
         Name::Read => true,
         Name::Bad => false,
-        Name::Run => n == 0,
     }
 }
 

@@ -24,11 +24,9 @@ pub fn answer_line(area: &mut [u8], out: &mut [u8], line: &[u8], text: &mut [u8;
 {
     let mut args = [0u8; ARGS];
     let asked = read_line(line, &mut args);
-    let name = asked.name;
-    let count = asked.count;
-    if is_bad(name) {
+    if is_bad(asked.name) {
         return put(text, 0, b"ev=bad ans=3");
     }
-    let w = play(area, out, name, &args[0..count]);
-    put_outcome(text, name, w, area, out)
+    let w = play(area, out, asked.name, &args[0..asked.count]);
+    put_outcome(text, asked.name, w, area, out)
 }

@@ -10,7 +10,7 @@ ghost use Rattle.sheet.specs.Show.{zero_buffer, joined, wire_shown, put_by, even
 use ascii::write::{put, put_decimal, put_octets};
 use bench::exports::nci_packet;
 use call_word::says;
-use forms::names::{Name, is_run, put_name};
+use forms::names::{Name, is_run};
 use octets::window;
 
 // The event's name.
@@ -19,7 +19,7 @@ fn put_event(text: &mut [u8], at: usize, name: Name) -> usize
     ensures { Wrote text.old at (event_field name) result text.new }
 {
     let n = put(text, at, b"ev=");
-    put_name(text, n, name)
+    put(text, n, name.text())
 }
 
 // A label and a number.
@@ -36,11 +36,9 @@ fn put_front(text: &mut [u8], at: usize, name: Name, w: u64) -> usize
     requires { at ≤ length text.old }
     ensures { Wrote text.old at (event_field name ++ answer_field w ++ drop_field w) result text.new }
 {
-    let answer = says::answer(w);
-    let dropped = says::dropped(w);
     let mut n = put_event(text, at, name);
-    n = put_number(text, n, b" ans=", answer as u16);
-    put_number(text, n, b" drop=", dropped as u16)
+    n = put_number(text, n, b" ans=", u16::from(says::answer(w)));
+    put_number(text, n, b" drop=", u16::from(says::dropped(w)))
 }
 
 // The reserved bits, in two digits.
@@ -48,9 +46,8 @@ fn put_rfu(text: &mut [u8], at: usize, w: u64) -> usize
     requires { at ≤ length text.old }
     ensures { Wrote text.old at (rfu_field w) result text.new }
 {
-    let rfu = says::rfu(w);
     let n = put(text, at, b" rfu=");
-    put_octets(text, n, &[rfu])
+    put_octets(text, n, &[says::rfu(w)])
 }
 
 // A packet of a wire, counted from its end: what the reader of packets hands out, and nothing where there is none.
@@ -72,10 +69,9 @@ fn put_wire(text: &mut [u8], at: usize, area: &[u8], wire: u8, n: u8) -> usize
     ensures { Wrote text.old at (hex_of (wire_shown wire n area.now)) result text.new }
 {
     let mut next = at;
-    let mut left = n;
-    while 0 < left {
-        left -= 1;
-        next = put_packet(text, next, area, wire, left);
+    // As `(0..n).rev()` the loop has no law in std that says which numbers it gives.
+    for i in 0..n {
+        next = put_packet(text, next, area, wire, n - 1 - i);
     }
     next
 }
@@ -85,10 +81,8 @@ fn put_wires(text: &mut [u8], at: usize, w: u64, area: &[u8]) -> usize
     requires { at ≤ length text.old }
     ensures { Wrote text.old at (hex_of (put_by (outcome w area.now []))) result text.new }
 {
-    let down = says::down(w);
-    let up = says::up(w);
-    let n = put_wire(text, at, area, 0, down);
-    put_wire(text, n, area, 1, up)
+    let n = put_wire(text, at, area, 0, says::down(w));
+    put_wire(text, n, area, 1, says::up(w))
 }
 
 // The same as a field, which a press leaves empty.
@@ -113,7 +107,7 @@ fn put_message(text: &mut [u8], at: usize, w: u64, out: &[u8]) -> usize
         return n;
     }
     let message = window(out, 0, says::length(w));
-    if message.len() == 0 {
+    if message.is_empty() {
         return put(text, n, b"-");
     }
     put_octets(text, n, message)
@@ -125,8 +119,7 @@ fn put_moves(text: &mut [u8], at: usize, name: Name, w: u64) -> usize
     ensures { Wrote text.old at (moves_field name (moves_in w)) result text.new }
 {
     if is_run(name) {
-        let moves = says::moves(w);
-        return put_number(text, at, b" moves=", moves as u16);
+        return put_number(text, at, b" moves=", says::moves(w) as u16);
     }
     at
 }

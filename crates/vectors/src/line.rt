@@ -2,7 +2,6 @@
 ghost use Rattle.std.specs.Prelude.{◌≤◌, length};
 
 use ascii::fields::{after, has, only, value};
-use ascii::find::same;
 use ascii::hex::{decode, is_hex};
 use ascii::write::{put, put_decimal, put_octets};
 use octets::window;
@@ -25,7 +24,7 @@ fn put_number(out: &mut [u8], at: usize, label: &[u8], number: u8) -> usize
     ensures { result ≤ length out.new }
 {
     let n = put(out, at, label);
-    put_decimal(out, n, number as u16)
+    put_decimal(out, n, u16::from(number))
 }
 
 // What octet 1 of a packet holds.
@@ -44,7 +43,7 @@ fn put_header(out: &mut [u8], at: usize, h: packets::Header, len: u8) -> usize
     ensures { result ≤ length out.new }
 {
     let mut n = put_number(out, at, b" read=packet mt=", h.mt);
-    n = put_number(out, n, b" pbf=", h.pbf as u8);
+    n = put_number(out, n, b" pbf=", u8::from(h.pbf));
     n = put_number(out, n, b" id=", h.id);
     n = put_second(out, n, h);
     put_number(out, n, b" len=", len)
@@ -52,8 +51,7 @@ fn put_header(out: &mut [u8], at: usize, h: packets::Header, len: u8) -> usize
 
 // Whether the octets written again are the packet's, up to its stated length: its header and its payload.
 fn is_same(again: &[u8], p: &[u8], payload: &[u8]) -> bool {
-    let header = same(window(again, 0, 3), window(p, 0, 3));
-    header && same(window(again, 3, 255), payload)
+    window(again, 0, 3) == window(p, 0, 3) && window(again, 3, 255) == payload
 }
 
 // The fields of a packet: what reading it finds, the octets that writing it again into a slot gives, and whether they are
@@ -72,7 +70,7 @@ fn put_packet(out: &mut [u8], at: usize, p: &[u8]) -> usize
     let mut n = put_header(out, at, h, octets::octet_at(p, 2));
     n = put_hex(out, n, b" payload=", payload);
     n = put_hex(out, n, b" again=", again);
-    put_number(out, n, b" same=", is_same(again, p, payload) as u8)
+    put_number(out, n, b" same=", u8::from(is_same(again, p, payload)))
 }
 
 // Whether a line has the fields no and pkt, and a name of at least one character.

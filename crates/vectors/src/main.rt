@@ -5,9 +5,7 @@
 
 mod line;
 
-ghost use Rattle.std.specs.Prelude.{◌≤◌};
-
-use ascii::input::{Taken, take};
+use ascii::input::Line;
 use octets::window;
 use std::io::Read;
 
@@ -22,36 +20,21 @@ fn reply(rt: &impl Print, line: &[u8]) {
     let _ = rt.write_all(window(&out, 0, n));
 }
 
-// Answers the line where what was taken made it whole: the characters that are held of the next.
-fn reply_whole(rt: &impl Print, line: &[u8], t: Taken) -> usize
-    ensures { result ≤ t.held }
-{
-    if !t.whole {
-        return t.held;
+// Answers the lines that end in a piece of the input. `paper` has the same loop around other acts: one function that takes the
+// act as a closure would have to promise which lines it is called with, and would be longer than both loops.
+fn reply_piece(rt: &impl Print, line: &mut Line<ROOM>, piece: &[u8]) {
+    let mut rest = piece;
+    while let Some(left) = line.take(rest) {
+        reply(rt, line.text());
+        line.clear();
+        rest = left;
     }
-    reply(rt, window(line, 0, t.held));
-    0
-}
-
-// Answers the lines that end in a piece of the input.
-fn reply_piece(rt: &impl Print, line: &mut [u8; ROOM], held: usize, piece: &[u8]) -> usize
-    requires { held ≤ 601 }
-    ensures { result ≤ 601 }
-{
-    let mut n = held;
-    let mut at = 0;
-    while at < piece.len() {
-        let t = take(line, n, piece, at);
-        n = reply_whole(rt, line, t);
-        at = t.next;
-    }
-    n
 }
 
 // At the end of the input a line without a line feed is answered too.
-fn reply_last(rt: &impl Print, line: &[u8; ROOM], held: usize) {
-    if 0 < held {
-        reply(rt, window(line, 0, held));
+fn reply_last(rt: &impl Print, line: &Line<ROOM>) {
+    if !line.text().is_empty() {
+        reply(rt, line.text());
     }
 }
 
@@ -60,14 +43,13 @@ fn reply_last(rt: &impl Print, line: &[u8; ROOM], held: usize) {
 fn main(rt: HostRuntime) {
     let mut input = rt.stdin();
     let mut chunk = [0u8; 4096];
-    let mut line = [0u8; ROOM];
-    let mut held = 0;
+    let mut line: Line<ROOM> = Line::new();
     for _ in 0..u64::MAX {
         let n = input.read(&mut chunk).unwrap_or(0);
         if n == 0 {
-            reply_last(&rt, &line, held);
+            reply_last(&rt, &line);
             return;
         }
-        held = reply_piece(&rt, &mut line, held, &chunk[..n]);
+        reply_piece(&rt, &mut line, &chunk[..n]);
     }
 }

@@ -8,6 +8,6 @@ use Rattle.sheet.proofs.show.put_rfu.Goals as goal
 
 pub returns : goal.returns
 returns c =
-    let rfu = c.rfu-rfu.ensures in
+    let rfu = c.rfu.ensures in
     wrote_then _ _ c.put-n.ensures
     (wrote_text (ap (λ (n : ℕ). hex_of (n ∷ [])) rfu) c.put_octets.ensures)

@@ -12,5 +12,5 @@ returns c =
     let area = c.args.area.now in
     wrote_text (sym (hex_append _ _))
     (wrote_then _ _
-    (wrote_text (ap (λ (n : ℕ). hex_of (wire_shown 0 n area)) c.down-down.ensures) c.put_wire-n.ensures)
-    (wrote_text (ap (λ (n : ℕ). hex_of (wire_shown 1 n area)) c.up-up.ensures) c.put_wire.ensures))
+    (wrote_text (ap (λ (n : ℕ). hex_of (wire_shown 0 n area)) c.down.ensures) c.put_wire-n.ensures)
+    (wrote_text (ap (λ (n : ℕ). hex_of (wire_shown 1 n area)) c.up.ensures) c.put_wire.ensures))
