@@ -45,9 +45,9 @@ fn numbers(area: &[u8], r: Record, conn: u8) -> [u8; 5]
     let side = k.controller;
     let grant = side.grant;
     let first = held_shown(grant, k.host);
-    let second = down::data_count(area, map::DOWN_AT, r.down.head, r.down.count, conn) as u8;
+    let second = down::data_count(area, map::DOWN_AT, r.down, conn) as u8;
     let fourth = conn::owing(side);
-    let credits = up::credits_up(area, map::UP_AT, r.up.head, r.up.count, conn) as u8;
+    let credits = up::credits_up(area, map::UP_AT, r.up, conn) as u8;
     let fifth = choose(grant != conn::UNMETERED, credits, 0);
     [first, second, side.store.count as u8, fourth, fifth]
 }

@@ -1,36 +1,31 @@
 -- Packets of a ring, counted one by one: the count over one packet more.
 -- Assumes nothing.
-use Prim.Native.Nat.{ℕ, ◌+◌, ◌-◌, ◌%◌, ◌≤◌}
+use Prim.Native.Nat.{ℕ, ◌+◌, ◌%◌, ◌≤◌}
 use native.Mathlib.Nat.{add_assoc}
 use native.Mathlib.Omega.{arith}
 use mathlib.Core.Path.{◌≡◌, refl, sym, ap, ◌∙◌}
-use mathlib.Core.Bool.{true, false}
+use mathlib.Core.Bool.{Bool, true, false}
+use mir.Val.{bool_byte}
 use mathlib.Core.List.{List, [], ◌∷◌, ◌++◌}
-use lib.ListN.{take, drop}
 use Rattle.octets.specs.Octets.{Octets, pick}
-use Rattle.octets.proofs.Octets.{cut_part}
-use Rattle.area.specs.Map.{slot_size, wire_slots}
-use Rattle.area.specs.Ring.{slot_at, trim, slot_packet, tab, packets_from}
+use Rattle.area.specs.Map.{wire_slots}
+use Rattle.area.specs.Ring.{slot_in, trim, slot_packet, tab, packets_from}
 use Rattle.area.proofs.Rings.{packets_snoc}
 use Rattle.wires.specs.Meaning.{meaning}
 use Rattle.wires.specs.Tally.{is_data_for, data_count}
 use Rattle.wires.specs.Counted.{counted_on, counted_up}
 use Rattle.wires.proofs.Slots.{first_slot}
 
--- ---- slot_packet
-
--- a slot as the code names it, `&a[at..at + 258]`
-abbrev pub slot_part : ℕ → Octets → ℕ → Octets
-slot_part base a i = take (slot_at base i + slot_size - slot_at base i) (drop (slot_at base i) a)
-
-part_packet : (base : ℕ) (a : Octets) (i : ℕ) → trim (slot_part base a i) ≡ slot_packet base a i
-part_packet base a i = ap trim (cut_part (slot_at base i) slot_size a) ∙ sym (first_slot base a i)
-
 -- ---- data_count
 
 -- what a packet adds to the count
 abbrev pub data_one : ℕ → Octets → ℕ
 data_one c p = pick (is_data_for c (meaning p)) 1 0
+
+-- a test as a number
+pub one_if : (b : Bool) → bool_byte b ≡ pick b 1 0
+one_if true = refl
+one_if false = refl
 
 pub data_one_small : (c : ℕ) (p : Octets) → data_one c p ≤ 1
 data_one_small c p = elim (is_data_for c (meaning p)) as (λ b. pick b 1 0 ≤ 1) [ true ↦ omega arith | false ↦ omega arith ]
@@ -49,11 +44,11 @@ module _ (c : ℕ) where
       → data_count c (packets_from base wire_slots a p (n + 1)) ≡ data_count c (packets_from base wire_slots a p n) + data_one c (slot_packet base a ((p + n) % wire_slots))
   data_count_more base a p n = ap (data_count c) (packets_snoc base wire_slots a p n) ∙ data_count_snoc _ _
 
-  -- one turn of the loop, whose part of the area is the slot
+  -- one turn of the loop
   pub data_count_turn : (base : ℕ) (a : Octets) (p n acc one : ℕ) → acc ≡ data_count c (packets_from base wire_slots a p n)
-      → one ≡ data_one c (trim (slot_part base a ((p + n) % wire_slots))) → acc + one ≡ data_count c (packets_from base wire_slots a p (n + 1))
+      → one ≡ data_one c (trim (slot_in base a ((p + n) % wire_slots))) → acc + one ≡ data_count c (packets_from base wire_slots a p (n + 1))
   data_count_turn base a p n acc one e f =
-      (λ i. e i + (f ∙ ap (data_one c) (part_packet base a ((p + n) % wire_slots))) i) ∙ sym (data_count_more base a p n)
+      (λ i. e i + (f ∙ ap (data_one c) (sym (first_slot base a ((p + n) % wire_slots)))) i) ∙ sym (data_count_more base a p n)
 
 -- ---- counted_up
 
@@ -72,6 +67,6 @@ module _ (c : ℕ) where
   counted_up_more base a p n = ap (counted_up c) (packets_snoc base wire_slots a p n) ∙ counted_up_snoc _ _
 
   pub counted_up_turn : (base : ℕ) (a : Octets) (p n acc more : ℕ) → acc ≡ counted_up c (packets_from base wire_slots a p n)
-      → more ≡ counted_on c (trim (slot_part base a ((p + n) % wire_slots))) → acc + more ≡ counted_up c (packets_from base wire_slots a p (n + 1))
+      → more ≡ counted_on c (trim (slot_in base a ((p + n) % wire_slots))) → acc + more ≡ counted_up c (packets_from base wire_slots a p (n + 1))
   counted_up_turn base a p n acc more e f =
-      (λ i. e i + (f ∙ ap (λ (q : Octets). counted_on c q) (part_packet base a ((p + n) % wire_slots))) i) ∙ sym (counted_up_more base a p n)
+      (λ i. e i + (f ∙ ap (λ (q : Octets). counted_on c q) (sym (first_slot base a ((p + n) % wire_slots)))) i) ∙ sym (counted_up_more base a p n)

@@ -3,18 +3,20 @@
 ghost use Rattle.std.specs.Prelude.{◌≡◌, ◌+◌, ◌≤◌, ◌<◌, length, eqb};
 ghost use Rattle.octets.specs.Octets.{pick};
 ghost use Rattle.area.specs.Map.{wire_slots, wire_size};
-ghost use Rattle.area.specs.Ring.{trim, packets_from};
+ghost use Rattle.area.specs.Ring.{trim, packets_in};
 ghost use Rattle.state.specs.Conn.{metered};
 ghost use Rattle.wires.specs.Counted.{is_named, inside_of, credits_inside, counted_on, counted_up};
 
-use area::map;
+use crate::nth_slot;
 use dh::{contents, host};
 use octets::choose;
 use packets::Header;
+use state::kinds::Ring;
 use state::names::{GID_CORE, GID_RF, OID_ACTIVATED, OID_CONN_CREATE, OID_CONN_CREDITS};
 use state::{conn, fields};
 
 // What has credits inside: a CORE_CONN_CREDITS_NTF, an RF_INTF_ACTIVATED_NTF, the CORE_CONN_CREATE_RSP that opens a connection.
+// `Other` and no Option: the contracts below name one case each, and `Some` before each would say nothing.
 #[derive(Clone, Copy)]
 pub enum Inside {
     CreditsNtf,
@@ -31,22 +33,20 @@ fn is_named(h: Header, mt: u8, gid: u8, oid: u8) -> bool
 }
 
 // What a packet with this header has inside, which states n octets of payload.
+#[tactic(auto, unfolding(crate::specs::Counted::inside_of))]
 fn inside_of(h: Header, n: usize) -> Inside
     ensures { result ≡ inside_of h n }
 {
     if h.pbf {
         return Inside::Other;
     }
-    let credits = is_named(h, packets::NOTIFICATION, GID_CORE, OID_CONN_CREDITS);
-    if credits {
+    if is_named(h, packets::NOTIFICATION, GID_CORE, OID_CONN_CREDITS) {
         return Inside::CreditsNtf;
     }
-    let activated = is_named(h, packets::NOTIFICATION, GID_RF, OID_ACTIVATED);
-    if activated {
+    if is_named(h, packets::NOTIFICATION, GID_RF, OID_ACTIVATED) {
         return Inside::ActivatedNtf;
     }
-    let created = is_named(h, packets::RESPONSE, GID_CORE, OID_CONN_CREATE);
-    if created & (n == fields::CREATE_LENGTH) {
+    if is_named(h, packets::RESPONSE, GID_CORE, OID_CONN_CREATE) & (n == fields::CREATE_LENGTH) {
         return Inside::CreateRsp;
     }
     Inside::Other
@@ -64,11 +64,11 @@ fn granted(id: u8, credits: u8, conn: u8) -> u8
 }
 
 // The credits of a credit notice for the connection.
+#[tactic(auto, using(crate::proofs::Few::notice_few))]
 fn notice_credits(m: &[u8], conn: u8) -> u8
     ensures { result ≡ credits_inside conn m.now Inside.CreditsNtf }
 {
-    let ours = contents::credits_written(m);
-    if ours {
+    if contents::credits_written(m) {
         host::credits_for(m, conn) as u8
     } else {
         0
@@ -79,21 +79,18 @@ fn notice_credits(m: &[u8], conn: u8) -> u8
 fn activated_credits(m: &[u8], conn: u8) -> u8
     ensures { result ≡ credits_inside conn m.now Inside.ActivatedNtf }
 {
-    let activates = contents::activated_written(m);
     let credits = octets::octet_at(m, fields::ACTIVATED_CREDITS);
     let grant = granted(0, credits, conn);
-    choose(activates, grant, 0)
+    choose(contents::activated_written(m), grant, 0)
 }
 
 // The grant of a create response, where it opens the connection.
 fn create_credits(m: &[u8], conn: u8) -> u8
     ensures { result ≡ credits_inside conn m.now Inside.CreateRsp }
 {
-    let opens = contents::create_written(m);
     let credits = octets::octet_at(m, fields::CREATE_CREDITS);
-    let id = octets::octet_at(m, fields::CREATE_CONN);
-    let grant = granted(id, credits, conn);
-    choose(opens, grant, 0)
+    let grant = granted(octets::octet_at(m, fields::CREATE_CONN), credits, conn);
+    choose(contents::create_written(m), grant, 0)
 }
 
 // The credits inside a message for the connection.
@@ -116,33 +113,27 @@ fn carried(id: u8, n: u8, conn: u8) -> u8
 }
 
 // The credits for the connection in the packet that a slot starts with.
+#[tactic(auto, using(crate::proofs::Counted::counted_none, crate::proofs::Counted::counted_data, crate::proofs::Counted::counted_control))]
 pub fn credits_on(slot: &[u8], conn: u8) -> u8
     ensures { result ≡ counted_on conn (trim slot.now) }
 {
-    let got = packets::read(slot);
-    let Some((h, n)) = got else {
+    let Some((h, n)) = packets::read(slot) else {
         return 0;
     };
     if h.mt == packets::DATA {
         return carried(h.id, h.credits, conn);
     }
-    let x = inside_of(h, n);
-    let m = packets::payload(slot, n);
-    inside_credits(x, m, conn)
+    inside_credits(inside_of(h, n), packets::payload(slot, n), conn)
 }
 
-// Credits for the connection, over the count packets from slot head on in the ring at base.
-pub fn credits_up(area: &[u8], base: usize, head: usize, count: usize, conn: u8) -> usize
-    requires { (head < wire_slots) × (count ≤ wire_slots) × (base + wire_size ≤ length area.now) }
-    ensures { result ≡ counted_up conn (packets_from base wire_slots area.now head count) }
+// Credits for the connection, over the packets of the ring at base.
+pub fn credits_up(area: &[u8], base: usize, r: Ring, conn: u8) -> usize
+    requires { (r.head < wire_slots) × (r.count ≤ wire_slots) × (base + wire_size ≤ length area.now) }
+    ensures { result ≡ counted_up conn (packets_in base wire_slots area.now r) }
 {
-    let mut sum: usize = 0;
-    let mut i: usize = 0;
-    while i < count {
-        let at = (head + i) % map::WIRE * map::SLOT + base;
-        let more = credits_on(&area[at..at + map::SLOT], conn);
-        sum += more as usize;
-        i += 1;
+    let mut sum = 0;
+    for i in 0..r.count {
+        sum += credits_on(nth_slot(area, base, r, i), conn) as usize;
     }
     sum
 }

@@ -1,12 +1,9 @@
--- The loop of `wires::up::credits_up`.
-use Prim.Native.Nat.{◌-◌, ◌*◌, ◌≤◌}
+-- The loop of `wires::up::credits_up`: the sum is that of the packets passed, and at most 255 for each.
+use Prim.Native.Nat.{◌*◌, ◌≤◌}
 use mathlib.Core.Path.{◌≡◌}
 use Rattle.area.specs.Ring.{packets_from}
 use Rattle.wires.specs.Counted.{counted_up}
 use Rattle.wires.proofs.up.credits_up.Given as goal
 
 abbrev pub invariant-loop-i : goal.invariant-loop-i
-invariant-loop-i l = (l.i ≤ l.count) × (l.sum ≤ 255 * l.i) × (l.sum ≡ counted_up l.conn (packets_from l.base 16 l.area l.head l.i))
-
-abbrev pub decreases-loop-i : goal.decreases-loop-i
-decreases-loop-i l = l.count - l.i
+invariant-loop-i l = (l.sum ≤ 255 * l.i) × (l.sum ≡ counted_up l.conn (packets_from l.base 16 l.area l.r.head l.i))
