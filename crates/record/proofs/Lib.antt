@@ -1,4 +1,5 @@
 pub mod Writing
+pub mod Judging
 pub mod Loads
 pub mod Fits
 pub mod ReadsBack

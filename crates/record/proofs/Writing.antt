@@ -1,6 +1,7 @@
 -- The octets of a record, part after part: how many they are, and that stores one after another write them all.
 -- Assumes nothing.
-use Prim.Native.Nat.{ℕ, ◌+◌}
+use Prim.Native.Nat.{ℕ, zero, suc, ◌+◌}
+use native.Mathlib.Omega.{arith}
 use mathlib.Core.Path.{◌≡◌, refl, sym, ap, ◌∙◌}
 use mathlib.Core.List.{List, [], ◌∷◌, ◌++◌}
 use lib.ListN.{length, length-append}
@@ -121,6 +122,17 @@ module _ (l : Octets) (at : ℕ) where
         next l at (counts_part 3) (b 0 ++ b 1 ++ b 2) (b 3) (simp (length-append, length_counts)),
         next l at (counts_part 4) (b 0 ++ b 1 ++ b 2 ++ b 3) (b 4) (simp (length-append, length_counts)),
       )
+
+  -- the array's first n connections
+  abbrev pub stored_to : List Counts → ℕ → Octets
+  stored_to s zero = l
+  stored_to s (suc n) = splice (stored_to s n) (at + counts_part n) (counts_in s n)
+
+  pub all_stored : (s : List Counts) → stored_to s 5 ≡ splice l at (conns_octets s)
+  all_stored s =
+      let e : at + counts_part 0 ≡ at = omega arith in
+      (λ i. splice (splice (splice (splice (splice l (e i) (counts_in s 0)) (at + counts_part 1) (counts_in s 1)) (at + counts_part 2) (counts_in s 2)) (at + counts_part 3) (counts_in s 3)) (at + counts_part 4) (counts_in s 4))
+      ∙ conns_stored s
 
 pub encode_stored : (l : Octets) (r : Record)
     → splice (splice (splice (splice (splice l record_at (front_octets r.ends)) (record_at + controller_place) (controller_octets r.ends.controller)) (record_at + asking_place) (middle_octets r.ends)) (record_at + conns_place) (conns_octets r.ends.conns)) (record_at + down_place) (wires_octets r)

@@ -1,5 +1,5 @@
-// Row 1 of the refusals (document 01): whether the record in its octets is one that can be. Nothing branches: each
-// function is the definition of its name in specs/Judge.antt, test by test. Tags are looked at in the octets, since a
+// Row 1 of the refusals (document 01): whether the record in its octets is one that can be. No test ends another: each
+// function is the definition of its name in specs/Judge.antt, test by test, and a loop looks at all five connections. Tags are looked at in the octets, since a
 // record has none that is not there.
 ghost use Rattle.std.specs.Prelude.{◌≡◌, ◌+◌, ◌≤◌, length};
 ghost use Rattle.area.specs.Map.{area_size};
@@ -8,7 +8,7 @@ ghost use Rattle.record.specs.Reading.{decode_of};
 ghost use Rattle.record.specs.Judge.{hand_ok, given_ok, host_side_ok, controller_side_ok, counts_ok, conns_ok, ends_ok, record_ok, rf_known, conn_known, conns_known, tags_ok, judge_of};
 
 use crate::{parameters, places};
-use area::map::{AREA, CONTROL, MESSAGE, RECORD_AT, STORE, WIRE};
+use area::map::{AREA, CONTROL, MESSAGE, PLACES, RECORD_AT, STORE, WIRE};
 use config::stored::parameters_ok;
 use state::kinds::{ControllerSide, Counts, Ends, Hand, HostSide, Record};
 use state::profile::{LEAST_SIZE, profile_ok};
@@ -68,12 +68,15 @@ fn counts_ok(c: Counts) -> bool
     host_side_ok(c.host) & controller_side_ok(c.controller)
 }
 
-#[tactic(auto, unfolding(crate::specs::Judge::conns_ok))]
+#[tactic(auto, using(crate::proofs::Judging::oks_all))]
 fn conns_ok(conns: [Counts; 5]) -> bool
     ensures { result ≡ conns_ok conns }
 {
-    let [a, b, c, d, e] = conns;
-    counts_ok(a) & counts_ok(b) & counts_ok(c) & counts_ok(d) & counts_ok(e)
+    let mut ok = true;
+    for c in &conns {
+        ok &= counts_ok(*c);
+    }
+    ok
 }
 
 #[tactic(auto, unfolding(crate::specs::Judge::ends_ok))]
@@ -119,16 +122,16 @@ fn conn_known(s: &[u8], at: usize) -> bool
         & (s[at + LOST] <= 1)
 }
 
-#[tactic(auto, unfolding(crate::specs::Judge::conns_known))]
+#[tactic(auto, using(crate::proofs::Judging::known_all))]
 fn conns_known(s: &[u8], at: usize) -> bool
     requires { at + conns_size ≤ length s.now }
     ensures { result ≡ conns_known s.now at }
 {
-    conn_known(s, at)
-        & conn_known(s, at + places::COUNTS_1)
-        & conn_known(s, at + places::COUNTS_2)
-        & conn_known(s, at + places::COUNTS_3)
-        & conn_known(s, at + places::COUNTS_4)
+    let mut known = true;
+    for k in 0..PLACES {
+        known &= conn_known(s, at + k * places::COUNTS_SIZE);
+    }
+    known
 }
 
 #[tactic(auto, unfolding(crate::specs::Judge::tags_ok))]

@@ -7,7 +7,7 @@ ghost use Rattle.record.specs.Layout.{controller_size, counts_size, conns_size, 
 ghost use Rattle.record.specs.Writing.{phase_octet, rf_octets, profile_octets, control_run_octets, hand_octets, host_octets, pairs_octets, controller_octets, counts_octets, conns_octets, front_octets, middle_octets, wires_octets, encode_of};
 
 use crate::places;
-use area::map::RECORD_AT;
+use area::map::{PLACES, RECORD_AT};
 use state::kinds::{
     ControlRun, Controller, Counts, Ends, Hand, Host, Pairs, Phase, Profile, Record, Rf,
 };
@@ -223,12 +223,9 @@ fn store_conns(area: &mut [u8], at: usize, conns: [Counts; 5])
     requires { at + conns_size ≤ length area.old }
     ensures { area.new ≡ splice area.old at (conns_octets conns) }
 {
-    let [a, b, c, d, e] = conns;
-    store_counts(area, at, a);
-    store_counts(area, at + places::COUNTS_1, b);
-    store_counts(area, at + places::COUNTS_2, c);
-    store_counts(area, at + places::COUNTS_3, d);
-    store_counts(area, at + places::COUNTS_4, e);
+    for k in 0..PLACES {
+        store_counts(area, at + k * places::COUNTS_SIZE, conns[k]);
+    }
 }
 
 fn store_wires(area: &mut [u8], at: usize, r: Record)
