@@ -1,5 +1,6 @@
 pub mod Writing
 pub mod Judging
+pub mod Elements
 pub mod Loads
 pub mod Fits
 pub mod ReadsBack

@@ -48,15 +48,6 @@ pub const CONTROLLER_SIDE_SIZE: usize = CONTROLLER_RUN_PART + PROGRESS_SIZE;
 
 pub const COUNTS_SIZE: usize = HOST_SIDE_SIZE + CONTROLLER_SIDE_SIZE;
 
-// The connections after the first, by place.
-pub const COUNTS_1: usize = COUNTS_SIZE;
-
-pub const COUNTS_2: usize = 2 * COUNTS_SIZE;
-
-pub const COUNTS_3: usize = 3 * COUNTS_SIZE;
-
-pub const COUNTS_4: usize = 4 * COUNTS_SIZE;
-
 pub const CONNS_SIZE: usize = PLACES * COUNTS_SIZE;
 
 // The parts of the record.

@@ -12,6 +12,7 @@ use state::kinds::{
     Activation, Asked, ControlRun, Controller, ControllerSide, Counts, Ends, Hand, Host, HostSide,
     Pair, Pairs, Phase, Profile, Progress, Record, Rf, Ring, Terms,
 };
+use std::array;
 
 // A length or a position, high octet first.
 #[tactic(auto, unfolding(crate::specs::Reading::wide_at))]
@@ -164,22 +165,12 @@ fn pair_at(s: &[u8], at: usize) -> Pair
     }
 }
 
-#[tactic(auto, unfolding(crate::specs::Reading::pairs_at))]
 fn pairs_at(s: &[u8], at: usize) -> Pairs
     requires { at + pairs_size ≤ length s.now }
     ensures { result ≡ pairs_at s.now at }
 {
     Pairs {
-        list: [
-            pair_at(s, at),
-            pair_at(s, at + 2),
-            pair_at(s, at + 4),
-            pair_at(s, at + 6),
-            pair_at(s, at + 8),
-            pair_at(s, at + 10),
-            pair_at(s, at + 12),
-            pair_at(s, at + 14),
-        ],
+        list: array::from_fn(|k| pair_at(s, at + 2 * k)),
         count: usize::from(s[at + 16]),
     }
 }
@@ -242,18 +233,11 @@ fn counts_at(s: &[u8], at: usize) -> Counts
     }
 }
 
-#[tactic(auto, unfolding(crate::specs::Reading::conns_at))]
 fn conns_at(s: &[u8], at: usize) -> [Counts; 5]
     requires { at + conns_size ≤ length s.now }
     ensures { result ≡ conns_at s.now at }
 {
-    [
-        counts_at(s, at),
-        counts_at(s, at + places::COUNTS_1),
-        counts_at(s, at + places::COUNTS_2),
-        counts_at(s, at + places::COUNTS_3),
-        counts_at(s, at + places::COUNTS_4),
-    ]
+    array::from_fn(|k| counts_at(s, at + k * places::COUNTS_SIZE))
 }
 
 #[tactic(auto, unfolding(crate::specs::Reading::ends_of))]

@@ -103,6 +103,7 @@ pub fn rf_octets(rf: Rf) -> [u8; 4]
     }
 }
 
+// Written out: by index it would have to ask which octet of which pair it is.
 #[tactic(auto, unfolding(crate::specs::Writing::pairs_octets))]
 fn pairs_octets(k: Pairs) -> [u8; places::PAIRS_SIZE]
     ensures { result ≡ pairs_octets k }
