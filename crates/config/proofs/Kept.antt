@@ -18,7 +18,7 @@ use Rattle.std.proofs.lemmas.List.{length-replicate, get_or-replicate}
 use Rattle.config.specs.Table.{row, table, row_of, allowed_by, all_allowed, acceptable}
 use Rattle.config.specs.declared.table.Values.{Values}
 use Rattle.config.proofs.Rows.{every, found_all, found_id}
-use Rattle.config.specs.Stored.{is_fixed, lead, room, size_in, value_in, form_of, with_value, clear, row_ok}
+use Rattle.config.specs.Stored.{is_fixed, lead, room, size_in, value_in, form_of, with_value, zeros, row_ok}
 
 -- ---- lengths
 
@@ -148,7 +148,8 @@ module _ (r : Row) (v b : Octets) (f : Fits r v b) where
       (cut_same b r.at (replicate (room r) 0x00) (omega (arith, length-replicate {A = ℕ} (room r) 0x00, f.inside)))
       ∙ get_or-replicate {A = ℕ} (room r) (length (form_of r v) + i) 0x00 0 h
 
-  clear_there : (n : ℕ) → length (form_of r v) + n ≤ room r → clear (with_value r v b) (r.at + length (form_of r v)) n ≡ true
+  clear_there : (n : ℕ) → length (form_of r v) + n ≤ room r → zeros (with_value r v b) (r.at + length (form_of r v)) n ≡ true
+  unfolding zeros
   clear_there zero h = refl
   clear_there (suc n) h =
       let at : r.at + length (form_of r v) + n ≡ r.at + (length (form_of r v) + n) = omega arith in
@@ -162,7 +163,8 @@ module _ (r : Row) (v b : Octets) (f : Fits r v b) where
 
 -- ---- row 1 of another
 
-clear_same : (a b : Octets) (i n : ℕ) → ((k : ℕ) → k < n → get_or a (i + k) 0 ≡ get_or b (i + k) 0) → clear a i n ≡ clear b i n
+clear_same : (a b : Octets) (i n : ℕ) → ((k : ℕ) → k < n → get_or a (i + k) 0 ≡ get_or b (i + k) 0) → zeros a i n ≡ zeros b i n
+unfolding zeros
 clear_same a b i zero h = refl
 clear_same a b i (suc n) h = λ j. clear_same a b i n (λ k l. h k (omega arith)) j && eqb (h n (omega arith) j) 0x00
 
@@ -218,6 +220,6 @@ and_true true = refl
 and_true false = refl
 
 pub octet_row : (id at d : ℕ) (vs : Values) (b : Octets) → at + 1 ≤ length b → row_ok b (row id at 1 1 d vs) ≡ allowed_by vs (get_or b at 0)
-unfolding row_ok value_in all_allowed
+unfolding row_ok value_in all_allowed zeros
 octet_row id at d vs b h =
     and_true _ ∙ ap (λ (v : Octets). all_allowed vs v (length v)) (one_octet b at h)

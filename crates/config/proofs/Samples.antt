@@ -3,12 +3,12 @@
 use mathlib.Core.Path.{refl}
 use Rattle.octets.specs.Octets.{cut, over, splice}
 use Rattle.config.specs.Table.{table, row_at, row_of, all_allowed, acceptable}
-use Rattle.config.specs.Stored.{value_in, with_value, restored, clear, row_ok, rows_ok}
+use Rattle.config.specs.Stored.{value_in, with_value, restored, zeros, row_ok, rows_ok}
 use Rattle.config.specs.Commands.{param_at, set_first, invalid_in, shown_in, unavailable_in, unavailable_count}
 use Rattle.config.specs.Samples.{Samples}
 
 pub samples : Samples
-unfolding table row_at row_of all_allowed acceptable value_in with_value restored row_ok rows_ok param_at set_first invalid_in shown_in unavailable_in unavailable_count cut over splice
+unfolding table row_at row_of all_allowed acceptable value_in with_value restored zeros row_ok rows_ok param_at set_first invalid_in shown_in unavailable_in unavailable_count cut over splice
 samples =
     record {
       all_restored_law = refl;

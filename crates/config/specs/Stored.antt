@@ -54,16 +54,16 @@ defaults =
 
 -- ---- row 1
 
--- the n octets from index i on are all 00. It opens freely, so that `zeros` of dh/Contents, which is this, opens with it
-abbrev pub clear : Octets → ℕ → ℕ → Bool
-clear b i zero = true
-clear b i (suc n) = clear b i n && eqb (get_or b (i + n) 0) 0x00
+-- the n octets from index i on are all 00
+unfoldable pub zeros : Octets → ℕ → ℕ → Bool
+zeros b i zero = true
+zeros b i (suc n) = zeros b i n && eqb (get_or b (i + n) 0) 0x00
 
 -- an acceptable value, and 00 past its end
 unfoldable pub row_ok : Octets → Row → Bool
 row_ok b r =
     leb r.least (size_in b r) && leb (size_in b r) r.most && all_allowed r.values (value_in b r) (length (value_in b r))
-    && clear b (r.at + lead r + size_in b r) (r.most - size_in b r)
+    && zeros b (r.at + lead r + size_in b r) (r.most - size_in b r)
 
 -- of the first n rows
 unfoldable pub rows_ok : Octets → ℕ → Bool

@@ -2,7 +2,7 @@
 ghost use Rattle.std.specs.Prelude.{◌≡◌, ◌+◌, ◌-◌, ◌<◌, ◌≤◌, length, get_or};
 ghost use Rattle.octets.specs.Octets.{splice};
 ghost use Rattle.config.specs.Table.{config_size, allowed_by};
-ghost use Rattle.config.specs.Stored.{lead, room, size_in, value_in, form_of, with_value, defaults, clear, row_ok, rows_ok, parameters_ok};
+ghost use Rattle.config.specs.Stored.{lead, room, size_in, value_in, form_of, with_value, defaults, zeros, row_ok, rows_ok, parameters_ok};
 
 use crate::table;
 use crate::table::{CONFIG_SIZE, Row, Values};
@@ -74,7 +74,7 @@ pub fn defaults() -> [u8; CONFIG_SIZE]
 // comes by here, and a loop of a known length is quicker.
 fn clear_past(b: &[u8], i: usize, n: usize, room: usize) -> bool
     requires { (n ≤ room) × (i + room ≤ length b.now) }
-    ensures { result ≡ clear b.now (i + n) (room - n) }
+    ensures { result ≡ zeros b.now (i + n) (room - n) }
 {
     let mut all = true;
     for k in 0..room {

@@ -12,7 +12,7 @@ use Rattle.state.specs.Conn.{place_of}
 use Rattle.state.specs.Commands.{command_of}
 use Rattle.state.specs.Radio.{polls, listens, id_ok}
 use Rattle.state.specs.Profile.{least_size, credits_ok}
-use Rattle.config.specs.Stored.{clear}
+unfoldable pub use Rattle.config.specs.Stored.{zeros}
 use Rattle.config.specs.Written.{set_written, get_written}
 
 -- ---- the notifications (003, Table 139)
@@ -40,10 +40,6 @@ alone status m = eqb (length m) 1 && eqb (get_or m 0 0) status
 
 abbrev pub ok_alone : Octets → Bool
 ok_alone m = alone status_ok m
-
--- the n octets from index i on are all 00
-abbrev pub zeros : Octets → ℕ → ℕ → Bool
-zeros m i n = clear m i n
 
 unfoldable pub init_written : Octets → Bool
 init_written m =
