@@ -30,17 +30,14 @@ pub struct Answered {
 pub fn decide(e: Ends, gid: u8, oid: u8, m: &[u8]) -> Decision
     ensures { result ≡ decided e gid oid m.now }
 {
-    let conns = e.conns;
-    let v = controller::judge(e.profile, e.controller, conns, gid, oid, m);
-    let after = effects::conns_after(conns, v);
-    let mut next = e;
-    next.controller = effects::controller_after(e.controller, v);
-    next.endpoint = effects::endpoint_after(e.endpoint, v);
-    next.conns = after;
-    Decision {
-        verdict: v,
-        next: next,
-    }
+    let verdict = controller::judge(e.profile, e.controller, e.conns, gid, oid, m);
+    let next = Ends {
+        controller: effects::controller_after(e.controller, verdict),
+        endpoint: effects::endpoint_after(e.endpoint, verdict),
+        conns: effects::conns_after(e.conns, verdict),
+        ..e
+    };
+    Decision { verdict, next }
 }
 
 // What the controller answers to a command: the response goes into the first buffer, the notification into the second. b has the
@@ -57,13 +54,12 @@ pub fn answer(
     requires { length m.now ≤ control_limit }
     ensures { Answers e gid oid b.now m.now (decided e gid oid m.now) result rsp.old ntf.old rsp.new ntf.new }
 {
-    let d = decide(e, gid, oid, m);
-    let v = d.verdict;
-    let response = layout::response(rsp, gid, oid, e.profile, b, m, v);
-    let notice = layout::notice(ntf, v);
+    let decision = decide(e, gid, oid, m);
+    let response = layout::response(rsp, gid, oid, e.profile, b, m, decision.verdict);
+    let notice = layout::notice(ntf, decision.verdict);
     Answered {
-        decision: d,
-        response: response,
-        notice: notice,
+        decision,
+        response,
+        notice,
     }
 }

@@ -57,8 +57,7 @@ fn emit_around(out: &mut [u8], gid: u8, oid: u8, head: &[u8], params: &[u8], tai
 fn status(out: &mut [u8; CONTROL_LIMIT], gid: u8, oid: u8, s: u8) -> Note
     ensures { Put out.old (record { gid = gid; oid = oid; payload = s ∷ [] }) result out.new }
 {
-    let o = [s];
-    emit(out, gid, oid, &o)
+    emit(out, gid, oid, &[s])
 }
 
 // CORE_INIT_RSP (003, Table 8).
@@ -90,16 +89,16 @@ fn set_config_rsp(out: &mut [u8; CONTROL_LIMIT], gid: u8, oid: u8, m: &[u8]) -> 
     requires { param_at m.now (count_in m.now) ≤ control_limit }
     ensures { Put out.old (record { gid = gid; oid = oid; payload = set_rsp m.now }) result out.new }
 {
-    let n = set::set_rsp(out, m);
-    Note { gid, oid, len: n }
+    let len = set::set_rsp(out, m);
+    Note { gid, oid, len }
 }
 
 // CORE_GET_CONFIG_RSP (003, Table 12).
 fn get_config_rsp(out: &mut [u8; CONTROL_LIMIT], gid: u8, oid: u8, b: &[u8; CONFIG_SIZE], m: &[u8]) -> Note
     ensures { Put out.old (record { gid = gid; oid = oid; payload = get_rsp b.now m.now }) result out.new }
 {
-    let n = get::get_rsp(out, b, m);
-    Note { gid, oid, len: n }
+    let len = get::get_rsp(out, b, m);
+    Note { gid, oid, len }
 }
 
 // The response to a command: its GID and OID, and what the verdict is answered with. b has the values, m is the command's payload.
@@ -160,6 +159,7 @@ pub fn notice(out: &mut [u8; CONTROL_LIMIT], v: Result<Verdict, Status>) -> Opti
 }
 
 // Writes an entry of a credit notice at an index of the buffer, where credits are owed. The index after it.
+#[tactic(auto, using(octets::proofs::Octets::splice_nil))]
 fn entry(out: &mut [u8], at: usize, conn: u8, n: u8) -> usize
     requires { at + 2 ≤ length out.old }
     ensures octets { out.new ≡ splice out.old at (pick (eqb n 0) [] (conn ∷ n ∷ [])) }
@@ -168,8 +168,7 @@ fn entry(out: &mut [u8], at: usize, conn: u8, n: u8) -> usize
     if n == 0 {
         return at;
     }
-    let o = [conn, n];
-    octets::put(out, at, &o);
+    octets::put(out, at, &[conn, n]);
     at + fields::ENTRY_SIZE
 }
 
@@ -178,11 +177,8 @@ pub fn credits_ntf(out: &mut [u8; CONTROL_LIMIT], conns: [Counts; 5]) -> Note
     ensures { Put out.old (credits_message conns) result out.new }
 {
     let mut at: usize = fields::ENTRY_CONN;
-    let mut i: usize = 0;
-    while i < 5 {
-        let c = conns[i];
-        at = entry(out, at, conn_of(i), owing(c.controller));
-        i += 1;
+    for i in 0..5 {
+        at = entry(out, at, conn_of(i), owing(conns[i].controller));
     }
     out[fields::ENTRY_COUNT] = (at / fields::ENTRY_SIZE) as u8;
     Note {
@@ -202,14 +198,13 @@ pub fn discover_ntf(out: &mut [u8; CONTROL_LIMIT], a: Activation, kind: u8, para
     head[fields::FOUND_PROTOCOL] = a.protocol;
     head[fields::FOUND_MODE] = a.mode;
     head[fields::FOUND_PARAMS_LENGTH] = params.len() as u8;
-    let tail = [kind];
     emit_around(
         out,
         names::GID_RF,
         names::OID_DISCOVER,
         &head,
         params,
-        &tail,
+        &[kind],
     )
 }
 
@@ -241,6 +236,10 @@ pub fn activated_ntf(out: &mut [u8; CONTROL_LIMIT], a: Activation, t: Terms, par
 pub fn generic_error_ntf(out: &mut [u8; CONTROL_LIMIT]) -> Note
     ensures { Put out.old (record { gid = gid_core; oid = oid_generic_error; payload = generic_error_ntf }) result out.new }
 {
-    let o = [names::ACTIVATION_FAILED];
-    emit(out, names::GID_CORE, names::OID_GENERIC_ERROR, &o)
+    emit(
+        out,
+        names::GID_CORE,
+        names::OID_GENERIC_ERROR,
+        &[names::ACTIVATION_FAILED],
+    )
 }

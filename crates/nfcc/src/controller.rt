@@ -151,14 +151,10 @@ fn discover_by(rf: Rf, m: &[u8]) -> Result<Verdict, Status>
 fn select_by(rf: Rf, ps: Pairs, p: Pair, interface: u8) -> Result<Verdict, Status>
     ensures { result ≡ select_by rf ps p interface }
 {
+    let taken = is_listed(ps, p) & (interface == FRAME_INTERFACE);
     match rf {
-        Rf::W4HostSelect(_) => {
-            if is_listed(ps, p) & (interface == FRAME_INTERFACE) {
-                Ok(Verdict::Selects(p))
-            } else {
-                Err(Status::Rejected)
-            }
-        }
+        Rf::W4HostSelect(_) if taken => Ok(Verdict::Selects(p)),
+        Rf::W4HostSelect(_) => Err(Status::Rejected),
         _ => Err(Status::SemanticError),
     }
 }

@@ -12,13 +12,13 @@ pub response-response-requires : goal.response-response-requires
 response-response-requires c =
     let a = c.args in
     let e = a.e in
-    let d = c.decide-d.ensures in
+    let d = c.decide-decision.ensures in
     λ v. omega (arith, c.requires, judge_whole e.profile e.controller (open_at e.conns) a.gid a.oid a.m.now ((λ i. (sym d i).verdict) ∙ v))
 
 pub returns : goal.returns
 returns c =
     let a = c.args in
-    let d = c.decide-d.ensures in
+    let d = c.decide-decision.ensures in
     record {
       decision = d;
       response =

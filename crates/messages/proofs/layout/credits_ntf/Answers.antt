@@ -11,9 +11,6 @@ use Rattle.messages.proofs.layout.credits_ntf.Goals as goal
 pub loop-i-init : goal.loop-i-init
 loop-i-init c = entries_none _ _
 
-pub entry-at-requires : goal.entry-at-requires
-entry-at-requires c = omega (arith, c.loop-i.invariant)
-
 pub loop-i-preserved : goal.loop-i-preserved
 loop-i-preserved c =
     let a = c.args in
@@ -22,12 +19,6 @@ loop-i-preserved c =
     c.conn_of.ensures
     (c.owing.ensures ∙ sym (get_or-map (λ (k : Counts). owed_on k.controller) a.conns c.loop-i.i closed_counts))
     c.entry-at.ensures.octets c.entry-at.ensures.next
-
-pub overflow_cast-out : goal.overflow_cast-out
-overflow_cast-out c = omega (arith, c.loop-i.invariant)
-
-pub bounds-out-0 : goal.bounds-out-0
-bounds-out-0 c = omega (arith, c.loop-i.invariant)
 
 pub returns : goal.returns
 returns c =
