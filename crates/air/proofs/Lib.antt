@@ -2,5 +2,4 @@ pub mod Picked
 pub mod Room
 pub mod Taken
 pub mod Spoken
-pub mod Small
 pub mod SmallEvents

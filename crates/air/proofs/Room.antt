@@ -14,7 +14,7 @@ use Rattle.air.specs.Kinds.{Profile, Event}
 use Rattle.air.specs.Kinds.event.{Found, Poll, Listen, Failed, Sleeps, LinkLost, Releases, Endpoint}
 use Rattle.state.specs.Runs.{control_limit}
 use Rattle.state.specs.Radio.{polls, listens, id_ok}
-use Rattle.air.specs.Air.{target_of, found_in, poll_in, listen_in, event_of, air_message}
+use Rattle.air.specs.Air.{target_of, found_in, active_in, poll_in, listen_in, event_of, air_message}
 use Rattle.state.proofs.Chains.{every_at, pick_by}
 
 -- ---- the notification of an event that was read
@@ -35,27 +35,20 @@ module _ (p : Profile) (m : Octets) where
       record { short = simp (length-append, length-drop) (omega arith) })
       (omega arith)
 
+  active_short : (b : Bool) (e : Event) → (length m ≤ 36 → Short p m (Some e)) → Short p m (active_in m b e)
+  unfolding air_message
+  active_short b e f =
+      pick_by (Short p m) _ (Some e) None
+      (λ h. f (leb-true (length m) 36 (every_at (leb 4 (length m)) (leb (length m) 36 ∷ id_ok (get_or m 1 0) ∷ b ∷ []) h 1)))
+      (omega arith)
+
   poll_short : Short p m (poll_in m)
   unfolding poll_in air_message
-  poll_short =
-      pick_by (Short p m) _ (Some (Poll (target_of m))) None
-      (λ h.
-      let n : length m ≤ 36 =
-      leb-true (length m) 36
-      (every_at (leb 4 (length m)) (leb (length m) 36 ∷ id_ok (get_or m 1 0) ∷ polls (get_or m 3 0) ∷ []) h 1) in
-      record { short = simp (length-append, length-drop) (omega arith) })
-      (omega arith)
+  poll_short = active_short (polls (get_or m 3 0)) (Poll (target_of m)) (λ n. record { short = simp (length-append, length-drop) (omega arith) })
 
   listen_short : Short p m (listen_in m)
   unfolding listen_in air_message
-  listen_short =
-      pick_by (Short p m) _ (Some (Listen (target_of m))) None
-      (λ h.
-      let n : length m ≤ 36 =
-      leb-true (length m) 36
-      (every_at (leb 4 (length m)) (leb (length m) 36 ∷ id_ok (get_or m 1 0) ∷ listens (get_or m 3 0) ∷ []) h 1) in
-      record { short = simp (length-append, length-drop) (omega arith) })
-      (omega arith)
+  listen_short = active_short (listens (get_or m 3 0)) (Listen (target_of m)) (λ n. record { short = simp (length-append, length-drop) (omega arith) })
 
   or : (b : Bool) {x y : Option Event} → Short p m x → Short p m y → Short p m (pick b x y)
   or true h k = h

@@ -4,7 +4,7 @@ use Rattle.std.specs.Prelude.{Option, Some, None}
 use Prim.Native.Nat.{ℕ, ◌≤◌}
 use native.Mathlib.Omega.{arith}
 use mathlib.Core.Path.{◌≡◌, refl, ◌∙◌}
-use mathlib.Core.Bool.{true, false, ◌&&◌, ◌||◌}
+use mathlib.Core.Bool.{Bool, true, false, ◌&&◌, ◌||◌}
 use mathlib.Core.List.{[], ◌∷◌}
 use lib.Dec.{eqb, ltb, leb}
 use lib.ListN.{length, get_or, drop, length-drop, length-set}
@@ -19,7 +19,7 @@ use Rattle.air.specs.Kinds.aired.{Goes, Activates, Ends, Speaks}
 use Rattle.state.specs.Radio.{is_active, is_listening, is_asleep, polls, listens, id_ok, pair_of, same_pair, added_to}
 use Rattle.state.proofs.Chains.{every_at, on}
 use Rattle.state.proofs.Steady.{Steady}
-use Rattle.air.specs.Air.{found_in, poll_in, listen_in, event_of, no_room, found_to, found_by, poll_by, listen_by, failed_by, aired_by, listed_after, controller_aired}
+use Rattle.air.specs.Air.{target_of, found_in, active_in, poll_in, listen_in, event_of, no_room, found_to, found_by, poll_by, listen_by, failed_by, aired_by, listed_after, controller_aired}
 
 -- ---- an event of the air that was read is within its limits
 
@@ -46,23 +46,21 @@ module _ (m : Octets) where
       (k, at 2, at 3, leb-true (get_or m 4 0) 2 (at 4), simp length-drop (omega arith)))
       (λ e. tt)
 
+  active_within : (b : Bool) (e : Event) → (id_ok (get_or m 1 0) ≡ true → b ≡ true → length (drop 4 m) ≤ 32 → Within m (Some e)) → Within m (active_in m b e)
+  active_within b e f =
+      on (Within m) (leb 4 (length m) && leb (length m) 36 && id_ok (get_or m 1 0) && b)
+      (λ h. let at = every_at (leb 4 (length m)) (leb (length m) 36 ∷ id_ok (get_or m 1 0) ∷ b ∷ []) h in
+      let long = leb-true (length m) 36 (at 1) in
+      f (at 2) (at 3) (simp length-drop (omega arith)))
+      (λ h. tt)
+
   poll_within : eqb (get_or m 0 0) 8 ≡ false → Within m (poll_in m)
   unfolding poll_in
-  poll_within k =
-      on (Within m) (leb 4 (length m) && leb (length m) 36 && id_ok (get_or m 1 0) && polls (get_or m 3 0))
-      (λ e. let at = every_at (leb 4 (length m)) (leb (length m) 36 ∷ id_ok (get_or m 1 0) ∷ polls (get_or m 3 0) ∷ []) e in
-      let long = leb-true (length m) 36 (at 1) in
-      (k, at 2, at 3, simp length-drop (omega arith)))
-      (λ e. tt)
+  poll_within k = active_within (polls (get_or m 3 0)) (Poll (target_of m)) (λ named polling short. (k, named, polling, short))
 
   listen_within : eqb (get_or m 0 0) 8 ≡ false → Within m (listen_in m)
   unfolding listen_in
-  listen_within k =
-      on (Within m) (leb 4 (length m) && leb (length m) 36 && id_ok (get_or m 1 0) && listens (get_or m 3 0))
-      (λ e. let at = every_at (leb 4 (length m)) (leb (length m) 36 ∷ id_ok (get_or m 1 0) ∷ listens (get_or m 3 0) ∷ []) e in
-      let long = leb-true (length m) 36 (at 1) in
-      (k, at 2, at 3, simp length-drop (omega arith)))
-      (λ e. tt)
+  listen_within k = active_within (listens (get_or m 3 0)) (Listen (target_of m)) (λ named listening short. (k, named, listening, short))
 
   pub event_within : Within m (event_of m)
   unfolding event_of

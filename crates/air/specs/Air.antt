@@ -24,13 +24,17 @@ found_in m =
     pick (leb 5 (length m) && leb (length m) 37 && id_ok (get_or m 1 0) && polls (get_or m 3 0) && leb (get_or m 4 0) more_follow)
     (Some (Found (target_of m) (get_or m 4 0))) None
 
--- 2: ID, protocol, mode, parameters
-unfoldable pub poll_in : Octets → Option Event
-poll_in m = pick (leb 4 (length m) && leb (length m) 36 && id_ok (get_or m 1 0) && polls (get_or m 3 0)) (Some (Poll (target_of m))) None
+-- 2 and 3: ID, protocol, a mode of the kind, parameters
+abbrev pub active_in : Octets → Bool → Event → Option Event
+active_in m in_mode e = pick (leb 4 (length m) && leb (length m) 36 && id_ok (get_or m 1 0) && in_mode) (Some e) None
 
--- 3: the same with a listening mode
+-- 2: a polling mode
+unfoldable pub poll_in : Octets → Option Event
+poll_in m = active_in m (polls (get_or m 3 0)) (Poll (target_of m))
+
+-- 3: a listening mode
 unfoldable pub listen_in : Octets → Option Event
-listen_in m = pick (leb 4 (length m) && leb (length m) 36 && id_ok (get_or m 1 0) && listens (get_or m 3 0)) (Some (Listen (target_of m))) None
+listen_in m = active_in m (listens (get_or m 3 0)) (Listen (target_of m))
 
 -- 4 to 7: the kind alone
 abbrev pub alone : Octets → Event → Option Event

@@ -1,12 +1,10 @@
 // The air (document 01, "The air"): the octets of an event, whether the state takes it, and its notification. What it does is in effects.
-ghost use Rattle.std.specs.Prelude.{◌≡◌, ◌+◌, ◌≤◌, ◌&&◌, length, get_or, leb, drop, Some, None};
-ghost use Rattle.octets.specs.Octets.{pick};
+ghost use Rattle.std.specs.Prelude.{◌≡◌, ◌+◌, ◌≤◌, length, drop};
 ghost use Rattle.state.specs.Names.{gid_rf, oid_discover, oid_activated};
 ghost use Rattle.state.specs.Conn.{terms_of};
-ghost use Rattle.state.specs.Radio.{id_ok};
 ghost use Rattle.state.specs.Runs.{control_limit};
 ghost use Rattle.messages.specs.Layout.{Put, MayPut, discover_ntf, activated_ntf};
-ghost use Rattle.air.specs.Air.{target_of, found_in, poll_in, listen_in, event_of, kind_of, no_room, found_to, found_by, poll_by, listen_by, failed_by, aired_by, air_message};
+ghost use Rattle.air.specs.Air.{target_of, found_in, active_in, poll_in, listen_in, event_of, kind_of, no_room, found_to, found_by, poll_by, listen_by, failed_by, aired_by, air_message};
 
 use messages::layout::{Note, activated_ntf, deactivate_ntf, discover_ntf, generic_error_ntf};
 use state::conn::terms_of;
@@ -72,7 +70,7 @@ fn found_in(m: &[u8]) -> Option<Event>
 
 // Kinds 2 and 3: ID, protocol, a mode of the kind, and up to 32 parameter octets.
 fn active_in(m: &[u8], in_mode: bool, e: Event) -> Option<Event>
-    ensures { result ≡ pick (leb 4 (length m.now) && leb (length m.now) 36 && id_ok (get_or m.now 1 0) && in_mode) (Some e) None }
+    ensures { result ≡ active_in m.now in_mode e }
 {
     let n = m.len();
     let ok = (4 <= n) & (n <= 36) & id_ok(octets::octet_at(m, 1)) & in_mode;

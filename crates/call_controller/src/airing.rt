@@ -80,7 +80,9 @@ fn plan(r: Record, m: &[u8], spoken: bool) -> Record
 
 // The notification of an event goes into a slot, by way of a buffer.
 fn put_notice(area: &mut [u8], slot: usize, p: Profile, m: &[u8])
-    requires { (slot + slot_size ≤ length area.old) × (eqb (kind_of (event_of m.now)) 0 ≡ false) × (speaks m.now ≡ false) }
+    requires room { slot + slot_size ≤ length area.old }
+    requires known { eqb (kind_of (event_of m.now)) 0 ≡ false }
+    requires told { speaks m.now ≡ false }
     ensures { area.new ≡ splice area.old slot (notice_packet (air_message p (event_of m.now) m.now)) }
 {
     let mut buffer = [0u8; CONTROL_LIMIT];

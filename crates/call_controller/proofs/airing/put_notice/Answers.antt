@@ -47,6 +47,6 @@ pub returns-in_default : goal.returns-in_default
 returns-in_default c =
     let p = c.args.p in
     let m = c.args.m.now in
-    let there = notified p (event_of m) m c.requires.1 in
+    let there = notified p (event_of m) m c.requires.known in
     let none = none_noted c.in_default.ensures in
-    absurd (false≢true (sym c.requires.2 ∙ sym there ∙ (λ i. eqb (length (air_message p (sym c.event_of-e.ensures i) m).payload) 0) ∙ none))
+    absurd (false≢true (sym c.requires.told ∙ sym there ∙ (λ i. eqb (length (air_message p (sym c.event_of-e.ensures i) m).payload) 0) ∙ none))
