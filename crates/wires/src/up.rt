@@ -126,7 +126,8 @@ pub fn credits_on(slot: &[u8], conn: u8) -> u8
     inside_credits(inside_of(h, n), packets::payload(slot, n), conn)
 }
 
-// Credits for the connection, over the packets of the ring at base.
+// Credits for the connection, over the packets of the ring at base. A loop, here and in `down::data_count`: with a closure in
+// `.map(..).sum()` the bound of the sum (`sum-requires-clause-fits`) and `returns` stayed open.
 pub fn credits_up(area: &[u8], base: usize, r: Ring, conn: u8) -> usize
     requires { (r.head < wire_slots) × (r.count ≤ wire_slots) × (base + wire_size ≤ length area.now) }
     ensures { result ≡ counted_up conn (packets_in base wire_slots area.now r) }
