@@ -61,7 +61,7 @@ pub fn metered(grant: u8) -> u8
 pub fn credit_sum(held: u8, n: usize) -> u8
     ensures { result ≡ credit_sum held n }
 {
-    ((held as usize + n % 256) % 256) as u8
+    held.wrapping_add((n % 256) as u8)
 }
 
 // What is owed on a connection, if it is open at the controller and flow-controlled.

@@ -76,7 +76,6 @@ pub fn no_pairs() -> Pairs
 }
 
 // Whether a pair is among those found.
-#[tactic(auto, unfolding(crate::specs::Radio::listed_in))]
 pub fn is_listed(ps: Pairs, p: Pair) -> bool
     ensures { result ≡ listed ps p }
 {
