@@ -2,4 +2,5 @@
 // (calls/specs/Word.antt). What every call does first, what refuses it and what it does is in the crates below.
 #![tactic(auto)]
 
+mod attempt;
 pub mod exports;

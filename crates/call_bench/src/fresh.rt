@@ -2,6 +2,7 @@
 ghost use Rattle.std.specs.Prelude.{◌≡◌, ◌++◌, ◌≤◌, length};
 ghost use Rattle.octets.specs.Octets.{splice};
 ghost use Rattle.state.specs.Profile.{profile_in};
+ghost use Rattle.state.specs.Refusal.{number_in};
 ghost use Rattle.area.specs.Map.{area_size};
 ghost use Rattle.area.specs.Movers.{zeros};
 ghost use Rattle.config.specs.Stored.{defaults};
@@ -15,20 +16,20 @@ ghost use Rattle.calls.specs.calls.Fresh.{quiet_word, room_rules};
 ghost use Rattle.views.specs.View.{view_of};
 
 use area::{map, movers};
-use octets::choose;
 use record::{parameters, write};
 use state::cold::cold_ends;
 use state::kinds::{Profile, Record, Ring};
 use state::profile;
+use state::refusal::Refusal;
 
-// The number for which a fresh is not taken, 0 for none: for areas and buffers of these lengths.
-pub fn refusal(area: usize, room: usize, m: &[u8]) -> u8
-    ensures { Lowest (λ a. room_rules area room ++ rules (fresh m.now) (view_of a)) result }
+// Why a fresh is not taken: for areas and buffers of these lengths.
+#[tactic(auto, unfolding(calls::specs::Outcome::lowest))]
+pub fn refusal(area: usize, room: usize, m: &[u8]) -> Result<(), Refusal>
+    ensures { Lowest (λ a. room_rules area room ++ rules (fresh m.now) (view_of a)) (number_in result) }
 {
-    let ok = profile::profile_octets_ok(m);
-    let three = choose(!ok, 3, 0);
-    let buffer = choose(room < map::MESSAGE, 2, three);
-    choose(area < map::AREA, 2, buffer)
+    Refusal::TooShort.when(area < map::AREA)?;
+    Refusal::TooShort.when(room < map::MESSAGE)?;
+    Refusal::OutsideLimit.when(!profile::profile_octets_ok(m))
 }
 
 // The record of a cold bench.

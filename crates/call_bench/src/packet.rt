@@ -1,6 +1,7 @@
 // A packet that was put on a wire, for front ends that show packets. No octet of the area changes.
 ghost use Rattle.std.specs.Prelude.{◌≡◌, ◌+◌, ◌≤◌, ◌<◌, length};
 ghost use Rattle.octets.specs.Octets.{cut};
+ghost use Rattle.state.specs.Refusal.{number_in};
 ghost use Rattle.area.specs.Map.{slot_size, wire_slots, wire_size, area_size, message_size};
 ghost use Rattle.area.specs.Ring.{slot_at, trim};
 ghost use Rattle.record.specs.Fit.{FitRing};
@@ -8,8 +9,9 @@ ghost use Rattle.calls.specs.Outcome.{lowest, outcome};
 ghost use Rattle.calls.specs.Packet.{wire_ring, wire_at, slot_back, packet_back, packet_rules, shown_packet, Showable};
 
 use area::map;
-use octets::{choose, octet_at, window};
+use octets::{octet_at, window};
 use state::kinds::{Record, Ring};
+use state::refusal::Refusal;
 
 // The ring of a wire: 0 is the down wire.
 fn wire_ring(r: Record, wire: u8) -> Ring
@@ -25,13 +27,14 @@ fn wire_at(wire: u8) -> usize
     if wire == 0 { map::DOWN_AT } else { map::UP_AT }
 }
 
-// The number for which no packet is read, 0 for none.
-pub fn refusal(r: Record, wire: u8, back: u8) -> u8
-    ensures { result ≡ lowest (packet_rules r wire back) }
+// Why no packet is read.
+#[tactic(auto, unfolding(calls::specs::Outcome::lowest))]
+pub fn refusal(r: Record, wire: u8, back: u8) -> Result<(), Refusal>
+    ensures { number_in result ≡ lowest (packet_rules r wire back) }
 {
     let k = wire_ring(r, wire);
-    let eight = choose(k.count <= back as usize, 8, 0);
-    choose(1 < wire, 3, eight)
+    Refusal::OutsideLimit.when(1 < wire)?;
+    Refusal::NothingToMove.when(k.count <= back as usize)
 }
 
 // Where the slot starts whose packet has so many others after it.

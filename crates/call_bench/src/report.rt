@@ -2,6 +2,7 @@
 ghost use Rattle.std.specs.Prelude.{◌≡◌, ◌≤◌, length};
 ghost use Rattle.octets.specs.Octets.{pick, splice};
 ghost use Rattle.state.specs.Conn.{flows};
+ghost use Rattle.state.specs.Refusal.{number_in};
 ghost use Rattle.area.specs.Map.{area_size, message_size};
 ghost use Rattle.views.specs.View.{view};
 ghost use Rattle.model.specs.calls.Report.{report_of, report_rules};
@@ -12,18 +13,16 @@ use area::map;
 use octets::choose;
 use state::conn;
 use state::kinds::{HostSide, Record};
+use state::refusal::Refusal;
 use wires::{down, up};
 
-// The number for which a report is not taken, 0 for none.
-pub fn refusal(r: Record, conn: u8) -> u8
-    ensures { Lowest (λ a. report_rules conn (view a r)) result }
+// Why a report is not taken.
+#[tactic(auto, unfolding(calls::specs::Outcome::lowest, state::specs::Conn::open_at))]
+pub fn refusal(r: Record, conn: u8) -> Result<(), Refusal>
+    ensures { Lowest (λ a. report_rules conn (view a r)) (number_in result) }
 {
-    let ends = r.ends;
-    let conns = ends.conns;
-    let place = conn::place_of(conn);
-    let opened = conn::open_at(conns, conn);
-    let six = choose(!opened, 6, 0);
-    choose(map::PLACES <= place, 3, six)
+    Refusal::OutsideLimit.when(map::PLACES <= conn::place_of(conn))?;
+    Refusal::NotOpen.when(!conn::open_at(r.ends.conns, conn))
 }
 
 // Credits held, 0 while the host hasn't the connection open; without flow control 255.

@@ -3,6 +3,7 @@
 ghost use Rattle.std.specs.Prelude.{◌≡◌, true, ◌+◌, ◌≤◌, ◌<◌, length};
 ghost use Rattle.octets.specs.Octets.{pick, cut, splice};
 ghost use Rattle.state.specs.Conn.{place_of, flows, credit_sum};
+ghost use Rattle.state.specs.Refusal.{number_in};
 ghost use Rattle.state.specs.Runs.{joined_of};
 ghost use Rattle.area.specs.Map.{area_size, payload_size, message_size, wire_slots, places, controller_run_at};
 ghost use Rattle.area.specs.Ring.{put_into};
@@ -14,29 +15,25 @@ ghost use Rattle.calls.specs.Outcome.{outcome, Lowest};
 ghost use Rattle.calls.specs.calls.Consume.{controller_side, oldest_at, oldest_read, consumed_side, echoed_side, echoed_credits, consumed_record, consumed_run, echoed_slot, consumed_word, consumed_as, joined_by, consumed, Consumable};
 
 use area::{map, movers, ring};
-use octets::choose;
 use packets::Header;
 use record::write;
 use state::kinds::{ControllerSide, Progress, Record, Ring};
+use state::refusal::Refusal;
 use state::runs::Joined;
 use state::{conn, runs};
 
 // ---- what refuses it
 
-// The number for which a consume is not taken, 0 for none: the first of the model's rules, whatever the area's octets are.
-pub fn refusal(r: Record, conn: u8) -> u8
-    ensures { Lowest (λ a. consume_rules conn (view a r)) result }
+// Why a consume is not taken: the first of the model's rules, whatever the area's octets are.
+#[tactic(auto, unfolding(calls::specs::Outcome::lowest), using(calls::proofs::ConsumeRecord::consume_tests_law))]
+pub fn refusal(r: Record, conn: u8) -> Result<(), Refusal>
+    ensures { Lowest (λ a. consume_rules conn (view a r)) (number_in result) }
 {
-    let ends = r.ends;
-    let conns = ends.conns;
-    let count = r.up.count;
-    let k = conn::counts_of(conns, conn);
-    let side = k.controller;
-    let place = conn::place_of(conn);
-    let eight = choose(side.store.count == 0, 8, 0);
-    let six = choose(!side.opened, 6, eight);
-    let four = choose((0 != conn) & (map::WIRE <= count), 4, six);
-    choose(map::PLACES <= place, 3, four)
+    let side = conn::counts_of(r.ends.conns, conn).controller;
+    Refusal::OutsideLimit.when(map::PLACES <= conn::place_of(conn))?;
+    Refusal::TooFewSlots.when((0 != conn) & (map::WIRE <= r.up.count))?;
+    Refusal::NotOpen.when(!side.opened)?;
+    Refusal::NothingToMove.when(side.store.count == 0)
 }
 
 // ---- the record after it

@@ -2,6 +2,7 @@
 // name of a crate that is used here, so it is not called air.)
 ghost use Rattle.std.specs.Prelude.{◌≡◌, ◌+◌, ◌≤◌, false, length, eqb};
 ghost use Rattle.octets.specs.Octets.{splice};
+ghost use Rattle.state.specs.Refusal.{number_in};
 ghost use Rattle.messages.specs.Packets.{notice_packet};
 ghost use Rattle.air.specs.Air.{event_of, kind_of, air_message};
 ghost use Rattle.area.specs.Map.{slot_size, wire_slots, area_size};
@@ -16,33 +17,29 @@ use air::events;
 use air::events::Event;
 use area::{map, movers, ring};
 use ends::event;
-use octets::choose;
 use packets::Header;
 use record::write;
 use state::kinds::{Profile, Record};
+use state::refusal::Refusal;
 use state::runs::CONTROL_LIMIT;
 
-// The number for which an event is not taken, 0 for none: the first of the model's rules, whatever the area's octets are.
-#[tactic(auto, using(calls::proofs::Air::air_tests_law), unfolding(calls::specs::Outcome::lowest))]
-pub fn refusal(r: Record, m: &[u8]) -> u8
-    ensures { Lowest (λ a. air_rules m.now (view a r)) result }
+// Why an event is not taken: the first of the model's rules, whatever the area's octets are.
+#[tactic(auto, unfolding(calls::specs::Outcome::lowest), using(calls::proofs::Air::air_tests_law))]
+pub fn refusal(r: Record, m: &[u8]) -> Result<(), Refusal>
+    ensures { Lowest (λ a. air_rules m.now (view a r)) (number_in result) }
 {
-    let ends = r.ends;
-    let controller = ends.controller;
-    let rf = controller.rf;
-    let hand = ends.endpoint;
+    let controller = r.ends.controller;
     let down = r.down.count;
     let up = r.up.count;
     let e = events::event_of(m);
     let kind = events::kind_of(e);
-    let aired = events::judge_event(rf, controller.pairs, e);
-    let refused = aired.is_none();
+    let aired = events::judge_event(controller.rf, controller.pairs, e);
     let activates = (kind == 2) | (kind == 3);
-    let fourteen = choose(activates & ((down != 0) | (up != 0)), 14, 0);
-    let eleven = choose(refused, 11, fourteen);
-    let seven = choose((kind == 8) & hand.full, 7, eleven);
-    let four = choose((1 <= kind) & (kind <= 7) & (map::WIRE <= up), 4, seven);
-    choose(kind == 0, 3, four)
+    Refusal::OutsideLimit.when(kind == 0)?;
+    Refusal::TooFewSlots.when((1 <= kind) & (kind <= 7) & (map::WIRE <= up))?;
+    Refusal::InHand.when((kind == 8) & r.ends.endpoint.full)?;
+    Refusal::NotInThisState.when(aired.is_none())?;
+    Refusal::WiresNotEmpty.when(activates & ((down != 0) | (up != 0)))
 }
 
 // Whether the octets are those of an endpoint that speaks.

@@ -1,6 +1,7 @@
 // credit: one notice of all that is owed goes up, and nothing is owed after it.
 ghost use Rattle.std.specs.Prelude.{◌≡◌, ◌+◌, ◌≤◌, length};
 ghost use Rattle.octets.specs.Octets.{splice};
+ghost use Rattle.state.specs.Refusal.{number_in};
 ghost use Rattle.messages.specs.Layout.{owed_of, credits_message};
 ghost use Rattle.messages.specs.Packets.{notice_packet};
 ghost use Rattle.area.specs.Map.{area_size, slot_size, places};
@@ -12,11 +13,11 @@ ghost use Rattle.calls.specs.calls.Credit.{credited_record, credited_slot, credi
 
 use area::{map, movers, ring};
 use messages::layout;
-use octets::choose;
 use packets::Header;
 use record::write;
 use state::conn;
 use state::kinds::{Counts, Record};
+use state::refusal::Refusal;
 use state::runs::CONTROL_LIMIT;
 
 // Whether nothing is owed on any connection; they are five, which the array's type says and its caller needs. From the last
@@ -36,16 +37,13 @@ fn none_owed(conns: [Counts; 5]) -> bool
     none
 }
 
-// The number for which a credit is not taken, 0 for none: the first of the model's rules, whatever the area's octets are.
-pub fn refusal(r: Record) -> u8
-    ensures { Lowest (λ a. credit_rules (view a r)) result }
+// Why a credit is not taken: the first of the model's rules, whatever the area's octets are.
+pub fn refusal(r: Record) -> Result<(), Refusal>
+    ensures { Lowest (λ a. credit_rules (view a r)) (number_in result) }
 {
-    let ends = r.ends;
-    let conns = ends.conns;
-    let count = r.up.count;
-    let none = none_owed(conns);
-    let eight = choose(none, 8, 0);
-    choose(map::WIRE <= count, 4, eight)
+    let none = none_owed(r.ends.conns);
+    Refusal::TooFewSlots.when(map::WIRE <= r.up.count)?;
+    Refusal::NothingToMove.when(none)
 }
 
 // The record after a credit.

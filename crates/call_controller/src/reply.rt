@@ -1,5 +1,6 @@
 // reply: the next segment of the endpoint's message goes up on connection 0, with the credits that it carries.
 ghost use Rattle.std.specs.Prelude.{◌≡◌, ◌≤◌, length};
+ghost use Rattle.state.specs.Refusal.{number_in};
 ghost use Rattle.area.specs.Map.{area_size};
 ghost use Rattle.record.specs.Claims.{saved};
 ghost use Rattle.views.specs.View.{view};
@@ -9,21 +10,19 @@ ghost use Rattle.calls.specs.calls.Consume.{controller_side};
 ghost use Rattle.calls.specs.calls.Reply.{replied_record, replied_slot, replied_word, Replyable};
 
 use area::{map, movers, ring};
-use octets::choose;
 use packets::Header;
 use record::write;
 use state::conn;
 use state::kinds::{ControllerSide, Record};
+use state::refusal::Refusal;
 
-// The number for which a reply is not taken, 0 for none: the first of the model's rules, whatever the area's octets are.
-pub fn refusal(r: Record) -> u8
-    ensures { Lowest (λ a. reply_rules (view a r)) result }
+// Why a reply is not taken: the first of the model's rules, whatever the area's octets are.
+#[tactic(auto, unfolding(calls::specs::Outcome::lowest), using(calls::proofs::Reply::reply_tests_law))]
+pub fn refusal(r: Record) -> Result<(), Refusal>
+    ensures { Lowest (λ a. reply_rules (view a r)) (number_in result) }
 {
-    let ends = r.ends;
-    let hand = ends.endpoint;
-    let count = r.up.count;
-    let eight = choose(!hand.full, 8, 0);
-    choose(map::WIRE <= count, 4, eight)
+    Refusal::TooFewSlots.when(map::WIRE <= r.up.count)?;
+    Refusal::NothingToMove.when(!r.ends.endpoint.full)
 }
 
 // Connection 0 at the controller.

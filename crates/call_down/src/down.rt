@@ -2,6 +2,7 @@
 ghost use Rattle.std.specs.Prelude.{◌≡◌, ◌&&◌, ◌+◌, ◌≤◌, ◌<◌, length, eqb, leb, IfSome};
 ghost use Rattle.octets.specs.Octets.{splice};
 ghost use Rattle.state.specs.Conn.{place_of, open_at};
+ghost use Rattle.state.specs.Refusal.{number_in};
 ghost use Rattle.area.specs.Map.{area_size, slot_size, payload_size, control_size, wire_slots, store_slots, places, up_at};
 ghost use Rattle.area.specs.Ring.{free_at};
 ghost use Rattle.area.specs.Movers.{puts_all};
@@ -17,10 +18,10 @@ use area::{map, movers, ring};
 use ends::command;
 use messages::layout::Note;
 use nfcc::effects;
-use octets::choose;
 use packets::{Header, Way};
 use record::{parameters, write};
 use state::kinds::{ControlRun, Record, Ring};
+use state::refusal::Refusal;
 use state::verdict::{Status, Verdict};
 use state::{conn, runs};
 
@@ -37,29 +38,20 @@ fn store_full(r: Record, h: Header) -> bool
     (h.mt == packets::DATA) & open & (map::STORE <= k.controller.store.count)
 }
 
-// The number for which a down is not taken, 0 for none: the first of the model's rules. Of an empty wire there is no packet
-// to read.
-pub fn refusal(area: &[u8], r: Record) -> u8
+// Why a down is not taken: the first of the model's rules. Of an empty wire there is no packet to read.
+pub fn refusal(area: &[u8], r: Record) -> Result<(), Refusal>
     requires { FitRing wire_slots r.down }
-    ensures { result ≡ lowest (down_rules (view area.now r)) }
+    ensures { number_in result ≡ lowest (down_rules (view area.now r)) }
 {
-    let down = r.down;
-    let taken = r.up.count;
-    if down.count == 0 {
-        return 8;
-    }
-    let slot = ring::first_at(map::DOWN_AT, down);
-    let got = movers::read_slot(area, slot);
-    let Some((h, _)) = got else {
-        return 0;
+    Refusal::NothingToMove.when(r.down.count == 0)?;
+    let slot = ring::first_at(map::DOWN_AT, r.down);
+    let Some((h, _)) = movers::read_slot(area, slot) else {
+        return Ok(());
     };
-    let full = store_full(r, h);
-    let twelve = choose(full, 12, 0);
-    choose(
-        (h.mt == packets::COMMAND) & !h.pbf & (map::WIRE - 2 < taken),
-        4,
-        twelve,
-    )
+    Refusal::TooFewSlots.when(
+        (h.mt == packets::COMMAND) & !h.pbf & (map::WIRE - 2 < r.up.count),
+    )?;
+    Refusal::StoreFull.when(store_full(r, h))
 }
 
 // ---- a packet that is dropped

@@ -5,22 +5,15 @@
 ghost use Rattle.calls.specs.Outcome.{Enters};
 
 use area::map;
-use record::load;
-use record::load::Loaded;
+use record::load::load;
+use state::kinds::Record;
+use state::refusal::Refusal;
 
-pub fn enter(area: &[u8], room: usize) -> Loaded
+#[tactic(auto, unfolding(record::specs::Load::load_of, calls::specs::Outcome::lowest))]
+pub fn enter(area: &[u8], room: usize) -> Result<Record, Refusal>
     ensures { Enters area.now room result }
 {
-    let l = load::load(area);
-    if l.answer != 0 {
-        return l;
-    }
-    if room < map::MESSAGE {
-        let r = l.record;
-        return Loaded {
-            answer: 2,
-            record: r,
-        };
-    }
-    l
+    let r = load(area)?;
+    Refusal::TooShort.when(room < map::MESSAGE)?;
+    Ok(r)
 }

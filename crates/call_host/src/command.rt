@@ -1,5 +1,6 @@
 // command: all segments of a command go on the down wire.
 ghost use Rattle.std.specs.Prelude.{◌≡◌, ◌+◌, ◌≤◌, length, ltb};
+ghost use Rattle.state.specs.Refusal.{number_in};
 ghost use Rattle.area.specs.Map.{wire_slots, area_size};
 ghost use Rattle.record.specs.Claims.{saved};
 ghost use Rattle.views.specs.View.{view};
@@ -10,10 +11,10 @@ ghost use Rattle.calls.specs.calls.Command.{commanded_count, commanded_record, c
 use area::{map, movers};
 use dh::host::is_busy;
 use dh::sending;
-use octets::choose;
 use packets::Header;
 use record::write;
 use state::kinds::{Record, Ring};
+use state::refusal::Refusal;
 
 // Whether a wire with so many packets has fewer than n free slots.
 fn crowded(count: usize, n: usize) -> bool
@@ -25,26 +26,18 @@ fn crowded(count: usize, n: usize) -> bool
     map::WIRE - count < n
 }
 
-// The number for which a command is not taken, 0 for none: the first of the model's rules, whatever the area's octets are.
-pub fn refusal(r: Record, gid: u8, oid: u8, payload: &[u8]) -> u8
+// Why a command is not taken: the first of the model's rules, whatever the area's octets are.
+#[tactic(auto, unfolding(calls::specs::Outcome::lowest), using(calls::proofs::Command::command_tests_law))]
+pub fn refusal(r: Record, gid: u8, oid: u8, payload: &[u8]) -> Result<(), Refusal>
     requires { 1 ≤ r.ends.host.size }
-    ensures { Lowest (λ a. command_rules gid oid payload.now (view a r)) result }
+    ensures { Lowest (λ a. command_rules gid oid payload.now (view a r)) (number_in result) }
 {
-    let ends = r.ends;
-    let host = ends.host;
-    let pending = host.pending;
-    let size = host.size as usize;
-    let count = r.down.count;
-    let n = packets::segment_count(payload, size);
-    let busy = is_busy(pending);
-    let full = crowded(count, n);
-    let five = choose(busy, 5, 0);
-    let four = choose(full, 4, five);
-    choose(
+    let n = packets::segment_count(payload, r.ends.host.size as usize);
+    Refusal::OutsideLimit.when(
         (15 < gid) | (63 < oid) | (map::PAYLOAD < payload.len()),
-        3,
-        four,
-    )
+    )?;
+    Refusal::TooFewSlots.when(crowded(r.down.count, n))?;
+    Refusal::Unanswered.when(is_busy(r.ends.host.pending))
 }
 
 // The record after a command of n segments.

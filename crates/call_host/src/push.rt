@@ -1,5 +1,6 @@
 // push: the next segment of the message in hand goes down, and a credit is spent if flow-controlled.
 ghost use Rattle.std.specs.Prelude.{◌≡◌, ◌≤◌, length};
+ghost use Rattle.state.specs.Refusal.{number_in};
 ghost use Rattle.area.specs.Map.{area_size};
 ghost use Rattle.record.specs.Claims.{saved};
 ghost use Rattle.views.specs.View.{view};
@@ -10,31 +11,24 @@ ghost use Rattle.calls.specs.calls.Push.{pushed_record, pushed_slot, pushed_word
 use area::{map, movers, ring};
 use dh::host::is_closing;
 use dh::sending;
-use octets::choose;
 use packets::Header;
 use record::write;
 use state::conn;
 use state::kinds::Record;
+use state::refusal::Refusal;
 
-// The number for which a push is not taken, 0 for none: the first of the model's rules, whatever the area's octets are.
-pub fn refusal(r: Record, conn: u8) -> u8
-    ensures { Lowest (λ a. push_rules conn (view a r)) result }
+// Why a push is not taken: the first of the model's rules, whatever the area's octets are.
+#[tactic(auto, unfolding(calls::specs::Outcome::lowest), using(calls::proofs::Push::push_tests_law))]
+pub fn refusal(r: Record, conn: u8) -> Result<(), Refusal>
+    ensures { Lowest (λ a. push_rules conn (view a r)) (number_in result) }
 {
-    let ends = r.ends;
-    let conns = ends.conns;
-    let host = ends.host;
-    let pending = host.pending;
-    let count = r.down.count;
-    let k = conn::counts_of(conns, conn);
-    let h = k.host;
-    let place = conn::place_of(conn);
-    let closing = is_closing(pending);
-    let ten = choose(closing, 10, 0);
-    let nine = choose((h.grant != conn::UNMETERED) & (h.held == 0), 9, ten);
-    let eight = choose(!h.hand.full, 8, nine);
-    let six = choose(!h.opened, 6, eight);
-    let four = choose(map::WIRE <= count, 4, six);
-    choose(map::PLACES <= place, 3, four)
+    let h = conn::counts_of(r.ends.conns, conn).host;
+    Refusal::OutsideLimit.when(map::PLACES <= conn::place_of(conn))?;
+    Refusal::TooFewSlots.when(map::WIRE <= r.down.count)?;
+    Refusal::NotOpen.when(!h.opened)?;
+    Refusal::NothingToMove.when(!h.hand.full)?;
+    Refusal::NoCredit.when((h.grant != conn::UNMETERED) & (h.held == 0))?;
+    Refusal::Closing.when(is_closing(r.ends.host.pending))
 }
 
 // The record after a push.

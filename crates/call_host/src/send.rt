@@ -1,5 +1,6 @@
 // send: a message is put in hand.
 ghost use Rattle.std.specs.Prelude.{◌≡◌, ◌≤◌, length};
+ghost use Rattle.state.specs.Refusal.{number_in};
 ghost use Rattle.area.specs.Map.{area_size};
 ghost use Rattle.record.specs.Claims.{saved};
 ghost use Rattle.views.specs.View.{view};
@@ -10,31 +11,23 @@ ghost use Rattle.calls.specs.calls.Send.{sent_record, sent_place, sent_word, Sen
 use area::{map, movers};
 use dh::host::is_closing;
 use dh::sending;
-use octets::choose;
 use record::write;
 use state::conn;
 use state::kinds::Record;
+use state::refusal::Refusal;
 
-// The number for which a send is not taken, 0 for none: the first of the model's rules, whatever the area's octets are.
-pub fn refusal(r: Record, conn: u8, message: &[u8]) -> u8
-    ensures { Lowest (λ a. send_rules conn message.now (view a r)) result }
+// Why a send is not taken: the first of the model's rules, whatever the area's octets are.
+#[tactic(auto, unfolding(calls::specs::Outcome::lowest), using(calls::proofs::Send::send_tests_law))]
+pub fn refusal(r: Record, conn: u8, message: &[u8]) -> Result<(), Refusal>
+    ensures { Lowest (λ a. send_rules conn message.now (view a r)) (number_in result) }
 {
-    let ends = r.ends;
-    let conns = ends.conns;
-    let host = ends.host;
-    let pending = host.pending;
-    let k = conn::counts_of(conns, conn);
-    let h = k.host;
-    let place = conn::place_of(conn);
-    let closing = is_closing(pending);
-    let seven = choose(h.hand.full, 7, 0);
-    let six = choose(!h.opened, 6, seven);
-    let fifteen = choose(closing, 15, six);
-    choose(
-        (map::PLACES <= place) | (map::MESSAGE < message.len()),
-        3,
-        fifteen,
-    )
+    let h = conn::counts_of(r.ends.conns, conn).host;
+    Refusal::OutsideLimit.when(
+        (map::PLACES <= conn::place_of(conn)) | (map::MESSAGE < message.len()),
+    )?;
+    Refusal::SendClosing.when(is_closing(r.ends.host.pending))?;
+    Refusal::NotOpen.when(!h.opened)?;
+    Refusal::InHand.when(h.hand.full)
 }
 
 // The record after the message was put in hand.

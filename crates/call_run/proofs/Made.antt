@@ -4,10 +4,12 @@ use Prim.Native.Nat.{ℕ}
 use mathlib.Core.Path.{◌≡◌, refl, sym, ap, ◌∙◌, subst}
 use lib.ListN.{length}
 use borrow.Author.Tests.{le-ltb}
+use Rattle.std.specs.Prelude.{Option, Some, None, Ok, Err}
+use Rattle.std.specs.Result.{result_ok}
 use Rattle.octets.specs.Octets.{Octets}
+use Rattle.state.specs.Refusal.{Attempt, number_of, number_in}
 use Rattle.state.specs.declared.kinds.Record.{Record}
 use Rattle.area.specs.Map.{area_size, message_size, wire_slots}
-use Rattle.record.specs.declared.load.Loaded.{Loaded}
 use Rattle.record.specs.Fit.{FitRing, Fit}
 use Rattle.record.specs.Reading.{decode_of}
 use Rattle.views.specs.View.{view}
@@ -19,8 +21,8 @@ use Rattle.model.specs.calls.Consume.{consume_rules}
 use Rattle.model.specs.calls.Credit.{credit_rules}
 use Rattle.model.specs.calls.Reply.{reply_rules}
 use Rattle.model.specs.calls.Up.{up_rules}
-use Rattle.model.specs.Press.{moves, Move, first_of}
-use Rattle.calls.specs.Outcome.{outcome, entry_rules, lowest, Enters}
+use Rattle.model.specs.Press.{moves, rests, first_of}
+use Rattle.calls.specs.Outcome.{outcome, entry_rules, lowest}
 use Rattle.calls.specs.Demand.{perform}
 use Rattle.calls.specs.Run.{move_on}
 use Rattle.calls.specs.calls.Push.{pushed, push_call}
@@ -31,7 +33,8 @@ use Rattle.calls.specs.calls.Reply.{replied, reply_call}
 use Rattle.calls.specs.calls.Up.{upped, up_call}
 use Rattle.calls.proofs.Called.{sound_area, Entered, entered, called_taken}
 use Rattle.calls.proofs.Run.{move_shut, move_entered}
-use Rattle.call_run.specs.Moves.{played_by, Playable}
+use Rattle.call_run.specs.Moves.{Playable}
+use Rattle.call_run.proofs.Moves.{some_of}
 
 module _ (a out : Octets) (r : Record) (c : Call) (p : Playable a out r c) where
   pub no_entry : 0 ≡ lowest (entry_rules a (length out))
@@ -75,21 +78,23 @@ module _ (a out : Octets) (r : Record) where
 
 -- ---- what every call does first
 
-module _ (a out : Octets) (l : Loaded) (e : Enters a (length out) l) where
+pub loaded_in : (l : Attempt Record) (r : Record) → ◌≡◌ {A = Option Record} (Some r) (result_ok l) → l ≡ Ok r
+loaded_in (Ok x) r e = cc
+loaded_in (Err x) r e = cc
+
+module _ (a out : Octets) where
   -- not entered: there is no move
-  pub none_shut : (l.answer ≡ 0 → ⊥) → outcome 8 a out ≡ played_by (move_on a out) a out
-  none_shut ne = ap (λ (m : Move). played_by m a out) (sym (move_shut a out l.answer e.answer ne))
+  pub none_shut : (l : Attempt Record) → ◌≡◌ {A = Option Record} None (result_ok l) → number_in l ≡ lowest (entry_rules a (length out)) → move_on a out ≡ rests
+  none_shut (Ok x) e h = cc
+  none_shut (Err x) e h = move_shut a out (number_of x) h (some_of x)
 
-  module _ (z : l.answer ≡ 0) where
+  module _ (r : Record) (own : r ≡ decode_of a) (none : 0 ≡ lowest (entry_rules a (length out))) where
     pub inside : Entered a (length out)
-    inside = entered a (length out) (sym z ∙ e.answer)
+    inside = entered a (length out) none
 
-    pub own_record : l.«record» ≡ decode_of a
-    own_record = e.loads z
-
-    pub own_ring : FitRing wire_slots l.«record».down
-    own_ring = (subst Fit (sym own_record) inside.sound.fit).down
+    pub own_ring : FitRing wire_slots r.down
+    own_ring = (subst Fit (sym own) inside.sound.fit).down
 
     -- the move of the area is the first that its record lets pass
-    pub same_move : first_of moves (view a l.«record») ≡ move_on a out
-    same_move = (λ i. first_of moves (view a (own_record i))) ∙ sym (move_entered a out inside.long inside.judged inside.room)
+    pub same_move : first_of moves (view a r) ≡ move_on a out
+    same_move = (λ i. first_of moves (view a (own i))) ∙ sym (move_entered a out inside.long inside.judged inside.room)

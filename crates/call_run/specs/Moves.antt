@@ -1,29 +1,39 @@
--- The moves of Run to rest by their numbers, in the order in which they are tried: 0 to 13, and no move from 14 on.
+-- The moves of Run to rest as the code names them, and what comes of one.
 -- Assumes nothing.
-use Rattle.std.specs.Prelude.{ℕ, ◌≤◌, ◌≡◌, true, map, length, get_or}
+use Rattle.std.specs.Prelude.{ℕ, ◌≤◌, ◌≡◌, true, length, Option, Some, None}
 use Rattle.octets.specs.Octets.{Octets}
 use Rattle.state.specs.declared.kinds.Record.{Record}
 use Rattle.area.specs.Map.{area_size, message_size}
 use Rattle.record.specs.Reading.{decode_of}
 use Rattle.record.specs.Judge.{judge_of}
 use Rattle.views.specs.View.{view}
-use Rattle.model.specs.Effects.{Call, reply}
+use Rattle.model.specs.Effects.{Call, up, down, consume, credit, push, reply}
 use Rattle.model.specs.Bench.{rules}
-use Rattle.model.specs.Press.{moves, Move, rests, plays}
-use Rattle.calls.specs.Outcome.{Outcome, outcome, lowest}
+use Rattle.model.specs.Press as press
+use Rattle.model.specs.Press.{rests, plays}
+use Rattle.calls.specs.Outcome.{outcome, lowest}
 use Rattle.calls.specs.Demand.{perform}
+use Rattle.call_run.specs.declared.choice.Move.{Move}
+use Rattle.call_run.specs.declared.choice.Move.TheVariants as move
 
--- the call of a number below 14
-unfoldable pub call_at : ℕ → Call
-call_at i = get_or moves i reply
+-- the call that a move is
+abbrev pub call_of : Move → Call
+call_of move.Up = up
+call_of move.Down = down
+call_of (move.Consume c) = consume c
+call_of move.Credit = credit
+call_of (move.Push c) = push c
+call_of move.Reply = reply
 
-unfoldable pub move_at : ℕ → Move
-move_at i = get_or (map plays moves) i rests
+-- what the bench does next, by the move found
+abbrev pub next_of : Option Move → press.Move
+next_of None = rests
+next_of (Some m) = plays (call_of m)
 
--- what comes of a move, as the call of its name makes it; 8 where there is none, and nothing is touched
-abbrev pub played_by : Move → Octets → Octets → Outcome
-played_by rests a out = outcome 8 a out
-played_by (plays c) a out = perform c a out
+-- what comes of the bench's next: no word where there is none, and nothing is touched, or its call as C makes it
+abbrev pub Played : press.Move → Octets → Octets → Option ℕ → Octets → Octets → Type 0
+Played m a out None b new = (m ≡ rests) × (b ≡ a) × (new ≡ out)
+Played m a out (Some w) b new = (c : Call) × (m ≡ plays c) × (outcome w b new ≡ perform c a out)
 
 -- what is known where a call is made of the area's own record r: every call is entered, and no rule of this one applies
 pub record Playable (a out : Octets) (r : Record) (c : Call) : Type 0 where

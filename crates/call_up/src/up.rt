@@ -3,6 +3,7 @@
 ghost use Rattle.std.specs.Prelude.{◌≡◌, true, false, ◌+◌, ◌≤◌, ◌<◌, length};
 ghost use Rattle.octets.specs.Octets.{pick, cut, splice};
 ghost use Rattle.state.specs.Conn.{place_of};
+ghost use Rattle.state.specs.Refusal.{number_in};
 ghost use Rattle.ends.specs.Steps.{heeded};
 ghost use Rattle.area.specs.Map.{area_size, payload_size, message_size, control_size, places, host_run_at, hearing_at};
 ghost use Rattle.record.specs.Claims.{saved};
@@ -15,19 +16,20 @@ ghost use Rattle.calls.specs.calls.Up.{up_record, received_join, received_ends, 
 use area::{map, movers, ring};
 use dh::host;
 use ends::message;
-use octets::choose;
 use packets::{Header, Way};
 use record::write;
 use state::kinds::{Ends, Record};
+use state::refusal::Refusal;
 use state::{conn, runs};
 
 // ---- refusals
 
-// The number for which an up is not taken, 0 for none: the first of the model's rules, whatever the area's octets are.
-pub fn refusal(r: Record) -> u8
-    ensures { Lowest (λ a. up_rules (view a r)) result }
+// Why an up is not taken: the first of the model's rules, whatever the area's octets are.
+#[tactic(auto, unfolding(calls::specs::Outcome::lowest), using(calls::proofs::UpPacket::up_tests_law))]
+pub fn refusal(r: Record) -> Result<(), Refusal>
+    ensures { Lowest (λ a. up_rules (view a r)) (number_in result) }
 {
-    choose(r.up.count == 0, 8, 0)
+    Refusal::NothingToMove.when(r.up.count == 0)
 }
 
 // ---- the record after it

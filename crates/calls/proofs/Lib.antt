@@ -16,7 +16,6 @@ pub mod FreshPower
 pub mod Report
 pub mod Packet
 pub mod Look
-pub mod Enter
 pub mod Send
 pub mod Credit
 pub mod ConsumeRecord

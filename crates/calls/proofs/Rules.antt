@@ -6,7 +6,10 @@ use mathlib.Core.Bool.{Bool, true, false, ◌&&◌, false≢true}
 use mathlib.Core.List.{List, [], ◌∷◌, ◌++◌}
 use native.Mathlib.Omega.{arith}
 use lib.Dec.{ltb}
+use Rattle.std.specs.Prelude.{⊤, Ok, Err}
 use Rattle.octets.specs.Octets.{pick}
+use Rattle.state.specs.declared.refusal.Refusal.{Refusal}
+use Rattle.state.specs.Refusal.{Attempt, number_of, number_in, when}
 use Rattle.state.proofs.Chains.{and_left, and_right}
 use Rattle.model.specs.Effects.{Result, taken, refused}
 use Rattle.model.specs.Refusals.{Rule, first}
@@ -71,3 +74,19 @@ first_append (r ∷ rs) qs = go (first_append rs qs) r.test
         → pick b (refused r.number) (first (rs ++ qs)) ≡ or_else (pick b (refused r.number) (first rs)) (first qs)
     go ih true = refl
     go ih false = ih
+
+-- ---- the code's guards: one rule after another
+
+-- a rule that refuses, and one that lets pass
+pub refuses : (e x : Refusal) (b : Bool) → ◌≡◌ {A = Attempt ⊤} (Err x) (when e b) → (number_of x ≡ number_of e) × (b ≡ true)
+refuses e x false h = cc
+refuses e x true h = (cc, refl)
+
+pub passes : (e : Refusal) (b : Bool) → ◌≡◌ {A = Attempt ⊤} (Ok tt) (when e b) → b ≡ false
+passes e false h = refl
+passes e true h = cc
+
+-- the last
+pub asked : (e : Refusal) (b : Bool) → number_in (when e b) ≡ pick b (number_of e) 0
+asked e false = refl
+asked e true = refl

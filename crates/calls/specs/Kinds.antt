@@ -37,4 +37,3 @@ pub use Rattle.dh.specs.declared.host.Heard.TheVariants as heard
 pub use Rattle.ends.specs.declared.command.Answered.{Answered}
 pub use Rattle.ends.specs.declared.command.Decision.{Decision}
 pub use Rattle.ends.specs.declared.message.Heeded.{Heeded}
-pub use Rattle.record.specs.declared.load.Loaded.{Loaded}

@@ -1,9 +1,10 @@
 -- The outcome of a call on octets, and what all calls share: refusals 1 and 2, and that a refusal changes nothing.
 -- Assumes nothing.
-use Rattle.std.specs.Prelude.{ℕ, ◌≡◌, not, List, [], ◌∷◌, ◌++◌, length, ltb}
+use Rattle.std.specs.Prelude.{ℕ, ◌≡◌, not, List, [], ◌∷◌, ◌++◌, length, ltb, IfOk}
 use Rattle.octets.specs.Octets.{Octets, pick}
 use Rattle.area.specs.Map.{area_size, message_size}
-use Rattle.calls.specs.Kinds.{Loaded}
+use Rattle.state.specs.Refusal.{Attempt, number_in}
+use Rattle.calls.specs.Kinds.{Record}
 use Rattle.record.specs.Reading.{decode_of}
 use Rattle.record.specs.Judge.{judge_of}
 use Rattle.model.specs.Effects.{Result, taken, refused}
@@ -46,9 +47,9 @@ abbrev pub Lowest : (Octets → List Rule) → ℕ → Type 0
 Lowest rs n = (a : Octets) → n ≡ lowest (rs a)
 
 -- what every call does first, with a message buffer of so many octets: the number of the entry's rule that applies, or the area's record
-pub record Enters (a : Octets) (room : ℕ) (l : Loaded) : Type 0 where
-  pub answer : l.answer ≡ lowest (entry_rules a room)
-  pub loads : l.answer ≡ 0 → l.«record» ≡ decode_of a
+pub record Enters (a : Octets) (room : ℕ) (l : Attempt Record) : Type 0 where
+  pub answer : number_in l ≡ lowest (entry_rules a room)
+  pub loads : IfOk l (λ r. r ≡ decode_of a)
 
 -- a call that hands out no message answers w and leaves the area a, and that is o, whatever the buffer: it keeps its own octets
 abbrev pub ComesTo : ℕ → Octets → (Octets → Outcome) → Type 0

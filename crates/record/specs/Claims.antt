@@ -1,17 +1,18 @@
 -- What is proved of the record and its octets, apart from the functions' own contracts. The proofs are in proofs/Claims.antt.
 -- Assumes nothing.
-use Rattle.std.specs.Prelude.{ℕ, ◌+◌, ◌≤◌, ◌<◌, ◌≡◌, true, false, length, get_or}
+use Rattle.std.specs.Prelude.{ℕ, ◌+◌, ◌≤◌, ◌<◌, ◌≡◌, true, false, length, get_or, Ok, Err}
 use Rattle.octets.specs.Octets.{Octets, cut, splice}
 use Rattle.config.specs.Table.{config_size}
 use Rattle.config.specs.Stored.{parameters_ok}
 use Rattle.record.specs.Kinds.{Record}
+use Rattle.record.specs.Kinds.refusal as refusal
 use Rattle.record.specs.Layout.{record_octets, record_end, config_octets, configured}
 use Rattle.area.specs.Map.{area_size, record_at, record_room}
 use Rattle.record.specs.Reading.{decode_of}
 use Rattle.record.specs.Writing.{encode_of}
 use Rattle.record.specs.Judge.{record_ok, judge_of}
 use Rattle.record.specs.Fit.{Shape, Fit, Granted}
-use Rattle.record.specs.Load.{blank, loaded, load_of}
+use Rattle.record.specs.Load.{load_of}
 
 -- the area after a record is written into it
 abbrev pub saved : Octets → Record → Octets
@@ -45,6 +46,6 @@ pub record Claims : Type 0 where
   pub same_record : (area : Octets) (i : ℕ) (v : Octets) → i + length v ≤ record_at → decode_of (splice area i v) ≡ decode_of area
   pub same_judgement : (area : Octets) (i : ℕ) (v : Octets) → i + length v ≤ record_at → judge_of (splice area i v) ≡ judge_of area
   -- what is loaded
-  pub short_load : (area : Octets) → length area < area_size → load_of area ≡ loaded 2 blank
-  pub bad_load : (area : Octets) → area_size ≤ length area → judge_of area ≡ false → load_of area ≡ loaded 1 (decode_of area)
-  pub long_load : (area : Octets) → area_size ≤ length area → judge_of area ≡ true → load_of area ≡ loaded 0 (decode_of area)
+  pub short_load : (area : Octets) → length area < area_size → load_of area ≡ Err refusal.TooShort
+  pub bad_load : (area : Octets) → area_size ≤ length area → judge_of area ≡ false → load_of area ≡ Err refusal.RecordDamaged
+  pub long_load : (area : Octets) → area_size ≤ length area → judge_of area ≡ true → load_of area ≡ Ok (decode_of area)

@@ -24,6 +24,8 @@ pub use Rattle.state.specs.declared.kinds.Rf.{Rf}
 pub use Rattle.state.specs.declared.kinds.Rf.TheVariants as rf
 pub use Rattle.state.specs.declared.kinds.Ring.{Ring}
 pub use Rattle.state.specs.declared.kinds.Terms.{Terms}
+pub use Rattle.state.specs.declared.refusal.Refusal.{Refusal}
+pub use Rattle.state.specs.declared.refusal.Refusal.TheVariants as refusal
 pub use Rattle.state.specs.declared.runs.ControlJoined.{ControlJoined}
 pub use Rattle.state.specs.declared.runs.Joined.{Joined}
 pub use Rattle.state.specs.declared.verdict.Status.{Status}

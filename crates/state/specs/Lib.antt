@@ -7,3 +7,4 @@ pub mod Runs
 pub mod Commands
 pub mod Profile
 pub mod Cold
+pub mod Refusal

@@ -1,5 +1,5 @@
-// What the record holds: its types, and what profiles, connections, radio states, runs of packets, the names of commands and verdicts
-// are, with the standard's numbers and the places of fields. Both ends use this crate.
+// What the record holds: its types, and what profiles, connections, radio states, runs of packets, the names of commands, verdicts
+// and refusals are, with the standard's numbers and the places of fields. Both ends use this crate.
 #![tactic(auto)]
 
 pub mod cold;
@@ -10,5 +10,6 @@ pub mod kinds;
 pub mod names;
 pub mod profile;
 pub mod radio;
+pub mod refusal;
 pub mod runs;
 pub mod verdict;

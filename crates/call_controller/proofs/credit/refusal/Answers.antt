@@ -1,12 +1,14 @@
 -- `call_controller::credit::refusal` meets its contract: its tests are those of the rules on numbers.
-use mathlib.Core.Path.{sym, ap}
+use Rattle.std.proofs.Common.{rules, sym, ap, ◌∙◌, arith}
+use Rattle.std.proofs.lemmas.Grind.{common_steps}
 use Rattle.calls.specs.Outcome.{lowest}
 use Rattle.calls.proofs.Credit.{credit_tests_law}
 use Rattle.call_controller.proofs.credit.refusal.Goals as goal
 
+pub returns-in_err-when : goal.returns-in_err-when
+unfolding lowest
+returns-in_err-when c = λ a. search rules ∙ sym (ap lowest (credit_tests_law a c.args.r c.none_owed-none.ensures.five))
+
 pub returns : goal.returns
 unfolding lowest
-returns c =
-    λ a.
-    rw (c.choose.ensures, c.choose-eight.ensures, c.none_owed-none.ensures.owed)
-    (sym (ap lowest (credit_tests_law a c.args.r c.none_owed-none.ensures.five)))
+returns c = λ a. grind (arith, common_steps) ∙ sym (ap lowest (credit_tests_law a c.args.r c.none_owed-none.ensures.five))

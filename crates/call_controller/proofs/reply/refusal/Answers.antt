@@ -1,11 +1,10 @@
 -- `call_controller::reply::refusal` meets its contract: its tests are those of the rules on numbers.
-use Rattle.calls.proofs.Reply.{reply_tests_law}
+use Rattle.std.proofs.Common.{rules, sym, ap, ◌∙◌, arith}
+use Rattle.std.proofs.lemmas.Grind.{common_steps}
 use Rattle.calls.specs.Outcome.{lowest}
-use mathlib.Core.Path.{sym, ap}
+use Rattle.calls.proofs.Reply.{reply_tests_law}
 use Rattle.call_controller.proofs.reply.refusal.Goals as goal
 
-pub returns : goal.returns
+pub returns-in_err-when : goal.returns-in_err-when
 unfolding lowest
-returns c =
-    λ a.
-    rw (c.choose.ensures, c.choose-eight.ensures) (sym (ap lowest (reply_tests_law a c.args.r)))
+returns-in_err-when c = λ a. search rules ∙ sym (ap lowest (reply_tests_law a c.args.r))

@@ -1,47 +1,51 @@
 -- `call_run::run::play` meets its contract: not loaded, a move, none left.
-use native.Mathlib.Omega.{arith}
-use mathlib.Core.Path.{sym, ap, ◌∙◌}
-use Rattle.model.specs.Press.{Move}
-use Rattle.call_run.specs.Moves.{played_by}
-use Rattle.call_run.proofs.Moves.{plays_at, rests_at}
-use Rattle.call_run.proofs.Made.{none_shut, inside, own_record, own_ring, same_move}
+use Prim.Native.Nat.{ℕ}
+use mathlib.Core.Path.{◌≡◌, refl, sym, ap, ◌∙◌, subst}
+use lib.ListN.{length}
+use Rattle.std.specs.Prelude.{Option, IfOk}
+use Rattle.state.specs.declared.kinds.Record.{Record}
+use Rattle.state.specs.Refusal.{number_in, Attempt}
+use Rattle.record.specs.Reading.{decode_of}
+use Rattle.calls.specs.Outcome.{lowest, entry_rules}
+use Rattle.calls.specs.Run.{move_on}
+use Rattle.call_run.specs.Moves.{call_of, Played}
+use Rattle.call_run.proofs.Made.{loaded_in, none_shut, inside, own_ring, same_move}
 use Rattle.call_run.proofs.run.play.Goals as goal
+use Rattle.call_run.proofs.run.play.Goals.{In_ok-r}
 
-pub returns-then-l-ne0 : goal.returns-then-l-ne0
-returns-then-l-ne0 c =
+-- what is known of the record that was loaded
+own : (c : In_ok-r) → c.in_ok-r.r ≡ decode_of c.args.area.now
+own c = subst (λ (l : Attempt Record). IfOk l (λ (r : Record). r ≡ decode_of c.args.area.now)) (loaded_in c.enter.result c.in_ok-r.r c.in_ok-r.ensures.value) c.enter.ensures.loads
+
+none : (c : In_ok-r) → 0 ≡ lowest (entry_rules c.args.area.now (length c.args.out.now))
+none c = ap number_in (sym (loaded_in c.enter.result c.in_ok-r.r c.in_ok-r.ensures.value)) ∙ c.enter.ensures.answer
+
+pub returns-in_err-r : goal.returns-in_err-r
+returns-in_err-r c =
     let a = c.args.area.now in
     let out = c.args.out.now in
-    none_shut a out c.enter-l.result c.enter-l.ensures c.if-l-ne0.true
+    subst (λ (x : Option ℕ). Played (move_on a out) a out x a out) (sym c.from_residual.ensures)
+    (none_shut a out c.enter.result c.in_err-r.ensures.value c.enter.ensures.answer, refl, refl)
 
-pub next-i-requires : goal.next-i-requires
-next-i-requires c =
+pub next-requires : goal.next-requires
+next-requires c =
+    let l = (goal.at.next-requires c).In_ok-r in own_ring c.args.area.now c.args.out.now c.in_ok-r.r (own l) (none l)
+
+pub returns-in_err-m : goal.returns-in_err-m
+returns-in_err-m c =
     let a = c.args.area.now in
     let out = c.args.out.now in
-    own_ring a out c.enter-l.result c.enter-l.ensures c.if-l-ne0.false
+    let l = (goal.at.returns-in_err-m c).In_ok-r in
+    subst (λ (x : Option ℕ). Played (move_on a out) a out x a out) (sym c.from_residual-in_err-m.ensures)
+    (sym (same_move a out c.in_ok-r.r (own l) (none l)) ∙ sym c.in_err-m.ensures.result_value, refl, refl)
 
 pub make-requires : goal.make-requires
 make-requires c =
-    let a = c.args.area.now in
-    let out = c.args.out.now in
-    let l = c.enter-l.result in
-    let e = c.enter-l.ensures in
-    let z = c.if-l-ne0.false in
-    let x = inside a out l e z in
-    (record { long = x.long; judged = x.judged; room = x.room; own = own_record a out l e z; none = c.next-i.ensures.possible c.if-i-lt-MOVES.true }, c.if-i-lt-MOVES.true)
-
-pub returns-then-i-lt-MOVES : goal.returns-then-i-lt-MOVES
-returns-then-i-lt-MOVES c =
-    let a = c.args.area.now in
-    let out = c.args.out.now in
-    let i = c.next-i.result in
-    c.make.ensures
-    ∙ ap (λ (m : Move). played_by m a out)
-    (sym (plays_at i c.if-i-lt-MOVES.true) ∙ c.next-i.ensures.result_value ∙ same_move a out c.enter-l.result c.enter-l.ensures c.if-l-ne0.false)
+    let l = (goal.at.make-requires c).In_ok-r in
+    let x = inside c.args.area.now c.args.out.now c.in_ok-r.r (own l) (none l) in
+    record { long = x.long; judged = x.judged; room = x.room; own = own l; none = c.in_ok-m.ensures.possible }
 
 pub returns : goal.returns
 returns c =
-    let a = c.args.area.now in
-    let out = c.args.out.now in
-    let i = c.next-i.result in
-    ap (λ (m : Move). played_by m a out)
-    (sym (rests_at i (omega (arith, c.if-i-lt-MOVES.false))) ∙ c.next-i.ensures.result_value ∙ same_move a out c.enter-l.result c.enter-l.ensures c.if-l-ne0.false)
+    let l = (goal.at.returns c).In_ok-r in
+    (call_of c.in_ok-m.m, sym (same_move c.args.area.now c.args.out.now c.in_ok-r.r (own l) (none l)) ∙ sym c.in_ok-m.ensures.result_value, c.make.ensures)

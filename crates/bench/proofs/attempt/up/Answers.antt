@@ -1,0 +1,51 @@
+-- `bench::attempt::up` meets its contract: not entered, refused, or taken.
+use Rattle.model.specs.calls.Up.{up_rules}
+use Rattle.calls.specs.calls.Up.{upped, up_call}
+use Rattle.calls.proofs.Able.{up_able}
+use mathlib.Core.Path.{subst}
+use Rattle.views.specs.Moves.{Sound}
+use mathlib.Core.Path.{refl, sym, ◌∙◌}
+use lib.ListN.{length}
+use Rattle.views.specs.View.{view}
+use Rattle.calls.specs.Outcome.{outcome, lowest}
+use Rattle.calls.proofs.Called.{entered, called_unentered, called_refused, called_taken}
+use Rattle.call_run.proofs.Moves.{some_of}
+use Rattle.bench.proofs.Given.{given}
+use Rattle.bench.proofs.attempt.up.Goals as goal
+
+pub returns-in_err-r : goal.returns-in_err-r
+unfolding up_call
+returns-in_err-r c =
+    (λ i. outcome (given _ _ c.from_residual.ensures i) c.args.area.now c.args.out.now)
+    ∙ called_unentered _ _ c.args.area.now c.args.out.now _ c.in_err-r.ensures.answer (some_of _)
+
+pub returns-in_err-refusal : goal.returns-in_err-refusal
+unfolding up_call
+returns-in_err-refusal c =
+    let a = c.args.area.now in
+    let out = c.args.out.now in
+    let e = c.in_ok-r.ensures in
+    let same = e.loads in
+    let n = c.in_err-refusal.ensures a ∙ (λ i. lowest (up_rules (view a (same i)))) in
+    (λ i. outcome (given _ _ c.from_residual-in_err-refusal.ensures i) a out) ∙ called_refused _ _ a out e.answer _ n (some_of _)
+
+pub act-requires : goal.act-requires
+act-requires c =
+    let a = c.args.area.now in
+    let out = c.args.out.now in
+    let e = c.in_ok-r.ensures in
+    let x = entered a (length out) e.answer in
+    let r = c.in_ok-r.r in
+    (x.long, x.room, up_able a r (subst (Sound a) (sym (e.loads)) x.sound) (c.in_ok-refusal.ensures a))
+
+pub returns : goal.returns
+unfolding up_call
+returns c =
+    let a = c.args.area.now in
+    let out = c.args.out.now in
+    let e = c.in_ok-r.ensures in
+    let same = e.loads in
+    let none = c.in_ok-refusal.ensures a ∙ (λ i. lowest (up_rules (view a (same i)))) in
+    c.act.ensures
+    ∙ (λ i. upped (same i) a out)
+    ∙ called_taken _ _ a out e.answer refl none
