@@ -3,7 +3,7 @@
 use Rattle.std.specs.Prelude.{ℕ, Result}
 use Rattle.state.specs.Names.{rejected, syntax_error, semantic_error, already_started}
 use Rattle.state.specs.Kinds.{Status, Verdict}
-use Rattle.state.specs.Kinds.status.{Rejected, SyntaxError, SemanticError, AlreadyStarted}
+use Rattle.state.specs.Kinds.status.{Rejected, SyntaxError, SemanticError, AlreadyStarted, Other}
 
 abbrev pub Judgement : Type 0
 Judgement = Result Verdict Status
@@ -14,3 +14,4 @@ octet_of Rejected = rejected
 octet_of SyntaxError = syntax_error
 octet_of SemanticError = semantic_error
 octet_of AlreadyStarted = already_started
+octet_of (Other n) = n

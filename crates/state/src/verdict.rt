@@ -21,13 +21,15 @@ pub enum Verdict {
     GetsConfig,
 }
 
-// The statuses of a refusal (003, Table 129): it is answered alone, and nothing changes.
+// The status of a refusal (003, Table 129): it is answered alone, and nothing changes. The controller gives the first four; what takes
+// a judgement takes any other too.
 #[derive(Clone, Copy, Debug, PartialEq, Eq)]
 pub enum Status {
     Rejected,
     SyntaxError,
     SemanticError,
     AlreadyStarted,
+    Other(u8),
 }
 
 // The status as the octet of a response.
@@ -40,6 +42,7 @@ impl From<Status> for u8 {
             Status::SyntaxError => names::SYNTAX_ERROR,
             Status::SemanticError => names::SEMANTIC_ERROR,
             Status::AlreadyStarted => names::ALREADY_STARTED,
+            Status::Other(octet) => octet,
         }
     }
 }
