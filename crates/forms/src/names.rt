@@ -5,6 +5,7 @@ ghost use Rattle.forms.specs.Names.{text_of, name_in, is_bad, is_run};
 use ascii::find::same;
 
 // What a line asks for: a call, a press of Run to rest, or nothing that there is.
+// Bad stays a name, not a None: `Heard` (sheet/Told) speaks of its line too, and `Reads` of the octets of a bad line.
 #[derive(Clone, Copy, PartialEq, Eq)]
 pub enum Name {
     Fresh,
