@@ -42,7 +42,8 @@ config_size = 30
 
 -- what is read past the table's end. No length is from 1 to 0: no value is acceptable
 abbrev pub no_row : Row
-no_row = row 0 0 1 0 0 (Range 0 0)
+no_row =
+    record { id = 0; at = 0; least = 1; most = 0; default = 0; values = Range 0 0 }
 
 unfoldable pub row_at : ℕ → Row
 row_at i = get_or table i no_row
