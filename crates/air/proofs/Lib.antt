@@ -1,4 +1,3 @@
-pub mod Picked
 pub mod Room
 pub mod Taken
 pub mod Spoken

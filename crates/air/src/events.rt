@@ -57,7 +57,7 @@ fn target_of(m: &[u8]) -> Activation
 }
 
 // Kind 1: ID, protocol, mode, type, and up to 32 parameter octets.
-#[tactic(auto, using(crate::proofs::Picked::some_picked), unfolding(crate::specs::Air::found_in))]
+#[tactic(auto, unfolding(crate::specs::Air::found_in))]
 fn found_in(m: &[u8]) -> Option<Event>
     ensures { result ≡ found_in m.now }
 {
@@ -78,7 +78,7 @@ fn active_in(m: &[u8], in_mode: bool, e: Event) -> Option<Event>
 }
 
 // The event that the octets are, the kind first.
-#[tactic(auto, using(crate::proofs::Picked::some_picked), unfolding(crate::specs::Air::event_of, crate::specs::Air::poll_in, crate::specs::Air::listen_in))]
+#[tactic(auto, unfolding(crate::specs::Air::event_of, crate::specs::Air::poll_in, crate::specs::Air::listen_in))]
 pub fn event_of(m: &[u8]) -> Option<Event>
     ensures { result ≡ event_of m.now }
 {
@@ -196,7 +196,7 @@ fn failed_by(rf: Rf) -> Option<Aired>
 }
 
 // What an event does in an RF state with these pairs found, where the state takes it.
-#[tactic(auto, using(crate::proofs::Picked::some_picked), unfolding(crate::specs::Air::aired_by))]
+#[tactic(auto, unfolding(crate::specs::Air::aired_by))]
 pub fn judge_event(rf: Rf, ps: Pairs, e: Option<Event>) -> Option<Aired>
     ensures { result ≡ aired_by rf ps e }
 {
