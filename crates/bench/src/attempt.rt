@@ -43,7 +43,13 @@ pub(crate) fn power(area: &mut [u8], out: &mut [u8]) -> Result<u64, Refusal>
     Ok(power::act(area, r))
 }
 
-pub(crate) fn command(area: &mut [u8], out: &mut [u8], gid: u8, oid: u8, payload: &[u8]) -> Result<u64, Refusal>
+pub(crate) fn command(
+    area: &mut [u8],
+    out: &mut [u8],
+    gid: u8,
+    oid: u8,
+    payload: &[u8],
+) -> Result<u64, Refusal>
     ensures { outcome (word_in result) area.new out.new ≡ command_call area.old out.old gid oid payload.now }
 {
     let r = enter(area, out.len())?;
@@ -51,7 +57,12 @@ pub(crate) fn command(area: &mut [u8], out: &mut [u8], gid: u8, oid: u8, payload
     Ok(command::act(area, r, gid, oid, payload))
 }
 
-pub(crate) fn send(area: &mut [u8], out: &mut [u8], conn: u8, message: &[u8]) -> Result<u64, Refusal>
+pub(crate) fn send(
+    area: &mut [u8],
+    out: &mut [u8],
+    conn: u8,
+    message: &[u8],
+) -> Result<u64, Refusal>
     ensures { outcome (word_in result) area.new out.new ≡ send_call area.old out.old conn message.now }
 {
     let r = enter(area, out.len())?;

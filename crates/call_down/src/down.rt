@@ -48,9 +48,7 @@ pub fn refusal(area: &[u8], r: Record) -> Result<(), Refusal>
     let Some((h, _)) = movers::read_slot(area, slot) else {
         return Ok(());
     };
-    Refusal::TooFewSlots.when(
-        (h.mt == packets::COMMAND) & !h.pbf & (map::WIRE - 2 < r.up.count),
-    )?;
+    Refusal::TooFewSlots.when((h.mt == packets::COMMAND) & !h.pbf & (map::WIRE - 2 < r.up.count))?;
     Refusal::StoreFull.when(store_full(r, h))
 }
 

@@ -33,9 +33,7 @@ pub fn refusal(r: Record, gid: u8, oid: u8, payload: &[u8]) -> Result<(), Refusa
     ensures { Lowest (λ a. command_rules gid oid payload.now (view a r)) (number_in result) }
 {
     let n = packets::segment_count(payload, r.ends.host.size as usize);
-    Refusal::OutsideLimit.when(
-        (15 < gid) | (63 < oid) | (map::PAYLOAD < payload.len()),
-    )?;
+    Refusal::OutsideLimit.when((15 < gid) | (63 < oid) | (map::PAYLOAD < payload.len()))?;
     Refusal::TooFewSlots.when(crowded(r.down.count, n))?;
     Refusal::Unanswered.when(is_busy(r.ends.host.pending))
 }

@@ -31,10 +31,10 @@ use Rattle.calls.specs.calls.Consume.{consumed, consume_call}
 use Rattle.calls.specs.calls.Credit.{credited, credit_call}
 use Rattle.calls.specs.calls.Reply.{replied, reply_call}
 use Rattle.calls.specs.calls.Up.{upped, up_call}
+use Rattle.calls.proofs.Rules.{some_of}
 use Rattle.calls.proofs.Called.{sound_area, Entered, entered, called_taken}
 use Rattle.calls.proofs.Run.{move_shut, move_entered}
 use Rattle.call_run.specs.Moves.{Playable}
-use Rattle.call_run.proofs.Moves.{some_of}
 
 module _ (a out : Octets) (r : Record) (c : Call) (p : Playable a out r c) where
   pub no_entry : 0 ≡ lowest (entry_rules a (length out))

@@ -10,15 +10,13 @@ use lib.ListN.{length, get_or, drop}
 use Rattle.std.specs.Prelude.{⊤, Ok, Err}
 use Rattle.std.specs.Result.{is_ok}
 use Rattle.octets.specs.Octets.{pick}
-use Rattle.state.specs.declared.refusal.Refusal.{Refusal}
-use Rattle.state.specs.declared.refusal.Refusal.TheVariants as refusal
-use Rattle.state.specs.Refusal.{Attempt, number_of, number_in}
+use Rattle.state.specs.Refusal.{Attempt, number_in}
 use Rattle.model.specs.State.{State}
 use Rattle.model.specs.Effects.{Call, is_taken}
 use Rattle.model.specs.Bench.{rules}
 use Rattle.model.specs.Press.{moves, possible, rests, plays, first_of}
 use Rattle.calls.specs.Outcome.{lowest}
-use Rattle.calls.proofs.Rules.{numbered, first_refused, first_taken}
+use Rattle.calls.proofs.Rules.{numbered, first_refused, first_taken, some_of}
 use Rattle.call_run.specs.declared.choice.Move.{Move}
 use Rattle.call_run.specs.declared.choice.Move.TheVariants as move
 use Rattle.call_run.specs.declared.choice.Move.TheVariants.{Up, Down, Consume, Credit, Push, Reply}
@@ -37,22 +35,6 @@ same_order = refl
 pub none_in : (r : Attempt ⊤) → is_ok r ≡ true → 0 ≡ number_in r
 none_in (Ok x) e = refl
 none_in (Err x) e = cc
-
-pub some_of : (e : Refusal) → number_of e ≡ 0 → ⊥
-some_of refusal.RecordDamaged z = omega arith
-some_of refusal.TooShort z = omega arith
-some_of refusal.OutsideLimit z = omega arith
-some_of refusal.TooFewSlots z = omega arith
-some_of refusal.Unanswered z = omega arith
-some_of refusal.NotOpen z = omega arith
-some_of refusal.InHand z = omega arith
-some_of refusal.NothingToMove z = omega arith
-some_of refusal.NoCredit z = omega arith
-some_of refusal.Closing z = omega arith
-some_of refusal.NotInThisState z = omega arith
-some_of refusal.StoreFull z = omega arith
-some_of refusal.WiresNotEmpty z = omega arith
-some_of refusal.SendClosing z = omega arith
 
 pub some_in : (r : Attempt ⊤) → is_ok r ≡ false → number_in r ≡ 0 → ⊥
 some_in (Ok x) e = let z : true ≡ false = e in cc

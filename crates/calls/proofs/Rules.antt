@@ -9,6 +9,7 @@ use lib.Dec.{ltb}
 use Rattle.std.specs.Prelude.{⊤, Ok, Err}
 use Rattle.octets.specs.Octets.{pick}
 use Rattle.state.specs.declared.refusal.Refusal.{Refusal}
+use Rattle.state.specs.declared.refusal.Refusal.TheVariants as refusal
 use Rattle.state.specs.Refusal.{Attempt, number_of, number_in, when}
 use Rattle.state.proofs.Chains.{and_left, and_right}
 use Rattle.model.specs.Effects.{Result, taken, refused}
@@ -76,6 +77,23 @@ first_append (r ∷ rs) qs = go (first_append rs qs) r.test
     go ih false = ih
 
 -- ---- the code's guards: one rule after another
+
+-- no refusal has the number of a call that is taken
+pub some_of : (e : Refusal) → number_of e ≡ 0 → ⊥
+some_of refusal.RecordDamaged z = omega arith
+some_of refusal.TooShort z = omega arith
+some_of refusal.OutsideLimit z = omega arith
+some_of refusal.TooFewSlots z = omega arith
+some_of refusal.Unanswered z = omega arith
+some_of refusal.NotOpen z = omega arith
+some_of refusal.InHand z = omega arith
+some_of refusal.NothingToMove z = omega arith
+some_of refusal.NoCredit z = omega arith
+some_of refusal.Closing z = omega arith
+some_of refusal.NotInThisState z = omega arith
+some_of refusal.StoreFull z = omega arith
+some_of refusal.WiresNotEmpty z = omega arith
+some_of refusal.SendClosing z = omega arith
 
 -- a rule that refuses, and one that lets pass
 pub refuses : (e x : Refusal) (b : Bool) → ◌≡◌ {A = Attempt ⊤} (Err x) (when e b) → (number_of x ≡ number_of e) × (b ≡ true)

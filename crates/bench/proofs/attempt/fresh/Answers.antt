@@ -2,7 +2,7 @@
 use mathlib.Core.Path.{sym, ◌∙◌}
 use Rattle.calls.specs.Outcome.{outcome}
 use Rattle.calls.proofs.FreshPower.{fresh_refused, fresh_long, fresh_taken}
-use Rattle.call_run.proofs.Moves.{some_of}
+use Rattle.calls.proofs.Rules.{some_of}
 use Rattle.bench.proofs.Given.{given}
 use Rattle.bench.proofs.attempt.fresh.Goals as goal
 

@@ -4,7 +4,7 @@ use mathlib.Core.Path.{refl, sym, ◌∙◌}
 use lib.ListN.{length}
 use Rattle.calls.specs.Outcome.{outcome, lowest}
 use Rattle.calls.proofs.Called.{entered, called_unentered, called_taken}
-use Rattle.call_run.proofs.Moves.{some_of}
+use Rattle.calls.proofs.Rules.{some_of}
 use Rattle.bench.proofs.Given.{given}
 use Rattle.bench.proofs.attempt.power.Goals as goal
 

@@ -4,7 +4,7 @@ use lib.ListN.{length}
 use Rattle.calls.specs.Outcome.{outcome}
 use Rattle.calls.proofs.Called.{entered}
 use Rattle.calls.proofs.Run.{run_shut, run_entered}
-use Rattle.call_run.proofs.Moves.{some_of}
+use Rattle.calls.proofs.Rules.{some_of}
 use Rattle.bench.proofs.Given.{given}
 use Rattle.bench.proofs.attempt.run.Goals as goal
 
