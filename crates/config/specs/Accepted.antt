@@ -4,16 +4,16 @@
 use Rattle.std.specs.Prelude.{ℕ, zero, suc, ◌&&◌, [], ◌∷◌, ◌++◌, length, eqb, Option, Some, None}
 use Rattle.octets.specs.Octets.{Octets, pick}
 use Rattle.config.specs.declared.table.Row.{Row}
-use Rattle.config.specs.Table.{row_of, default_of}
+use Rattle.config.specs.Table.{no_row, row_of, default_of}
 use Rattle.config.specs.Commands.{id_in, param_in, settled, accepted, asked_in}
 
 -- by ID
 abbrev pub ById : Type 0
 ById = ℕ → Octets
 
--- the default, by a row that may be there: a parameter that is not known has none
+-- the default, by a row that may be there; of an ID that is not known it is that of the row past the table's end
 abbrev pub default_by : Option Row → Octets
-default_by None = []
+default_by None = default_of no_row
 default_by (Some r) = default_of r
 
 -- all restored
@@ -22,7 +22,7 @@ all_restored id = default_by (row_of id)
 
 -- the value that a set leaves, by a row that may be there
 abbrev pub settled_by : Option Row → Octets → Octets
-settled_by None v = v
+settled_by None v = settled no_row v
 settled_by (Some r) v = settled r v
 
 -- after the first n parameters of a set: the value last accepted, else what it was
