@@ -188,7 +188,7 @@ LISTS = {
     "Set configuration command": ("1 octet, and for each parameter 2 and its value", "param_at m n + 2 + get_or m", 1),
     "Get configuration command": ("1 octet and 1 for each parameter", "asked_in m n = get_or m (1 + n) 0", 1),
     "Set configuration response": ("2 octets and 1 for each invalid parameter", "(id_in m n ∷ [])", 2),
-    "Get configuration response": ("2 octets, and for each parameter 2 and its value", "id ∷ length (value_in b (row_of id)) ∷", 2),
+    "Get configuration response": ("2 octets, and for each parameter 2 and its value", "id ∷ length (value_of b (row_of id)) ∷", 2),
 }
 LAYOUTS = {*DEFINED, *COMMANDS, *LISTS, "Credits notification"}
 # verdicts whose response has the status alone, by the command

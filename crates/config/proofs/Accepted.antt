@@ -153,11 +153,11 @@ unfolding table value_in cut
 restored_row id r e = same_octets_law _ _ (found_all (λ q. same_octets (value_in defaults q) (default_of q)) refl id r e)
 
 pub defaults_restored : (id : ℕ) → known_row (row_of id) ≡ true → value_of defaults (row_of id) ≡ all_restored id
-defaults_restored id k = go (row_of id) refl
+defaults_restored id k = go (row_of id) refl k
   where
-    go : (o : Option Row) → row_of id ≡ o → value_of defaults o ≡ default_by o
-    go None e = refl
-    go (Some r) e = restored_row id r e
+    go : (o : Option Row) → row_of id ≡ o → known_row o ≡ true → value_of defaults o ≡ default_by o
+    go None e n = absurd (false≢true n)
+    go (Some r) e n = restored_row id r e
 
 -- ---- row 1
 
