@@ -1,7 +1,7 @@
 -- A move that no rule refuses, made of the area's own record, comes to what the call of its name comes to.
 -- Assumes nothing.
 use Prim.Native.Nat.{ℕ}
-use mathlib.Core.Path.{◌≡◌, refl, sym, ap, ◌∙◌, subst}
+use mathlib.Core.Path.{◌≡◌, refl, sym, ◌∙◌, subst}
 use lib.ListN.{length}
 use borrow.Author.Tests.{le-ltb}
 use Rattle.std.specs.Prelude.{Option, Some, None, Ok, Err}
@@ -22,7 +22,7 @@ use Rattle.model.specs.calls.Credit.{credit_rules}
 use Rattle.model.specs.calls.Reply.{reply_rules}
 use Rattle.model.specs.calls.Up.{up_rules}
 use Rattle.model.specs.Press.{moves, rests, first_of}
-use Rattle.calls.specs.Outcome.{outcome, entry_rules, lowest}
+use Rattle.calls.specs.Outcome.{entry_rules, lowest}
 use Rattle.calls.specs.Demand.{perform}
 use Rattle.calls.specs.Run.{move_on}
 use Rattle.calls.specs.calls.Push.{pushed, push_call}

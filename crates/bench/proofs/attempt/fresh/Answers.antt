@@ -1,5 +1,5 @@
 -- `bench::attempt::fresh` meets its contract: refused, or taken.
-use mathlib.Core.Path.{sym, ◌∙◌}
+use mathlib.Core.Path.{◌∙◌}
 use Rattle.calls.specs.Outcome.{outcome}
 use Rattle.calls.proofs.FreshPower.{fresh_refused, fresh_long, fresh_taken}
 use Rattle.calls.proofs.Rules.{some_of}

@@ -1,5 +1,5 @@
 -- `bench::attempt::run` meets its contract: not entered, or moves until none is left.
-use mathlib.Core.Path.{sym, ◌∙◌}
+use mathlib.Core.Path.{◌∙◌}
 use lib.ListN.{length}
 use Rattle.calls.specs.Outcome.{outcome}
 use Rattle.calls.proofs.Called.{entered}

@@ -1,6 +1,6 @@
 -- `bench::attempt::state` meets its contract: not entered, or taken.
 use Rattle.calls.specs.Look.{looked, state_call}
-use mathlib.Core.Path.{refl, sym, ◌∙◌}
+use mathlib.Core.Path.{refl, ◌∙◌}
 use lib.ListN.{length}
 use Rattle.calls.specs.Outcome.{outcome, lowest}
 use Rattle.calls.proofs.Called.{entered, called_unentered, called_taken}

@@ -1,6 +1,5 @@
 -- `call_controller::reply::refusal` meets its contract: its tests are those of the rules on numbers.
-use Rattle.std.proofs.Common.{rules, sym, ap, ◌∙◌, arith}
-use Rattle.std.proofs.lemmas.Grind.{common_steps}
+use Rattle.std.proofs.Common.{rules, sym, ap, ◌∙◌}
 use Rattle.calls.specs.Outcome.{lowest}
 use Rattle.calls.proofs.Reply.{reply_tests_law}
 use Rattle.call_controller.proofs.reply.refusal.Goals as goal

@@ -1,5 +1,5 @@
 -- `call_host::send::refusal` meets its contract: its tests are those of the rules on numbers.
-use Rattle.std.proofs.Common.{rules, sym, ap, ◌∙◌, arith}
+use Rattle.std.proofs.Common.{sym, ap, ◌∙◌, arith}
 use Rattle.std.proofs.lemmas.Grind.{common_steps}
 use Rattle.calls.specs.Outcome.{lowest}
 use Rattle.calls.proofs.Send.{send_tests_law}

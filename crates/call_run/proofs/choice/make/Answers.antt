@@ -1,6 +1,6 @@
 -- `call_run::choice::make` meets its contract: each move is its call, and no rule refuses it.
 use mathlib.Core.Path.{sym, ap, subst, ◌∙◌}
-use Rattle.model.specs.Effects.{Call, push, down, consume, credit, reply, up}
+use Rattle.model.specs.Effects.{push, down, consume, credit, reply, up}
 use Rattle.calls.specs.Outcome.{outcome}
 use Rattle.calls.specs.Demand.{perform}
 use Rattle.calls.proofs.Able.{up_able, down_able, consume_able, credit_able, reply_able}

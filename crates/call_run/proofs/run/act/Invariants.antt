@@ -1,6 +1,5 @@
 -- The loop of `call_run::run::act`: going on from here comes to what the whole press comes to.
 use mathlib.Core.Path.{◌≡◌}
-use lib.ListN.{length}
 use Rattle.calls.specs.Run.{moves_on, unmoved, all_moved}
 use Rattle.call_run.proofs.Turns.{press_from}
 use Rattle.call_run.proofs.run.act.Given as goal
