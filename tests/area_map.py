@@ -27,6 +27,8 @@ PLACES = r"pick \(eqb c (\d)\) (\d)"
 # octets by cases, and what they are called in one
 CASES = ("pending_octets", "phase_octet", "rf_octets")
 WORDS = {"gid": "GID", "oid": "OID", "aim": "aim", "id": "ID", "protocol": "protocol", "mode": "mode"}
+# what is none of them, and what is some, is told as what it is: the page's cases, and those that the checksums were noted with
+OPTIONS = {"pending_octets": {"None": "Nothing", "Some": "Command"}, "rf_octets": {"None": "Nothing", "Some": "Chosen"}}
 # what an octet of a number, and of yes or no, is
 FORMS = r"^(?:high|low|bit) .* = .*$"
 # and what the octets of a parameter are
@@ -103,7 +105,8 @@ class Written:
     def cases(self, name):
         """Of each case its name and its octets, in numbers and words."""
         for left, right in self.clauses[name]:
-            first, *rest = re.findall(r"\b[A-Z]\w+", left)
+            told = OPTIONS.get(name, {})
+            first, *rest = (told.get(case, case) for case in re.findall(r"\b[A-Z]\w+", left))
             named = re.sub(r"(?<=[a-z0-9])(?=[A-Z])", "_", first).upper()
             octets = [WORDS.get(part.split(".")[-1], part) for part in split(right, "∷") if part != "[]"]
             yield ", ".join([named, *map(str.lower, rest)]), octets
@@ -231,6 +234,8 @@ def parameters_differ(area, texts):
         yield "the code's rows are not those of the definitions"
 
 
+# constants of the code that no definition has by itself: a packet's header, which SLOT is made with
+UNDEFINED = {"HEADER"}
 # names that the code has otherwise
 CODED = {
     "AREA": "area_size", "PAYLOAD": "payload_size", "SLOT": "slot_size", "WIRE": "wire_slots", "STORE": "store_slots",
@@ -247,6 +252,8 @@ def definition_of(constant, names):
 def code_differs(area, found):
     """Constants that are not as they are defined."""
     for constant, number in found.items():
+        if constant in UNDEFINED:
+            continue
         of_place = re.fullmatch(r"COUNTS_(\d)", constant)
         name = "counts_part" if of_place else definition_of(constant, area.names)
         due = area.names.get(name)
