@@ -277,7 +277,7 @@ def layouts_differ(texts):
     known = {constant for placed in PLACED.values() for constant in placed.values()} | set(LENGTHS.values())
     yield from differ(known, set(places(texts)), "constants")
     alone = re.search(r"^The responses to (.*) have the status alone", texts[PAGE], re.M)[1]
-    due = [words for verdict, words in ALONE.items() if f"response_of p b m ({verdict}) = status_ok ∷ []\n" in texts[LAYOUT]]
+    due = [words for verdict, words in ALONE.items() if f"response_of p b m (Ok ({verdict})) = status_ok ∷ []\n" in texts[LAYOUT]]
     yield from differ(re.split(", | and ", alone), due, "status alone")
 
 
