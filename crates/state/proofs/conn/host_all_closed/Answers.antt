@@ -1,11 +1,10 @@
 -- `state::conn::host_all_closed` meets its contract: the five connections are all of the array.
 use Rattle.std.proofs.Common.{rules}
-use Rattle.state.specs.Conn.{closed_counts, closed_host}
+use Rattle.state.specs.Conn.{closed_host}
 use Rattle.state.proofs.Conns.{mapped}
 use Rattle.state.proofs.conn.host_all_closed.Goals as goal
 
 pub returns : goal.returns
 returns c =
-    let m = c.map.ensures.items in
-    mapped (λ k. record { host = closed_host; controller = k.controller }) c.args.conns c.map.result (search rules) m.long
-    (λ p l. let e = m.at p closed_counts closed_counts l in search rules)
+    mapped (λ k. record { host = closed_host; controller = k.controller }) c.args.conns c.each.result (search rules) (search rules)
+    (λ p l. let e = c.each.ensures p l in search rules)
