@@ -1,4 +1,5 @@
-// Rings of slots, by their numbers: where the first packet is, where the next goes, and the ring after it was taken or put.
+// Rings of slots, by their numbers: where the first packet is, where the next goes, and the ring after it was taken or put. `Ring` has no
+// invariant: a record that cannot be is read too, with whatever head and count its octets have (`decode_of`).
 ghost use Rattle.std.specs.Prelude.{◌≡◌, ◌+◌, ◌^◌, ◌≤◌, ◌<◌};
 ghost use Rattle.area.specs.Map.{wire_slots, wire_size, area_size};
 ghost use Rattle.area.specs.Ring.{first_at, free_at, took_from, put_into};

@@ -1,5 +1,6 @@
 // Text written into the caller's buffer. Each function writes from an index on and answers the index after it; what would stand
-// past the buffer's end is left out.
+// past the buffer's end is left out. Buffer and index stay two parameters: of a struct that holds the caller's buffer each method would
+// say that it is the same buffer (`ghost_name`), in place of `at ≤ length`; one with octets of its own has no rest that `Wrote` keeps.
 ghost use Rattle.std.specs.Prelude.{◌≡◌, ◌≤◌, [], ◌∷◌, length};
 ghost use Rattle.ascii.specs.Digits.{hex_of, figure_of, leading_in, decimal_of};
 ghost use Rattle.ascii.specs.Writing.{Wrote};

@@ -1,5 +1,6 @@
 // The record read from its octets: a function for each struct, named after it. s is the record's 512 octets, and the
-// places in it are those of specs/Layout.antt. A tag that is none of its cases reads as the first; judge sees it.
+// places in it are those of specs/Layout.antt. A tag that is none of its cases reads as the first; judge sees it. Each asks for its own
+// octets from `at` on: an array for each would first be cut out of s, with a proof that it fits.
 ghost use Rattle.std.specs.Prelude.{◌≡◌, ◌+◌, ◌≤◌, ◌*◌, length};
 ghost use Rattle.area.specs.Map.{area_size};
 ghost use Rattle.record.specs.Layout.{profile_size, progress_size, control_run_size, hand_size, ring_size, host_size, pairs_size, controller_size, host_side_size, controller_side_size, counts_size, conns_size, record_end};

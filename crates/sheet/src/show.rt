@@ -1,4 +1,4 @@
-// The line that an outcome prints, field by field.
+// The line that an outcome prints, field by field. (text, at) as in `ascii::write`, and for its reason.
 ghost use Rattle.std.specs.Prelude.{[], ◌++◌, ◌≤◌, length};
 ghost use Rattle.ascii.specs.Digits.{hex_of, decimal_of};
 ghost use Rattle.ascii.specs.Writing.{Wrote};

@@ -7,7 +7,8 @@ use crate::kinds::{ControllerSide, Counts, Hand, HostSide, Profile, Progress, Ri
 // The credits octet for no flow control.
 pub const UNMETERED: u8 = 255;
 
-// The place of a Conn ID in the array of five; 5 for an ID that no connection has. No Option: the definition `place_of` has 5 for none too.
+// The place of a Conn ID in the array of five; 5 for an ID that no connection has. No Option: most callers have a connection's ID,
+// and would each unwrap one, as in `map::hand_at(place_of(conn).unwrap())`.
 #[tactic(auto, unfolding(crate::specs::Conn::place_of))]
 pub fn place_of(conn: u8) -> usize
     ensures { result ≡ place_of conn }

@@ -1,4 +1,5 @@
-// A line of input to its answer. The functions write into a lent buffer, from an index on, and answer the index after it.
+// A line of input to its answer. The functions write into a lent buffer, from an index on, and answer the index after it, as those of
+// `ascii::write` and for its reason.
 ghost use Rattle.std.specs.Prelude.{◌≤◌, length};
 
 use ascii::fields::{after, has, only, value};
