@@ -22,6 +22,7 @@ pub enum Notice {
 }
 
 // The notification with this GID and OID (003, Table 139).
+#[tactic(auto, unfolding(crate::specs::Contents::notice_of))]
 pub fn notice_of(gid: u8, oid: u8) -> Notice
     ensures { result ≡ notice_of gid oid }
 {
@@ -111,13 +112,13 @@ fn ok_written(c: Command, m: &[u8]) -> bool
     ensures { result ≡ ok_written c m.now }
 {
     match c {
-        Command::Reset => alone(m, names::STATUS_OK),
+        Command::Reset
+        | Command::ConnClose
+        | Command::Discover
+        | Command::Select
+        | Command::Deactivate => alone(m, names::STATUS_OK),
         Command::Init => init_written(m),
         Command::ConnCreate => create_written(m),
-        Command::ConnClose => alone(m, names::STATUS_OK),
-        Command::Discover => alone(m, names::STATUS_OK),
-        Command::Select => alone(m, names::STATUS_OK),
-        Command::Deactivate => alone(m, names::STATUS_OK),
         Command::Unknown => false,
         Command::SetConfig => set_written(m),
         Command::GetConfig => get_written(m),
@@ -222,6 +223,7 @@ pub fn activated_written(m: &[u8]) -> bool
 }
 
 // An RF_DEACTIVATE_NTF of the bench: of any type where the host asked, or the endpoint's sleep, lost link or release.
+#[tactic(auto, unfolding(crate::specs::Contents::deactivate_written))]
 fn deactivate_written(m: &[u8]) -> bool
     ensures { result ≡ deactivate_written m.now }
 {
@@ -252,6 +254,7 @@ fn notice_written(n: Notice, m: &[u8]) -> bool
 }
 
 // The one guard: contents of a response or a notification that the bench's own controller could have written.
+#[tactic(auto, unfolding(crate::specs::Contents::written))]
 pub fn written(mt: u8, gid: u8, oid: u8, m: &[u8]) -> bool
     ensures { result ≡ written mt gid oid m.now }
 {

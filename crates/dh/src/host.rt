@@ -45,41 +45,30 @@ pub fn asked_of(gid: u8, oid: u8, m: &[u8]) -> Asked
 fn awaits(p: Option<Asked>, gid: u8, oid: u8) -> bool
     ensures { result ≡ awaits p gid oid }
 {
-    match p {
-        None => false,
-        Some(a) => (a.gid == gid) & (a.oid == oid),
-    }
+    p.is_some_and(|a| (a.gid == gid) & (a.oid == oid))
 }
 
 // The connection that the unanswered command named.
 fn aim_of(p: Option<Asked>) -> u8
     ensures { result ≡ aim_of p }
 {
-    match p {
-        None => 0,
-        Some(a) => a.aim,
-    }
+    p.map_or(0, |a| a.aim)
 }
 
 // Whether a command is unanswered.
 pub fn is_busy(p: Option<Asked>) -> bool
     ensures { result ≡ is_busy p }
 {
-    match p {
-        None => false,
-        Some(_) => true,
-    }
+    p.is_some()
 }
 
 // Whether RESET or CONN_CLOSE is unanswered.
 pub fn is_closing(p: Option<Asked>) -> bool
     ensures { result ≡ is_closing p }
 {
-    match p {
-        None => false,
-        Some(a) => (a.gid == names::GID_CORE)
-            & ((a.oid == names::OID_RESET) | (a.oid == names::OID_CONN_CLOSE)),
-    }
+    p.is_some_and(|a| {
+        (a.gid == names::GID_CORE) & matches!(a.oid, names::OID_RESET | names::OID_CONN_CLOSE)
+    })
 }
 
 // What an OK response says. RF_DEACTIVATE_RSP closes nothing: connection 0 closes with the notification.
@@ -97,16 +86,17 @@ fn ok_answer(c: Command, aim: u8, m: &[u8]) -> Answer
             },
         ),
         Command::ConnClose => Answer::Closes(aim),
-        Command::Discover => Answer::Done,
-        Command::Select => Answer::Done,
-        Command::Deactivate => Answer::Done,
-        Command::Unknown => Answer::Done,
-        Command::SetConfig => Answer::Done,
-        Command::GetConfig => Answer::Done,
+        Command::Discover
+        | Command::Select
+        | Command::Unknown
+        | Command::SetConfig
+        | Command::GetConfig
+        | Command::Deactivate => Answer::Done,
     }
 }
 
 // What a response says: with another status than STATUS_OK only that its command is answered.
+#[tactic(auto, unfolding(crate::specs::Host::answer_of))]
 fn answer_of(c: Command, aim: u8, m: &[u8]) -> Answer
     ensures { result ≡ answer_of c aim m.now }
 {
@@ -122,21 +112,19 @@ fn noticed(n: Notice, m: &[u8]) -> Heard
     ensures { result ≡ noticed n m.now }
 {
     match n {
-        Notice::Reset => Heard::Nothing,
         Notice::Credits => Heard::Credits,
-        Notice::GenericError => Heard::Nothing,
-        Notice::Discover => Heard::Nothing,
         Notice::Activated => Heard::Activated(Terms {
             payload: octets::octet_at(m, fields::ACTIVATED_PAYLOAD),
             credits: octets::octet_at(m, fields::ACTIVATED_CREDITS),
         }),
         Notice::Deactivate => Heard::Deactivated,
-        Notice::Unknown => Heard::Nothing,
+        Notice::Reset | Notice::GenericError | Notice::Discover | Notice::Unknown => Heard::Nothing,
     }
 }
 
 // What is heard in contents that are known to be written here. It must stand behind `contents::written`: it tests no length and no
 // value, so a create response that is cut short would open connection 0. A host before a bought controller needs limits of its own.
+#[tactic(auto, unfolding(crate::specs::Host::heard_written))]
 fn heard_written(p: Option<Asked>, mt: u8, gid: u8, oid: u8, m: &[u8]) -> Heard
     ensures { result ≡ heard_written p mt gid oid m.now }
 {
@@ -159,6 +147,7 @@ fn expected(p: Option<Asked>, mt: u8, gid: u8, oid: u8) -> bool
 }
 
 // What the host hears in a whole control message.
+#[tactic(auto, unfolding(crate::specs::Host::hear_of))]
 pub fn hear(p: Option<Asked>, mt: u8, gid: u8, oid: u8, m: &[u8]) -> Heard
     ensures { result ≡ hear_of p mt gid oid m.now }
 {
@@ -212,7 +201,7 @@ fn settled(h: Host, size: u8) -> Host
     ensures { result ≡ settled h size }
 {
     Host {
-        size: size,
+        size,
         pending: None,
     }
 }
@@ -222,25 +211,24 @@ fn host_answered(h: Host, a: Answer) -> Host
     ensures { result ≡ host_answered h a }
 {
     match a {
-        Answer::Done => settled(h, h.size),
         Answer::ClosesAll => settled(h, LEAST_SIZE),
         Answer::Sized(n) => settled(h, n),
-        Answer::Opens(_, _) => settled(h, h.size),
-        Answer::Closes(_) => settled(h, h.size),
+        Answer::Done | Answer::Opens(_, _) | Answer::Closes(_) => settled(h, h.size),
     }
 }
 
 // The host's numbers after what it heard.
+#[tactic(auto, unfolding(crate::specs::Host::host_after))]
 pub fn host_after(h: Host, x: Heard) -> Host
     ensures { result ≡ host_after h x }
 {
     match x {
-        Heard::Nothing => h,
-        Heard::Dropped => h,
         Heard::Answered(a) => host_answered(h, a),
-        Heard::Activated(_) => h,
-        Heard::Deactivated => h,
-        Heard::Credits => h,
+        Heard::Nothing
+        | Heard::Dropped
+        | Heard::Activated(_)
+        | Heard::Deactivated
+        | Heard::Credits => h,
     }
 }
 
@@ -270,11 +258,9 @@ fn credited_at(conns: [Counts; 5], m: &[u8], conn: u8) -> [Counts; 5]
 fn all_credited(conns: [Counts; 5], m: &[u8]) -> [Counts; 5]
     ensures { result ≡ all_credited conns m.now }
 {
-    let a = credited_at(conns, m, 0);
-    let b = credited_at(a, m, 2);
-    let c = credited_at(b, m, 3);
-    let d = credited_at(c, m, 4);
-    credited_at(d, m, 5)
+    [0, 2, 3, 4, 5]
+        .iter()
+        .fold(conns, |next, conn| credited_at(next, m, *conn))
 }
 
 // The connections after a response.
@@ -282,21 +268,20 @@ fn conns_answered(conns: [Counts; 5], a: Answer) -> [Counts; 5]
     ensures { result ≡ conns_answered conns a }
 {
     match a {
-        Answer::Done => conns,
+        Answer::Done | Answer::Sized(_) => conns,
         Answer::ClosesAll => conn::host_all_closed(conns),
-        Answer::Sized(_) => conns,
         Answer::Opens(id, t) => conn::host_opened_at(conns, id, t),
         Answer::Closes(id) => conn::host_closed_at(conns, id),
     }
 }
 
 // The connections after what the host heard.
+#[tactic(auto, unfolding(crate::specs::Host::conns_heard))]
 pub fn conns_heard(conns: [Counts; 5], m: &[u8], x: Heard) -> [Counts; 5]
     ensures { result ≡ conns_heard conns m.now x }
 {
     match x {
-        Heard::Nothing => conns,
-        Heard::Dropped => conns,
+        Heard::Nothing | Heard::Dropped => conns,
         Heard::Answered(a) => conns_answered(conns, a),
         Heard::Activated(t) => conn::host_opened_at(conns, 0, t),
         Heard::Deactivated => conn::host_closed_at(conns, 0),
@@ -305,15 +290,13 @@ pub fn conns_heard(conns: [Counts; 5], m: &[u8], x: Heard) -> [Counts; 5]
 }
 
 // The drop flag: the message was not for this host now, or a credit notice has an entry for a connection that is not open.
+#[tactic(auto, unfolding(crate::specs::Host::drop_heard))]
 pub fn drop_heard(conns: [Counts; 5], m: &[u8], x: Heard) -> bool
     ensures { result ≡ drop_heard (held_open conns) m.now x }
 {
     match x {
-        Heard::Nothing => false,
+        Heard::Nothing | Heard::Answered(_) | Heard::Activated(_) | Heard::Deactivated => false,
         Heard::Dropped => true,
-        Heard::Answered(_) => false,
-        Heard::Activated(_) => false,
-        Heard::Deactivated => false,
         Heard::Credits => {
             names_closed(conns, m, octets::octet_at(m, fields::ENTRY_COUNT) as usize)
         }

@@ -45,10 +45,8 @@ pub fn pushed(h: HostSide) -> HostSide
 pub fn commanded(h: Host, gid: u8, oid: u8, payload: &[u8]) -> Host
     ensures { result ≡ commanded_host h gid oid payload.now }
 {
-    let size = h.size;
-    let asked = asked_of(gid, oid, payload);
     Host {
-        size: size,
-        pending: Some(asked),
+        pending: Some(asked_of(gid, oid, payload)),
+        ..h
     }
 }

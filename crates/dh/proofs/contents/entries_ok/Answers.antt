@@ -1,8 +1,6 @@
 -- `dh::contents::entries_ok` meets its contract. The loop's invariant: the answer so far is that of the entries passed.
-use mathlib.Core.Path.{◌≡◌, refl, ◌∙◌}
+use mathlib.Core.Path.{refl}
 use native.Mathlib.Numerals.{add-one}
-use native.Mathlib.Omega.{arith}
-use borrow.Author.Rules.{rules}
 use Rattle.dh.specs.Contents.{entries_ok}
 use Rattle.dh.proofs.contents.entries_ok.Goals as goal
 

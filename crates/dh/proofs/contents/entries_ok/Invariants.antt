@@ -1,5 +1,4 @@
 -- The loop of `dh::contents::entries_ok`.
-use Prim.Native.Nat.{◌≤◌, ◌-◌}
 use mathlib.Core.Path.{◌≡◌}
 use Rattle.dh.specs.Contents.{entries_ok}
 use Rattle.dh.proofs.contents.entries_ok.Given as goal

@@ -1,8 +1,6 @@
 -- `dh::contents::zeros` meets its contract. The loop's invariant: the answer so far is that of the octets passed.
-use mathlib.Core.Path.{◌≡◌, refl, ◌∙◌}
+use mathlib.Core.Path.{refl}
 use native.Mathlib.Numerals.{add-one}
-use native.Mathlib.Omega.{arith}
-use borrow.Author.Rules.{rules}
 use Rattle.dh.specs.Contents.{zeros}
 use Rattle.dh.proofs.contents.zeros.Goals as goal
 

@@ -1,5 +1,4 @@
 -- The loop of `dh::contents::zeros`.
-use Prim.Native.Nat.{◌≤◌, ◌-◌}
 use mathlib.Core.Path.{◌≡◌}
 use Rattle.dh.specs.Contents.{zeros}
 use Rattle.dh.proofs.contents.zeros.Given as goal

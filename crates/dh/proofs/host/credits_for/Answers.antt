@@ -1,7 +1,6 @@
 -- `dh::host::credits_for` meets its contract. The loop's invariant: the sum is that of the entries passed, and at most 255 for each.
-use mathlib.Core.Path.{◌≡◌, refl, ◌∙◌}
+use mathlib.Core.Path.{refl}
 use native.Mathlib.Numerals.{add-one}
-use native.Mathlib.Omega.{arith}
 use borrow.Author.Rules.{rules}
 use Rattle.dh.specs.Host.{credits_in}
 use Rattle.dh.proofs.host.credits_for.Goals as goal

@@ -1,5 +1,5 @@
 -- The loop of `dh::host::credits_for`.
-use Prim.Native.Nat.{◌≤◌, ◌*◌, ◌-◌}
+use Prim.Native.Nat.{◌≤◌, ◌*◌}
 use mathlib.Core.Path.{◌≡◌}
 use Rattle.dh.specs.Host.{credits_in}
 use Rattle.dh.proofs.host.credits_for.Given as goal

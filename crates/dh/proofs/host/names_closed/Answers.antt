@@ -1,8 +1,6 @@
 -- `dh::host::names_closed` meets its contract. The loop's invariant: the answer so far is that of the entries passed.
-use mathlib.Core.Path.{◌≡◌, refl, ◌∙◌}
+use mathlib.Core.Path.{refl}
 use native.Mathlib.Numerals.{add-one}
-use native.Mathlib.Omega.{arith}
-use borrow.Author.Rules.{rules}
 use Rattle.dh.specs.Host.{names_closed}
 use Rattle.dh.proofs.host.names_closed.Goals as goal
 

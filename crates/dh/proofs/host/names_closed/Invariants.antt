@@ -1,5 +1,4 @@
 -- The loop of `dh::host::names_closed`.
-use Prim.Native.Nat.{◌≤◌, ◌-◌}
 use mathlib.Core.Path.{◌≡◌}
 use Rattle.state.specs.Conn.{held_open}
 use Rattle.dh.specs.Host.{names_closed}
