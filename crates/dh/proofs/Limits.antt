@@ -9,7 +9,7 @@ use native.Mathlib.Decide.{dec_lt}
 use lib.ListN.{length, get_or}
 use lib.Dec.{eqb, ltb, leb}
 use borrow.Author.Tests.{leb-true, ltb-true, eqb-true}
-use Rattle.std.specs.Prelude.{Option}
+use Rattle.std.specs.Prelude.{Option, Some, None}
 use Rattle.octets.specs.Octets.{Octets, pick}
 use Rattle.octets.specs.Octal.{Octal}
 use Rattle.octets.proofs.Octal.{octal_at}
@@ -186,14 +186,14 @@ module _ (m : Octets) (octal : Octal m) where
   answer_fits c aim w =
       on AnswerFits (eqb (get_or m 0 0) 0x00) (λ e. ok_fits c aim (or_other (status_alone m) (ok_written c m) w (not_alone e))) (λ e. tt)
 
-  noticed_fits : (n : Notice) → notice_written n m ≡ true → HeardFits m (noticed n m)
-  noticed_fits notice.Reset w = tt
-  noticed_fits notice.Credits w = notice_fits w
-  noticed_fits notice.GenericError w = tt
-  noticed_fits notice.Discover w = tt
-  noticed_fits notice.Activated w = activated_fits w
-  noticed_fits notice.Deactivate w = tt
-  noticed_fits notice.Unknown w = tt
+  noticed_fits : (n : Option Notice) → notice_written n m ≡ true → HeardFits m (noticed n m)
+  noticed_fits (Some notice.Reset) w = tt
+  noticed_fits (Some notice.Credits) w = notice_fits w
+  noticed_fits (Some notice.GenericError) w = tt
+  noticed_fits (Some notice.Discover) w = tt
+  noticed_fits (Some notice.Activated) w = activated_fits w
+  noticed_fits (Some notice.Deactivate) w = tt
+  noticed_fits None w = tt
 
   written_fits : (p : Option Asked) (mt gid oid : ℕ) → written mt gid oid m ≡ true → HeardFits m (heard_written p mt gid oid m)
   unfolding heard_written written

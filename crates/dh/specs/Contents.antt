@@ -1,7 +1,7 @@
 -- Contents that the bench's controller writes: document 01's layouts at their exact lengths, with values inside its limits. Contents
 -- never written have no effect (up under "Calls"), so the host asks one question before it listens: `written`.
 -- Assumes nothing.
-use Rattle.std.specs.Prelude.{ℕ, zero, suc, ◌+◌, ◌*◌, ◌-◌, Bool, true, false, ◌&&◌, ◌||◌, not, length, get_or, eqb, ltb, leb}
+use Rattle.std.specs.Prelude.{ℕ, zero, suc, ◌+◌, ◌*◌, ◌-◌, Bool, true, false, ◌&&◌, ◌||◌, not, length, get_or, eqb, ltb, leb, Option, Some, None}
 use Rattle.octets.specs.Octets.{Octets, pick}
 use Rattle.state.specs.Names.{gid_core, gid_rf, oid_reset, oid_conn_credits, oid_generic_error, oid_discover, oid_activated, oid_deactivate, status_ok, frame_interface, to_sleep, to_discovery, host_request, endpoint_request, link_loss, activation_failed}
 use Rattle.packets.specs.Types.{mt_response}
@@ -17,17 +17,17 @@ use Rattle.config.specs.Written.{set_written, get_written}
 
 -- ---- the notifications (003, Table 139)
 
-unfoldable pub notice_of : ℕ → ℕ → Notice
+unfoldable pub notice_of : ℕ → ℕ → Option Notice
 notice_of gid oid =
     pick (eqb gid gid_core)
-    (pick (eqb oid oid_reset) notice.Reset
-    (pick (eqb oid oid_conn_credits) notice.Credits
-    (pick (eqb oid oid_generic_error) notice.GenericError notice.Unknown)))
+    (pick (eqb oid oid_reset) (Some notice.Reset)
+    (pick (eqb oid oid_conn_credits) (Some notice.Credits)
+    (pick (eqb oid oid_generic_error) (Some notice.GenericError) None)))
     (pick (eqb gid gid_rf)
-    (pick (eqb oid oid_discover) notice.Discover
-    (pick (eqb oid oid_activated) notice.Activated
-    (pick (eqb oid oid_deactivate) notice.Deactivate notice.Unknown)))
-    notice.Unknown)
+    (pick (eqb oid oid_discover) (Some notice.Discover)
+    (pick (eqb oid oid_activated) (Some notice.Activated)
+    (pick (eqb oid oid_deactivate) (Some notice.Deactivate) None)))
+    None)
 
 -- ---- responses
 
@@ -107,14 +107,14 @@ deactivate_written m =
     && ((leb (get_or m 0 0) to_discovery && eqb (get_or m 1 0) host_request) || (eqb (get_or m 0 0) to_sleep && eqb (get_or m 1 0) endpoint_request)
     || (eqb (get_or m 0 0) to_discovery && leb endpoint_request (get_or m 1 0) && leb (get_or m 1 0) link_loss))
 
-abbrev pub notice_written : Notice → Octets → Bool
-notice_written notice.Reset m = reset_written m
-notice_written notice.Credits m = credits_written m
-notice_written notice.GenericError m = alone activation_failed m
-notice_written notice.Discover m = discover_written m
-notice_written notice.Activated m = activated_written m
-notice_written notice.Deactivate m = deactivate_written m
-notice_written notice.Unknown m = false
+abbrev pub notice_written : Option Notice → Octets → Bool
+notice_written (Some notice.Reset) m = reset_written m
+notice_written (Some notice.Credits) m = credits_written m
+notice_written (Some notice.GenericError) m = alone activation_failed m
+notice_written (Some notice.Discover) m = discover_written m
+notice_written (Some notice.Activated) m = activated_written m
+notice_written (Some notice.Deactivate) m = deactivate_written m
+notice_written None m = false
 
 -- ---- the guard
 

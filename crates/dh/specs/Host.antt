@@ -62,14 +62,14 @@ ok_answer command.GetConfig aim m = Done
 unfoldable pub answer_of : Command → ℕ → Octets → Answer
 answer_of c aim m = pick (eqb (get_or m 0 0) status_ok) (ok_answer c aim m) Done
 
-abbrev pub noticed : Notice → Octets → Heard
-noticed notice.Reset m = Nothing
-noticed notice.Credits m = Credits
-noticed notice.GenericError m = Nothing
-noticed notice.Discover m = Nothing
-noticed notice.Activated m = Activated (record { payload = get_or m 4 0; credits = get_or m 5 0 })
-noticed notice.Deactivate m = Deactivated
-noticed notice.Unknown m = Nothing
+abbrev pub noticed : Option Notice → Octets → Heard
+noticed (Some notice.Reset) m = Nothing
+noticed (Some notice.Credits) m = Credits
+noticed (Some notice.GenericError) m = Nothing
+noticed (Some notice.Discover) m = Nothing
+noticed (Some notice.Activated) m = Activated (record { payload = get_or m 4 0; credits = get_or m 5 0 })
+noticed (Some notice.Deactivate) m = Deactivated
+noticed None m = Nothing
 
 -- what is heard in contents that are known to be written here. It stands behind `written`: it tests no length and no value, so a create
 -- response that is cut short would open connection 0. A host before a bought controller needs limits of its own

@@ -1,6 +1,6 @@
 // Contents that the bench's controller writes (document 01, "Contents never written here have no effect", up under "Calls"): its
 // layouts at their exact lengths, with values inside its limits.
-ghost use Rattle.std.specs.Prelude.{◌≡◌, ◌≤◌};
+ghost use Rattle.std.specs.Prelude.{◌≡◌, ◌≤◌, Some};
 ghost use Rattle.dh.specs.Contents.{notice_of, status_alone, alone, zeros, init_written, create_written, ok_written, reset_written, entry_ok, entries_ok, credits_written, discover_written, activated_written, deactivate_written, notice_written, written};
 ghost use Rattle.dh.specs.Hearing.{init_front, activated_front, ascends};
 
@@ -18,28 +18,27 @@ pub enum Notice {
     Discover,
     Activated,
     Deactivate,
-    Unknown,
 }
 
-// The notification with this GID and OID (003, Table 139).
+// The notification with this GID and OID (003, Table 139), if the bench knows it.
 #[tactic(auto, unfolding(crate::specs::Contents::notice_of))]
-pub fn notice_of(gid: u8, oid: u8) -> Notice
+pub fn notice_of(gid: u8, oid: u8) -> Option<Notice>
     ensures { result ≡ notice_of gid oid }
 {
     match gid {
         names::GID_CORE => match oid {
-            names::OID_RESET => Notice::Reset,
-            names::OID_CONN_CREDITS => Notice::Credits,
-            names::OID_GENERIC_ERROR => Notice::GenericError,
-            _ => Notice::Unknown,
+            names::OID_RESET => Some(Notice::Reset),
+            names::OID_CONN_CREDITS => Some(Notice::Credits),
+            names::OID_GENERIC_ERROR => Some(Notice::GenericError),
+            _ => None,
         },
         names::GID_RF => match oid {
-            names::OID_DISCOVER => Notice::Discover,
-            names::OID_ACTIVATED => Notice::Activated,
-            names::OID_DEACTIVATE => Notice::Deactivate,
-            _ => Notice::Unknown,
+            names::OID_DISCOVER => Some(Notice::Discover),
+            names::OID_ACTIVATED => Some(Notice::Activated),
+            names::OID_DEACTIVATE => Some(Notice::Deactivate),
+            _ => None,
         },
-        _ => Notice::Unknown,
+        _ => None,
     }
 }
 
@@ -239,7 +238,7 @@ fn deactivate_written(m: &[u8]) -> bool
 
 // A notification as the bench's controller writes it.
 fn notice_written(n: Notice, m: &[u8]) -> bool
-    ensures { result ≡ notice_written n m.now }
+    ensures { result ≡ notice_written (Some n) m.now }
 {
     match n {
         Notice::Reset => reset_written(m),
@@ -249,7 +248,6 @@ fn notice_written(n: Notice, m: &[u8]) -> bool
         Notice::Discover => discover_written(m),
         Notice::Activated => activated_written(m),
         Notice::Deactivate => deactivate_written(m),
-        Notice::Unknown => false,
     }
 }
 
@@ -261,6 +259,6 @@ pub fn written(mt: u8, gid: u8, oid: u8, m: &[u8]) -> bool
     if mt == packets::RESPONSE {
         status_alone(m) | ok_written(commands::command_of(gid, oid), m)
     } else {
-        notice_written(notice_of(gid, oid), m)
+        notice_of(gid, oid).is_some_and(|n| notice_written(n, m))
     }
 }

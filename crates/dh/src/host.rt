@@ -1,5 +1,5 @@
 // The host's reading of a whole control message (document 01, up under "Calls").
-ghost use Rattle.std.specs.Prelude.{◌≡◌, ◌≤◌};
+ghost use Rattle.std.specs.Prelude.{◌≡◌, ◌≤◌, Some};
 ghost use Rattle.state.specs.Conn.{held_open};
 ghost use Rattle.dh.specs.Host.{asked_of, awaits, aim_of, is_busy, is_closing, ok_answer, answer_of, noticed, heard_written, expected, hear_of, credits_for, names_closed, settled, host_answered, host_after, credited, credited_at, all_credited, conns_answered, conns_heard, drop_heard};
 ghost use Rattle.dh.specs.Hearing.{entry_for};
@@ -109,7 +109,7 @@ fn answer_of(c: Command, aim: u8, m: &[u8]) -> Answer
 
 // What a notification says.
 fn noticed(n: Notice, m: &[u8]) -> Heard
-    ensures { result ≡ noticed n m.now }
+    ensures { result ≡ noticed (Some n) m.now }
 {
     match n {
         Notice::Credits => Heard::Credits,
@@ -118,7 +118,7 @@ fn noticed(n: Notice, m: &[u8]) -> Heard
             credits: octets::octet_at(m, fields::ACTIVATED_CREDITS),
         }),
         Notice::Deactivate => Heard::Deactivated,
-        Notice::Reset | Notice::GenericError | Notice::Discover | Notice::Unknown => Heard::Nothing,
+        Notice::Reset | Notice::GenericError | Notice::Discover => Heard::Nothing,
     }
 }
 
@@ -131,7 +131,7 @@ fn heard_written(p: Option<Asked>, mt: u8, gid: u8, oid: u8, m: &[u8]) -> Heard
     if mt == packets::RESPONSE {
         Heard::Answered(answer_of(commands::command_of(gid, oid), aim_of(p), m))
     } else {
-        noticed(contents::notice_of(gid, oid), m)
+        contents::notice_of(gid, oid).map_or(Heard::Nothing, |n| noticed(n, m))
     }
 }
 

@@ -1,6 +1,7 @@
 -- The laws of `specs/Backwards.antt`: octets that are taken for written are made from the fields that are read. A list of known length is its
 -- elements, and the tests say which of them are fixed. A credit notice goes place by place: at each, the next entry is for it, or none is.
 -- Assumes nothing.
+use Rattle.std.specs.Prelude.{Some}
 use Prim.Native.Nat.{ℕ, zero, suc, ◌+◌, ◌-◌, ◌*◌, ◌≤◌, ◌<◌}
 use mathlib.Core.Path.{◌≡◌, refl, sym, ap, ◌∙◌}
 use mathlib.Core.Bool.{Bool, true, false, ◌&&◌, ◌||◌}
@@ -79,7 +80,7 @@ reset_back m h =
     ∷ ended m 5 (at 0) i)
     ∙ elements_are m 5 0 (omega arith)
 
-pub error_back : (m : Octets) → notice_written notice.GenericError m ≡ true → generic_error_ntf ≡ m
+pub error_back : (m : Octets) → notice_written (Some notice.GenericError) m ≡ true → generic_error_ntf ≡ m
 error_back m h =
     let at = every_at (eqb (length m) 1) (eqb (get_or m 0 0) activation_failed ∷ []) h in
     let long : length m ≡ 1 = eqb-true (length m) 1 (at 0) in

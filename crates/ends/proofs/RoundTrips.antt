@@ -96,14 +96,14 @@ pub reset_noted : (type : ℕ) → type ≤ 1 → written 3 0 0 (reset_ntf type)
 unfolding written notice_of zeros
 reset_noted type h = rw (le-leb type 1 h)
 
-pub reset_heard : (type : ℕ) → noticed notice.Reset (reset_ntf type) ≡ Nothing
+pub reset_heard : (type : ℕ) → noticed (Some notice.Reset) (reset_ntf type) ≡ Nothing
 reset_heard type = refl
 
 pub error_noted : written 3 0 7 generic_error_ntf ≡ true
 unfolding written notice_of
 error_noted = refl
 
-pub error_heard : noticed notice.GenericError generic_error_ntf ≡ Nothing
+pub error_heard : noticed (Some notice.GenericError) generic_error_ntf ≡ Nothing
 error_heard = refl
 
 -- ---- RF_DEACTIVATE_NTF
@@ -124,7 +124,7 @@ pub releases_written : written 3 1 6 (deactivate_ntf 0x03 0x01) ≡ true
 unfolding written notice_of deactivate_written
 releases_written = refl
 
-pub deactivate_heard : (type reason : ℕ) → noticed notice.Deactivate (deactivate_ntf type reason) ≡ Deactivated
+pub deactivate_heard : (type reason : ℕ) → noticed (Some notice.Deactivate) (deactivate_ntf type reason) ≡ Deactivated
 deactivate_heard type reason = refl
 
 -- ---- RF_DISCOVER_NTF and RF_INTF_ACTIVATED_NTF: fixed fields around the parameters
@@ -169,7 +169,7 @@ activated_written_law a t params target terms short =
       third,
     )
 
-pub activated_heard : (a : Activation) (t : Terms) (params : Octets) → noticed notice.Activated (activated_ntf a t params) ≡ Activated t
+pub activated_heard : (a : Activation) (t : Terms) (params : Octets) → noticed (Some notice.Activated) (activated_ntf a t params) ≡ Activated t
 activated_heard a t params = refl
 
 pub activated_back : (m : Octets) → activated_written m ≡ true

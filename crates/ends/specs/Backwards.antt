@@ -1,7 +1,7 @@
 -- From octets to fields and back: a message that the host takes for written is made of the fields that are read from it, so no two such
 -- messages have the same fields. `specs/RoundTrips.antt` has the create response and the activation; the others are here.
 -- Assumes nothing.
-use Rattle.std.specs.Prelude.{ℕ, ◌+◌, ◌≡◌, true, [], ◌∷◌, map, length, get_or, eqb}
+use Rattle.std.specs.Prelude.{ℕ, ◌+◌, ◌≡◌, true, [], ◌∷◌, map, length, get_or, eqb, Some}
 use Rattle.octets.specs.Octets.{Octets, pick, cut}
 use Rattle.ends.specs.Kinds.{Activation}
 use Rattle.ends.specs.Kinds.notice as notice
@@ -37,7 +37,7 @@ pub record Backwards : Type 0 where
   pub get_back : (m : Octets) → get_written m ≡ true → (get_or m 0 0 ∷ set_cmd (listed_params m)) ≡ m
   -- CORE_RESET_NTF and CORE_GENERIC_ERROR_NTF
   pub reset_back : (m : Octets) → reset_written m ≡ true → reset_ntf (get_or m 1 0) ≡ m
-  pub error_back : (m : Octets) → notice_written notice.GenericError m ≡ true → generic_error_ntf ≡ m
+  pub error_back : (m : Octets) → notice_written (Some notice.GenericError) m ≡ true → generic_error_ntf ≡ m
   -- RF_DISCOVER_NTF: its fields are read back, and they make it
   pub discover_target_law : (a : Activation) (type : ℕ) (params : Octets) → discover_target (discover_ntf a type params) ≡ a
   pub discover_type_law : (a : Activation) (type : ℕ) (params : Octets) → discover_type (discover_ntf a type params) ≡ type

@@ -102,9 +102,9 @@ pub record RoundTrips : Type 0 where
   pub get_read : (aim : ℕ) (m : Octets) → answer_of command.GetConfig aim m ≡ Done
   -- CORE_RESET_NTF and CORE_GENERIC_ERROR_NTF: no effect
   pub reset_noted : (type : ℕ) → type ≤ 1 → written 3 0 0 (reset_ntf type) ≡ true
-  pub reset_heard : (type : ℕ) → noticed notice.Reset (reset_ntf type) ≡ Nothing
+  pub reset_heard : (type : ℕ) → noticed (Some notice.Reset) (reset_ntf type) ≡ Nothing
   pub error_noted : written 3 0 7 generic_error_ntf ≡ true
-  pub error_heard : noticed notice.GenericError generic_error_ntf ≡ Nothing
+  pub error_heard : noticed (Some notice.GenericError) generic_error_ntf ≡ Nothing
   -- CORE_CONN_CREDITS_NTF: each connection's credits are those that were owed on it
   pub credits_written_law : (owed : List ℕ) (p : ℕ) → length owed ≡ 5 → ((q : ℕ) → get_or owed q 0 ≤ 8) → 1 ≤ get_or owed p 0
       → written 3 0 6 (credits_ntf owed) ≡ true
@@ -115,7 +115,7 @@ pub record RoundTrips : Type 0 where
   -- RF_INTF_ACTIVATED_NTF
   pub activated_written_law : (a : Activation) (t : Terms) (params : Octets) → TargetOk a → TermsOk t → length params ≤ 32
       → written 3 1 5 (activated_ntf a t params) ≡ true
-  pub activated_heard : (a : Activation) (t : Terms) (params : Octets) → noticed notice.Activated (activated_ntf a t params) ≡ Activated t
+  pub activated_heard : (a : Activation) (t : Terms) (params : Octets) → noticed (Some notice.Activated) (activated_ntf a t params) ≡ Activated t
   pub activated_back : (m : Octets) → activated_written m ≡ true
       → activated_ntf (activated_target m) (activated_terms m) (activated_params m) ≡ m
   -- RF_DEACTIVATE_NTF: asked for by the host, and the endpoint's three
@@ -123,7 +123,7 @@ pub record RoundTrips : Type 0 where
   pub sleeps_written : written 3 1 6 (deactivate_ntf 0x01 0x01) ≡ true
   pub lost_written : written 3 1 6 (deactivate_ntf 0x03 0x02) ≡ true
   pub releases_written : written 3 1 6 (deactivate_ntf 0x03 0x01) ≡ true
-  pub deactivate_heard : (type reason : ℕ) → noticed notice.Deactivate (deactivate_ntf type reason) ≡ Deactivated
+  pub deactivate_heard : (type reason : ℕ) → noticed (Some notice.Deactivate) (deactivate_ntf type reason) ≡ Deactivated
   -- the events of the air
   pub found_read : (a : Activation) (type : ℕ) (params : Octets) → id_ok a.id ≡ true → polls a.mode ≡ true → type ≤ 2
       → length params ≤ 32 → event_of (found_octets a type params) ≡ Some (Found a type)

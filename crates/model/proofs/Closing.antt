@@ -132,14 +132,14 @@ module _ (d : ℕ) where
   -- ---- and a notification closes no dynamic connection
 
   module _ (dynamic : eqb 0 d ≡ false) where
-    noticed_keeps : (n : Notice) (m : Octets) → Keeps m (noticed n m)
-    noticed_keeps notice.Reset m = tt
-    noticed_keeps notice.Credits m = on (λ (c : Change). NoClose (items_by c)) (eqb (credits_for m d) 0) (λ e. tt) (λ e. tt)
-    noticed_keeps notice.GenericError m = tt
-    noticed_keeps notice.Discover m = tt
-    noticed_keeps notice.Activated m = opens_keeps (eqb 0 d) (opens _) tt
-    noticed_keeps notice.Deactivate m = rw dynamic tt
-    noticed_keeps notice.Unknown m = tt
+    noticed_keeps : (n : Option Notice) (m : Octets) → Keeps m (noticed n m)
+    noticed_keeps (Some notice.Reset) m = tt
+    noticed_keeps (Some notice.Credits) m = on (λ (c : Change). NoClose (items_by c)) (eqb (credits_for m d) 0) (λ e. tt) (λ e. tt)
+    noticed_keeps (Some notice.GenericError) m = tt
+    noticed_keeps (Some notice.Discover) m = tt
+    noticed_keeps (Some notice.Activated) m = opens_keeps (eqb 0 d) (opens _) tt
+    noticed_keeps (Some notice.Deactivate) m = rw dynamic tt
+    noticed_keeps None m = tt
 
     says_keeps : (aim mt gid oid : ℕ) (m : Octets) → AllFree (pick (eqb mt 2) (named gid oid ∷ []) []) → Keeps m (says aim mt gid oid m)
     unfolding heard_written

@@ -10,7 +10,7 @@ use mathlib.Core.List.{List, [], ◌∷◌, ◌++◌}
 use lib.Dec.{eqb}
 use lib.ListN.{length, get_or}
 use borrow.Author.Tests.{eqb-true}
-use Rattle.std.specs.Prelude.{Option, Ok, Err}
+use Rattle.std.specs.Prelude.{Option, Ok, Err, None}
 use Rattle.octets.specs.Octets.{Octets, pick}
 use Rattle.packets.specs.Segments.{Segment, more, last, packets_of}
 use Rattle.packets.specs.Headers.{control_header}
@@ -58,7 +58,7 @@ record Config (gid oid : ℕ) : Type 0 where
   small : oid < 64
   -- a response answers its command and does nothing else, and no notification has their names
   answered : (aim : ℕ) (m : Octets) → answer_of (command_of gid oid) aim m ≡ Done
-  notified : notice_of gid oid ≡ notice.Unknown
+  notified : notice_of gid oid ≡ None
   -- neither of them opens or closes, and nothing follows the response
   still : (aim : ℕ) (p : Profile) (v : Judgement) → Fits gid oid aim p v → (d : ℕ) → change_by v d ≡ stays
   alone : (aim : ℕ) (p : Profile) (v : Judgement) → Fits gid oid aim p v → notice_packets (notice_message v) ≡ []

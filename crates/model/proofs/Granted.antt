@@ -1,5 +1,6 @@
 -- What opens a connection grants an octet of credits: the host takes nothing else for written.
 -- Assumes nothing.
+use Rattle.std.specs.Prelude.{Option, Some, None}
 use Prim.Native.Nat.{ℕ, ◌≤◌}
 use mathlib.Core.Path.{◌≡◌, refl}
 use mathlib.Core.Bool.{Bool, true, false, ◌&&◌, ◌||◌, not}
@@ -56,15 +57,15 @@ module _ (m : Octets) (d : ℕ) where
       go false true h = answer_octet c aim h
       go a false h = tt
 
-  notice_octet : (n : Notice) → notice_written n m ≡ true → GrantsOctet (change_heard (noticed n m) m d)
-  notice_octet notice.Reset h = tt
-  notice_octet notice.Credits h = on GrantsOctet (eqb (credits_for m d) 0) (λ e. tt) (λ e. tt)
-  notice_octet notice.GenericError h = tt
-  notice_octet notice.Discover h = tt
-  notice_octet notice.Activated h =
+  notice_octet : (n : Option Notice) → notice_written n m ≡ true → GrantsOctet (change_heard (noticed n m) m d)
+  notice_octet (Some notice.Reset) h = tt
+  notice_octet (Some notice.Credits) h = on GrantsOctet (eqb (credits_for m d) 0) (λ e. tt) (λ e. tt)
+  notice_octet (Some notice.GenericError) h = tt
+  notice_octet (Some notice.Discover) h = tt
+  notice_octet (Some notice.Activated) h =
       opens_octet 0 _ (activated_tests m h 4)
-  notice_octet notice.Deactivate h = closes_octet 0
-  notice_octet notice.Unknown h = tt
+  notice_octet (Some notice.Deactivate) h = closes_octet 0
+  notice_octet None h = tt
 
   says_it : (aim mt gid oid : ℕ) → GrantsOctet (change_heard (says aim mt gid oid m) m d)
   unfolding written heard_written

@@ -215,15 +215,15 @@ module _ (s : State) (aim : ℕ) (l : ℕ → Ledger) (p : Octets) (w : List Oct
 
   -- a notification: whatever is unanswered stays so
   module _ (gid oid : ℕ) (m : Octets) (means : meaning p ≡ control 3 gid oid (last m)) where
-    keeps_host : (h : Host) (n : Notice) → host_after h (noticed n m) ≡ h
+    keeps_host : (h : Host) (n : Option Notice) → host_after h (noticed n m) ≡ h
     unfolding host_after
-    keeps_host h notice.Reset = refl
-    keeps_host h notice.Credits = refl
-    keeps_host h notice.GenericError = refl
-    keeps_host h notice.Discover = refl
-    keeps_host h notice.Activated = refl
-    keeps_host h notice.Deactivate = refl
-    keeps_host h notice.Unknown = refl
+    keeps_host h (Some notice.Reset) = refl
+    keeps_host h (Some notice.Credits) = refl
+    keeps_host h (Some notice.GenericError) = refl
+    keeps_host h (Some notice.Discover) = refl
+    keeps_host h (Some notice.Activated) = refl
+    keeps_host h (Some notice.Deactivate) = refl
+    keeps_host h None = refl
 
     pub said_host : host_after s.host (says aim 3 gid oid m) ≡ s.host
     unfolding heard_written host_after

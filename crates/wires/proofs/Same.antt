@@ -11,7 +11,7 @@ use borrow.Author.Tests.{eqb-true, eq-eqb}
 use Rattle.octets.specs.Octets.{Octets, pick}
 use Rattle.octets.proofs.Octets.{length_cut}
 use Rattle.packets.specs.declared.Header.{Header}
-use Rattle.std.specs.Prelude.{Some, None}
+use Rattle.std.specs.Prelude.{Some, None, Option}
 use Rattle.packets.specs.Packet.{Reading, read_of, payload_of}
 use Rattle.packets.specs.Segments.{segment}
 use Rattle.packets.proofs.Packet.{read_facts, read_ranged}
@@ -46,14 +46,14 @@ inside_response command.Unknown n = Other
 inside_response command.SetConfig n = Other
 inside_response command.GetConfig n = Other
 
-abbrev inside_notice : Notice → Inside
-inside_notice notice.Reset = Other
-inside_notice notice.Credits = CreditsNtf
-inside_notice notice.GenericError = Other
-inside_notice notice.Discover = Other
-inside_notice notice.Activated = ActivatedNtf
-inside_notice notice.Deactivate = Other
-inside_notice notice.Unknown = Other
+abbrev inside_notice : Option Notice → Inside
+inside_notice (Some notice.Reset) = Other
+inside_notice (Some notice.Credits) = CreditsNtf
+inside_notice (Some notice.GenericError) = Other
+inside_notice (Some notice.Discover) = Other
+inside_notice (Some notice.Activated) = ActivatedNtf
+inside_notice (Some notice.Deactivate) = Other
+inside_notice None = Other
 
 module _ (gid oid : ℕ) where
   response_named : (n : ℕ) → pick (eqb gid 0 && eqb oid 4 && eqb n 4) CreateRsp Other ≡ inside_response (command_of gid oid) n
@@ -85,11 +85,11 @@ module _ (gid oid : ℕ) where
   unfolding notice_of
   notice_named = go (eqb gid 0) refl (eqb oid 6) refl
     where
-      none : Notice → Type 0
+      none : Option Notice → Type 0
       none x = Other ≡ inside_notice x
 
       rf : (g s f : Bool) → eqb oid 5 ≡ f → pick (g && f) ActivatedNtf Other
-          ≡ inside_notice (pick g (pick (eqb oid 3) notice.Discover (pick f notice.Activated (pick s notice.Deactivate notice.Unknown))) notice.Unknown)
+          ≡ inside_notice (pick g (pick (eqb oid 3) (Some notice.Discover) (pick f (Some notice.Activated) (pick s (Some notice.Deactivate) None))) None)
       rf true s true e = rw (eqb-true oid 5 e) refl
       rf true s false e = on none (eqb oid 3) (λ _. refl) (λ _. on none s (λ _. refl) (λ _. refl))
       rf false s f e = refl
@@ -97,8 +97,8 @@ module _ (gid oid : ℕ) where
       go : (g : Bool) → eqb gid 0 ≡ g → (s : Bool) → eqb oid 6 ≡ s → pick (g && s) CreditsNtf (pick (eqb gid 1 && eqb oid 5) ActivatedNtf Other)
           ≡ inside_notice
           (pick g
-          (pick (eqb oid 0) notice.Reset (pick s notice.Credits (pick (eqb oid 7) notice.GenericError notice.Unknown)))
-          (pick (eqb gid 1) (pick (eqb oid 3) notice.Discover (pick (eqb oid 5) notice.Activated (pick s notice.Deactivate notice.Unknown))) notice.Unknown))
+          (pick (eqb oid 0) (Some notice.Reset) (pick s (Some notice.Credits) (pick (eqb oid 7) (Some notice.GenericError) None)))
+          (pick (eqb gid 1) (pick (eqb oid 3) (Some notice.Discover) (pick (eqb oid 5) (Some notice.Activated) (pick s (Some notice.Deactivate) None))) None))
       go true z true e = rw (eqb-true oid 6 e) refl
       go true z false e = rw (eqb-true gid 0 z) (on none (eqb oid 0) (λ _. refl) (λ _. on none (eqb oid 7) (λ _. refl) (λ _. refl)))
       go false z s e = rf (eqb gid 1) s (eqb oid 5) refl
@@ -152,7 +152,7 @@ module _ (c : ℕ) (m : Octets) where
   response_same command.GetConfig n l = no_grant command.GetConfig refl
 
   -- what a notification says where it is written here, and nothing where it is not
-  noticed_so : (x : Notice) → pick (notice_written x m) (credits_said c m (noticed x m)) 0 ≡ credits_said c m (pick (notice_written x m) (noticed x m) Nothing)
+  noticed_so : (x : Option Notice) → pick (notice_written x m) (credits_said c m (noticed x m)) 0 ≡ credits_said c m (pick (notice_written x m) (noticed x m) Nothing)
   noticed_so x = go (notice_written x m)
     where
       go : (w : Bool) → pick w (credits_said c m (noticed x m)) 0 ≡ credits_said c m (pick w (noticed x m) Nothing)
@@ -160,17 +160,17 @@ module _ (c : ℕ) (m : Octets) where
       go false = refl
 
   -- of one without credits the test makes no difference
-  quiet : (x : Notice) → credits_said c m (noticed x m) ≡ 0 → 0 ≡ credits_said c m (pick (notice_written x m) (noticed x m) Nothing)
+  quiet : (x : Option Notice) → credits_said c m (noticed x m) ≡ 0 → 0 ≡ credits_said c m (pick (notice_written x m) (noticed x m) Nothing)
   quiet x e = on (λ (k : ℕ). 0 ≡ k) (notice_written x m) (λ w. sym e) (λ w. refl) ∙ noticed_so x
 
-  notice_same : (x : Notice) → credits_inside c m (inside_notice x) ≡ credits_said c m (pick (notice_written x m) (noticed x m) Nothing)
-  notice_same notice.Reset = quiet notice.Reset refl
-  notice_same notice.Credits = noticed_so notice.Credits
-  notice_same notice.GenericError = quiet notice.GenericError refl
-  notice_same notice.Discover = quiet notice.Discover refl
-  notice_same notice.Activated = noticed_so notice.Activated
-  notice_same notice.Deactivate = quiet notice.Deactivate refl
-  notice_same notice.Unknown = quiet notice.Unknown refl
+  notice_same : (x : Option Notice) → credits_inside c m (inside_notice x) ≡ credits_said c m (pick (notice_written x m) (noticed x m) Nothing)
+  notice_same (Some notice.Reset) = quiet (Some notice.Reset) refl
+  notice_same (Some notice.Credits) = noticed_so (Some notice.Credits)
+  notice_same (Some notice.GenericError) = quiet (Some notice.GenericError) refl
+  notice_same (Some notice.Discover) = quiet (Some notice.Discover) refl
+  notice_same (Some notice.Activated) = noticed_so (Some notice.Activated)
+  notice_same (Some notice.Deactivate) = quiet (Some notice.Deactivate) refl
+  notice_same None = quiet None refl
 
   -- a whole message, by its MT
   whole_same : (mt gid oid n : ℕ) → length m ≡ n → mt < 4 → eqb mt 0 ≡ false

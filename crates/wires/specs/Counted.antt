@@ -40,8 +40,8 @@ inside_in None = Other
 
 -- those of what it says; contents never written here say nothing
 abbrev pub credits_inside : ℕ → Octets → Inside → ℕ
-credits_inside c m CreditsNtf = pick (credits_written m) (credits_said c m (noticed notice.Credits m)) 0
-credits_inside c m ActivatedNtf = pick (activated_written m) (credits_said c m (noticed notice.Activated m)) 0
+credits_inside c m CreditsNtf = pick (credits_written m) (credits_said c m (noticed (Some notice.Credits) m)) 0
+credits_inside c m ActivatedNtf = pick (activated_written m) (credits_said c m (noticed (Some notice.Activated) m)) 0
 credits_inside c m CreateRsp = pick (create_written m) (credits_said c m (Answered (ok_answer command.ConnCreate 0 m))) 0
 credits_inside c m Other = 0
 
