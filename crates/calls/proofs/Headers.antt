@@ -10,6 +10,7 @@ use mathlib.Core.List.{[], ◌∷◌, ◌++◌}
 use lib.ListN.{length, get_or, length-take}
 use lib.Seq.{ext_get_or, get_or-take}
 use lib.Dec.{ltb}
+use Rattle.std.specs.Prelude.{Option, Some, None}
 use Rattle.octets.specs.Octets.{Octets, pick, splice}
 use Rattle.octets.proofs.Octets.{octet_cut, cut_short, cut_long, cut_agree}
 use Rattle.packets.specs.Packet.{read_of}
@@ -20,7 +21,7 @@ use Rattle.area.specs.Map.{area_size, message_size, slot_size, wire_slots, store
 use Rattle.area.specs.Ring.{slot_at, slot_in, trim, slot_packet, packets_from}
 use Rattle.area.proofs.Rings.{tab_sum, length_packets}
 use Rattle.wires.specs.declared.up.Inside.{Inside}
-use Rattle.wires.specs.declared.up.Inside.TheVariants.{CreditsNtf, CreateRsp, ActivatedNtf, Other}
+use Rattle.wires.specs.declared.up.Inside.TheVariants.{CreditsNtf, CreateRsp, ActivatedNtf}
 use Rattle.wires.specs.Tally.{data_count}
 use Rattle.wires.specs.Counted.{counted_on, counted_up}
 use Rattle.wires.proofs.Slots.{read_slot}
@@ -100,14 +101,14 @@ module _ (a b out : Octets) (c : ℕ) (same : length a ≡ length b) (agree : (k
     headed : (k : ℕ) → InHeader up_at i k → get_or a k 0 ≡ get_or b k 0
     headed k h = agree k (in_up i f h)
 
-    looked : (inside_at up_at a i ≡ Other → ⊥) → counted_on c (slot_packet up_at a i) ≡ counted_on c (slot_packet up_at b i)
+    looked : (inside_at up_at a i ≡ None → ⊥) → counted_on c (slot_packet up_at a i) ≡ counted_on c (slot_packet up_at b i)
     looked one = ap (counted_on c) (packet_agrees up_at a b same i headed (λ k h. agree k (in_message i f one h)))
 
-    counted_agrees : (x : Inside) → inside_at up_at a i ≡ x → counted_on c (slot_packet up_at a i) ≡ counted_on c (slot_packet up_at b i)
-    counted_agrees CreditsNtf e = looked (λ o. let z : ◌≡◌ {A = ℕ} 0 1 = cc in omega arith)
-    counted_agrees CreateRsp e = looked (λ o. let z : ◌≡◌ {A = ℕ} 0 1 = cc in omega arith)
-    counted_agrees ActivatedNtf e = looked (λ o. let z : ◌≡◌ {A = ℕ} 0 1 = cc in omega arith)
-    counted_agrees Other e = counted_same c _ _ (read_agrees up_at a b same i headed) e
+    counted_agrees : (x : Option Inside) → inside_at up_at a i ≡ x → counted_on c (slot_packet up_at a i) ≡ counted_on c (slot_packet up_at b i)
+    counted_agrees (Some CreditsNtf) e = looked (λ o. let z : ◌≡◌ {A = ℕ} 0 1 = cc in omega arith)
+    counted_agrees (Some CreateRsp) e = looked (λ o. let z : ◌≡◌ {A = ℕ} 0 1 = cc in omega arith)
+    counted_agrees (Some ActivatedNtf) e = looked (λ o. let z : ◌≡◌ {A = ℕ} 0 1 = cc in omega arith)
+    counted_agrees None e = counted_same c _ _ (read_agrees up_at a b same i headed) e
 
   up_agrees : counted_up c (up_of a r) ≡ counted_up c (up_of b r)
   unfolding packets_from counted_up

@@ -1,14 +1,13 @@
 -- What report reads of an area: the record, the header of every filled slot of the wires, and three messages on the up wire. Payloads of other packets make no
 -- difference to it, and its five octets are those that it gave while it heard every message.
 -- Assumes nothing.
-use Rattle.std.specs.Prelude.{ℕ, ◌+◌, ◌%◌, ◌≤◌, ◌<◌, ◌≡◌, length, get_or}
+use Rattle.std.specs.Prelude.{ℕ, ◌+◌, ◌%◌, ◌≤◌, ◌<◌, ◌≡◌, length, get_or, Option, None}
 use Rattle.octets.specs.Octets.{Octets, splice}
 use Rattle.packets.specs.Packet.{read_of}
 use Rattle.state.specs.declared.kinds.Ring.{Ring}
 use Rattle.area.specs.Map.{area_size, wire_slots, down_at, up_at, record_at}
 use Rattle.area.specs.Ring.{slot_at, slot_packet}
 use Rattle.wires.specs.declared.up.Inside.{Inside}
-use Rattle.wires.specs.declared.up.Inside.TheVariants.{Other}
 use Rattle.wires.specs.Tally.{credits_up}
 use Rattle.wires.specs.Counted.{inside_in}
 use Rattle.record.specs.Reading.{decode_of}
@@ -35,8 +34,8 @@ pub record InPayload (base : ℕ) (a : Octets) (i k : ℕ) : Type 0 where
   pub from : slot_at base i + 3 ≤ k
   pub to : k < slot_at base i + length (slot_packet base a i)
 
--- what the header of the packet in slot i says is inside: one of the three messages, or Other
-abbrev pub inside_at : ℕ → Octets → ℕ → Inside
+-- what the header of the packet in slot i says is inside: one of the three messages, or none
+abbrev pub inside_at : ℕ → Octets → ℕ → Option Inside
 inside_at base a i = inside_in (read_of (slot_packet base a i))
 
 -- ---- what report reads
@@ -46,7 +45,7 @@ pub data Reads (a : Octets) (k : ℕ) : Type 0 where
   in_record : record_at ≤ k → k < area_size → Reads a k
   in_down : (i : ℕ) → Filled (decode_of a).down i → InHeader down_at i k → Reads a k
   in_up : (i : ℕ) → Filled (decode_of a).up i → InHeader up_at i k → Reads a k
-  in_message : (i : ℕ) → Filled (decode_of a).up i → (inside_at up_at a i ≡ Other → ⊥) → InPayload up_at a i k → Reads a k
+  in_message : (i : ℕ) → Filled (decode_of a).up i → (inside_at up_at a i ≡ None → ⊥) → InPayload up_at a i k → Reads a k
 
 -- the same answer: the word, and the message buffer after the call
 pub record SameAnswer (x y : Outcome) : Type 0 where
@@ -66,7 +65,7 @@ pub record InOther (base : ℕ) (r : Ring) (a : Octets) (k : ℕ) : Type 0 where
   pub slot : ℕ
   pub filled : Filled r slot
   pub payload : InPayload base a slot k
-  pub other : inside_at base a slot ≡ Other
+  pub other : inside_at base a slot ≡ None
 
 -- areas of one length that agree outside those octets get the same answer, from report of every number, whether calls made them or not
 abbrev pub HeadersAlone : Type 0

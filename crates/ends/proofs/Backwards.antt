@@ -1,7 +1,6 @@
 -- The laws of `specs/Backwards.antt`: octets that are taken for written are made from the fields that are read. A list of known length is its
 -- elements, and the tests say which of them are fixed. A credit notice goes place by place: at each, the next entry is for it, or none is.
 -- Assumes nothing.
-use Rattle.std.specs.Prelude.{Some}
 use Prim.Native.Nat.{ℕ, zero, suc, ◌+◌, ◌-◌, ◌*◌, ◌≤◌, ◌<◌}
 use mathlib.Core.Path.{◌≡◌, refl, sym, ap, ◌∙◌}
 use mathlib.Core.Bool.{Bool, true, false, ◌&&◌, ◌||◌}
@@ -12,6 +11,7 @@ use lib.ListN.{length, get_or, take, drop, length-take, length-drop, take-append
 use lib.Seq.{get_or-append-add, drop-cons, take-append_seam, drop-drop}
 use lib.Dec.{eqb, ltb, leb, eqb-suc-zero}
 use borrow.Author.Tests.{ltb-true, ltb-false, leb-true, eqb-true, eq-eqb, ne_eqb}
+use Rattle.std.specs.Prelude.{Some}
 use Rattle.octets.specs.Octets.{Octets, pick, cut}
 use Rattle.ends.specs.Kinds.{Activation}
 use Rattle.ends.specs.Kinds.notice as notice

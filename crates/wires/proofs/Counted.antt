@@ -7,12 +7,11 @@ use lib.Dec.{eqb}
 use borrow.Author.Tests.{eq-eqb, ne_eqb}
 use Rattle.octets.specs.Octets.{Octets, pick}
 use Rattle.packets.specs.declared.Header.{Header}
-use Rattle.std.specs.Prelude.{Some, None}
+use Rattle.std.specs.Prelude.{Some, None, Option}
 use Rattle.packets.specs.Packet.{Reading, read_of, payload_of}
 use Rattle.packets.specs.Segments.{Segment}
 use Rattle.area.specs.Ring.{trim}
 use Rattle.wires.specs.declared.up.Inside.{Inside}
-use Rattle.wires.specs.declared.up.Inside.TheVariants.{Other}
 use Rattle.wires.specs.Meaning.{datum, control, meant, meaning_in, meaning}
 use Rattle.wires.specs.Tally.{is_data_for}
 use Rattle.wires.specs.Counted.{inside_of, inside_in, credits_inside, counted_in, counted_on}
@@ -64,11 +63,11 @@ module _ (c : ℕ) (p q : Octets) (same : read_of p ≡ read_of q) where
   data_same = λ i. pick ((data_read (read_of p) ∙ ap (λ (r : Reading). is_data_for c (meaning_in q r)) same) i) 1 0
 
   -- one that is not looked into counts for its header
-  pub counted_same : inside_in (read_of p) ≡ Other → counted_on c p ≡ counted_on c q
+  pub counted_same : inside_in (read_of p) ≡ None → counted_on c p ≡ counted_on c q
   counted_same other = go (read_of p) other ∙ ap (counted_in c q) same
     where
-      go : (r : Reading) → inside_in r ≡ Other → counted_in c p r ≡ counted_in c q r
+      go : (r : Reading) → inside_in r ≡ None → counted_in c p r ≡ counted_in c q r
       go (Some (h, n)) e =
-          let headed : Octets → Inside → ℕ = λ m x. pick (eqb h.mt 0) (pick (eqb h.id c) h.credits 0) (credits_inside c m x) in
+          let headed : Octets → Option Inside → ℕ = λ m x. pick (eqb h.mt 0) (pick (eqb h.id c) h.credits 0) (credits_inside c m x) in
           ap (headed (payload_of p n)) e ∙ sym (ap (headed (payload_of q n)) e)
       go None e = refl

@@ -11,7 +11,7 @@ use lib.Dec.{eqb, ltb, leb}
 use lib.ListN.{length, get_or}
 use borrow.Author.Tests.{eqb-true, ltb-true, leb-true, eq-eqb}
 use Rattle.octets.specs.Octets.{Octets, pick}
-use Rattle.std.specs.Prelude.{Some, None}
+use Rattle.std.specs.Prelude.{Some, None, Option}
 use Rattle.packets.specs.Packet.{Reading, read_of, payload_of}
 use Rattle.packets.proofs.Packet.{read_ranged}
 use Rattle.state.specs.Conn.{place_of, metered}
@@ -22,7 +22,7 @@ use Rattle.dh.specs.Contents.{entry_id, entry_credits, entries_ok, credits_writt
 use Rattle.dh.specs.Host.{credits_in, credits_for}
 use Rattle.dh.proofs.Limits.{create_tests, activated_tests}
 use Rattle.wires.specs.declared.up.Inside.{Inside}
-use Rattle.wires.specs.declared.up.Inside.TheVariants.{CreditsNtf, CreateRsp, ActivatedNtf, Other}
+use Rattle.wires.specs.declared.up.Inside.TheVariants.{CreditsNtf, CreateRsp, ActivatedNtf}
 use Rattle.wires.specs.Tally.{data_count}
 use Rattle.wires.specs.Counted.{inside_of, credits_inside, counted_in, counted_on, counted_up}
 use Rattle.wires.proofs.Counting.{data_one_small}
@@ -90,11 +90,11 @@ module _ (m : Octets) (c : ℕ) where
   activated_few : activated_written m ≡ true → pick (eqb 0 c) (metered (get_or m 5 0)) 0 ≤ 8
   activated_few h = opens_few 0 (get_or m 5 0) (activated_tests m h 4)
 
-  inside_few : (x : Inside) → credits_inside c m x ≤ 8
-  inside_few CreditsNtf = on (λ (k : ℕ). k ≤ 8) (credits_written m) notice_few (λ e. omega arith)
-  inside_few CreateRsp = on (λ (k : ℕ). k ≤ 8) (create_written m) create_few (λ e. omega arith)
-  inside_few ActivatedNtf = on (λ (k : ℕ). k ≤ 8) (activated_written m) activated_few (λ e. omega arith)
-  inside_few Other = omega arith
+  inside_few : (x : Option Inside) → credits_inside c m x ≤ 8
+  inside_few (Some CreditsNtf) = on (λ (k : ℕ). k ≤ 8) (credits_written m) notice_few (λ e. omega arith)
+  inside_few (Some CreateRsp) = on (λ (k : ℕ). k ≤ 8) (create_written m) create_few (λ e. omega arith)
+  inside_few (Some ActivatedNtf) = on (λ (k : ℕ). k ≤ 8) (activated_written m) activated_few (λ e. omega arith)
+  inside_few None = omega arith
 
 -- ---- a packet, and a wire
 

@@ -27,43 +27,43 @@ use Rattle.dh.specs.Contents.{notice_of, create_written, notice_written, status_
 use Rattle.dh.specs.Host.{ok_answer, answer_of, noticed, heard_written}
 use Rattle.dh.proofs.Limits.{create_tests}
 use Rattle.wires.specs.declared.up.Inside.{Inside}
-use Rattle.wires.specs.declared.up.Inside.TheVariants.{CreditsNtf, ActivatedNtf, CreateRsp, Other}
+use Rattle.wires.specs.declared.up.Inside.TheVariants.{CreditsNtf, ActivatedNtf, CreateRsp}
 use Rattle.wires.specs.Meaning.{datum, control, meaning_in, meaning}
 use Rattle.wires.specs.Tally.{says, credits_said, credits_meant, credits_on, credits_up}
 use Rattle.wires.specs.Counted.{is_named, inside_of, credits_inside, counted_in, counted_on, counted_up}
 
 -- ---- what is inside, by the names of commands and notifications
 
-abbrev inside_response : Command → ℕ → Inside
-inside_response command.Reset n = Other
-inside_response command.Init n = Other
-inside_response command.ConnCreate n = pick (eqb n 4) CreateRsp Other
-inside_response command.ConnClose n = Other
-inside_response command.Discover n = Other
-inside_response command.Select n = Other
-inside_response command.Deactivate n = Other
-inside_response command.Unknown n = Other
-inside_response command.SetConfig n = Other
-inside_response command.GetConfig n = Other
+abbrev inside_response : Command → ℕ → Option Inside
+inside_response command.Reset n = None
+inside_response command.Init n = None
+inside_response command.ConnCreate n = pick (eqb n 4) (Some CreateRsp) None
+inside_response command.ConnClose n = None
+inside_response command.Discover n = None
+inside_response command.Select n = None
+inside_response command.Deactivate n = None
+inside_response command.Unknown n = None
+inside_response command.SetConfig n = None
+inside_response command.GetConfig n = None
 
-abbrev inside_notice : Option Notice → Inside
-inside_notice (Some notice.Reset) = Other
-inside_notice (Some notice.Credits) = CreditsNtf
-inside_notice (Some notice.GenericError) = Other
-inside_notice (Some notice.Discover) = Other
-inside_notice (Some notice.Activated) = ActivatedNtf
-inside_notice (Some notice.Deactivate) = Other
-inside_notice None = Other
+abbrev inside_notice : Option Notice → Option Inside
+inside_notice (Some notice.Reset) = None
+inside_notice (Some notice.Credits) = Some CreditsNtf
+inside_notice (Some notice.GenericError) = None
+inside_notice (Some notice.Discover) = None
+inside_notice (Some notice.Activated) = Some ActivatedNtf
+inside_notice (Some notice.Deactivate) = None
+inside_notice None = None
 
 module _ (gid oid : ℕ) where
-  response_named : (n : ℕ) → pick (eqb gid 0 && eqb oid 4 && eqb n 4) CreateRsp Other ≡ inside_response (command_of gid oid) n
+  response_named : (n : ℕ) → pick (eqb gid 0 && eqb oid 4 && eqb n 4) (Some CreateRsp) None ≡ inside_response (command_of gid oid) n
   unfolding command_of
   response_named n = go (eqb gid 0) (eqb oid 4) refl
     where
       none : Command → Type 0
-      none x = Other ≡ inside_response x n
+      none x = None ≡ inside_response x n
 
-      go : (g b : Bool) → eqb oid 4 ≡ b → pick (g && b && eqb n 4) CreateRsp Other
+      go : (g b : Bool) → eqb oid 4 ≡ b → pick (g && b && eqb n 4) (Some CreateRsp) None
           ≡ inside_response
           (pick g
           (pick (eqb oid 0) command.Reset
@@ -81,20 +81,20 @@ module _ (gid oid : ℕ) where
           (λ _. on none (eqb oid 3) (λ _. refl) (λ _. on none b (λ _. refl) (λ _. on none (eqb oid 6) (λ _. refl) (λ _. refl))))
           (λ _. refl)
 
-  notice_named : pick (eqb gid 0 && eqb oid 6) CreditsNtf (pick (eqb gid 1 && eqb oid 5) ActivatedNtf Other) ≡ inside_notice (notice_of gid oid)
+  notice_named : pick (eqb gid 0 && eqb oid 6) (Some CreditsNtf) (pick (eqb gid 1 && eqb oid 5) (Some ActivatedNtf) None) ≡ inside_notice (notice_of gid oid)
   unfolding notice_of
   notice_named = go (eqb gid 0) refl (eqb oid 6) refl
     where
       none : Option Notice → Type 0
-      none x = Other ≡ inside_notice x
+      none x = None ≡ inside_notice x
 
-      rf : (g s f : Bool) → eqb oid 5 ≡ f → pick (g && f) ActivatedNtf Other
+      rf : (g s f : Bool) → eqb oid 5 ≡ f → pick (g && f) (Some ActivatedNtf) None
           ≡ inside_notice (pick g (pick (eqb oid 3) (Some notice.Discover) (pick f (Some notice.Activated) (pick s (Some notice.Deactivate) None))) None)
       rf true s true e = rw (eqb-true oid 5 e) refl
       rf true s false e = on none (eqb oid 3) (λ _. refl) (λ _. on none s (λ _. refl) (λ _. refl))
       rf false s f e = refl
 
-      go : (g : Bool) → eqb gid 0 ≡ g → (s : Bool) → eqb oid 6 ≡ s → pick (g && s) CreditsNtf (pick (eqb gid 1 && eqb oid 5) ActivatedNtf Other)
+      go : (g : Bool) → eqb gid 0 ≡ g → (s : Bool) → eqb oid 6 ≡ s → pick (g && s) (Some CreditsNtf) (pick (eqb gid 1 && eqb oid 5) (Some ActivatedNtf) None)
           ≡ inside_notice
           (pick g
           (pick (eqb oid 0) (Some notice.Reset) (pick s (Some notice.Credits) (pick (eqb oid 7) (Some notice.GenericError) None)))
@@ -119,7 +119,7 @@ module _ (c : ℕ) (m : Octets) where
 
   -- the one of four octets that opens, and no other create response
   created : (n : ℕ) → length m ≡ n
-      → credits_inside c m (pick (eqb n 4) CreateRsp Other)
+      → credits_inside c m (pick (eqb n 4) (Some CreateRsp) None)
       ≡ credits_said c m (pick (status_alone m || create_written m) (Answered (answer_of command.ConnCreate 0 m)) Nothing)
   unfolding answer_of
   created n l = go (create_written m) refl
@@ -129,13 +129,13 @@ module _ (c : ℕ) (m : Octets) where
       alone true false = refl
       alone false ok = refl
 
-      go : (w : Bool) → create_written m ≡ w → credits_inside c m (pick (eqb n 4) CreateRsp Other)
+      go : (w : Bool) → create_written m ≡ w → credits_inside c m (pick (eqb n 4) (Some CreateRsp) None)
           ≡ credits_said c m (pick (status_alone m || create_written m) (Answered (pick (eqb (get_or m 0 0) 0x00) (ok_answer command.ConnCreate 0 m) Done)) Nothing)
       go true w =
           let four : length m ≡ 4 = eqb-true (length m) 4 (create_tests m w 0) in
           rw (eq-eqb n 4 (sym l ∙ four), w, create_tests m w 1, four) refl
       go false w =
-          on (λ (x : Inside). credits_inside c m x ≡ 0) (eqb n 4) (λ _. rw w refl) (λ _. refl)
+          on (λ (x : Option Inside). credits_inside c m x ≡ 0) (eqb n 4) (λ _. rw w refl) (λ _. refl)
           ∙ rw w (alone (eqb (length m) 1) (eqb (get_or m 0 0) 0x00))
 
   response_same : (x : Command) (n : ℕ) → length m ≡ n → credits_inside c m (inside_response x n)
@@ -175,9 +175,9 @@ module _ (c : ℕ) (m : Octets) where
   -- a whole message, by its MT
   whole_same : (mt gid oid n : ℕ) → length m ≡ n → mt < 4 → eqb mt 0 ≡ false
       → credits_inside c m
-      (pick (eqb mt 3 && eqb gid 0 && eqb oid 6) CreditsNtf
-      (pick (eqb mt 3 && eqb gid 1 && eqb oid 5) ActivatedNtf
-      (pick (eqb mt 2 && eqb gid 0 && eqb oid 4 && eqb n 4) CreateRsp Other)))
+      (pick (eqb mt 3 && eqb gid 0 && eqb oid 6) (Some CreditsNtf)
+      (pick (eqb mt 3 && eqb gid 1 && eqb oid 5) (Some ActivatedNtf)
+      (pick (eqb mt 2 && eqb gid 0 && eqb oid 4 && eqb n 4) (Some CreateRsp) None)))
       ≡ credits_said c m (pick (eqb mt 1) Nothing (says 0 mt gid oid m))
   unfolding written heard_written
   whole_same zero gid oid n l k z = absurd (false≢true (sym z))
@@ -203,10 +203,10 @@ same_count c p = go (read_of p) refl
 
         segmented : (b : Bool)
             → credits_inside c (payload_of p n)
-            (pick b Other
-            (pick (is_named h 3 0 6) CreditsNtf
-            (pick (is_named h 3 1 5) ActivatedNtf
-            (pick (is_named h 2 0 4 && eqb n 4) CreateRsp Other))))
+            (pick b None
+            (pick (is_named h 3 0 6) (Some CreditsNtf)
+            (pick (is_named h 3 1 5) (Some ActivatedNtf)
+            (pick (is_named h 2 0 4 && eqb n 4) (Some CreateRsp) None))))
             ≡ credits_meant c (control h.mt h.id h.oid (segment b (payload_of p n)))
         segmented true = refl
         segmented false = whole_same c (payload_of p n) h.mt h.id h.oid n long (read_ranged p h n e).mt z

@@ -1,7 +1,7 @@
 -- The credits on the up wire as report counts them: by the header of every packet, looking into three messages alone. `Tally` says what they
 -- are by what every message says; both are the same of any packets.
 -- Assumes nothing.
-use Rattle.std.specs.Prelude.{ℕ, ◌+◌, Bool, ◌&&◌, List, [], ◌∷◌, eqb, Some, None}
+use Rattle.std.specs.Prelude.{ℕ, ◌+◌, Bool, ◌&&◌, List, [], ◌∷◌, eqb, Some, None, Option}
 use Rattle.octets.specs.Octets.{Octets, pick}
 use Rattle.packets.specs.Types.{mt_data, mt_response, mt_notification}
 use Rattle.packets.specs.declared.Header.{Header}
@@ -14,7 +14,7 @@ use Rattle.dh.specs.Contents.{credits_written, create_written, activated_written
 use Rattle.dh.specs.Host.{ok_answer, noticed}
 use Rattle.wires.specs.Tally.{credits_said}
 use Rattle.wires.specs.declared.up.Inside.{Inside}
-use Rattle.wires.specs.declared.up.Inside.TheVariants.{CreditsNtf, ActivatedNtf, CreateRsp, Other}
+use Rattle.wires.specs.declared.up.Inside.TheVariants.{CreditsNtf, ActivatedNtf, CreateRsp}
 
 -- ---- what the header says is inside
 
@@ -24,26 +24,26 @@ is_named h mt gid oid = eqb h.mt mt && eqb h.id gid && eqb h.oid oid
 
 -- of a packet with this header, which states n octets of payload. A segment that is not the last of its message is none of the three, and the
 -- response that opens a connection has four octets
-unfoldable pub inside_of : Header → ℕ → Inside
+unfoldable pub inside_of : Header → ℕ → Option Inside
 inside_of h n =
-    pick h.pbf Other
-    (pick (is_named h mt_notification gid_core oid_conn_credits) CreditsNtf
-    (pick (is_named h mt_notification gid_rf oid_activated) ActivatedNtf
-    (pick (is_named h mt_response gid_core oid_conn_create && eqb n 4) CreateRsp Other)))
+    pick h.pbf None
+    (pick (is_named h mt_notification gid_core oid_conn_credits) (Some CreditsNtf)
+    (pick (is_named h mt_notification gid_rf oid_activated) (Some ActivatedNtf)
+    (pick (is_named h mt_response gid_core oid_conn_create && eqb n 4) (Some CreateRsp) None)))
 
 -- a packet that is dropped has nothing inside
-abbrev pub inside_in : Reading → Inside
+abbrev pub inside_in : Reading → Option Inside
 inside_in (Some (h, n)) = inside_of h n
-inside_in None = Other
+inside_in None = None
 
 -- ---- the credits inside
 
 -- those of what it says; contents never written here say nothing
-abbrev pub credits_inside : ℕ → Octets → Inside → ℕ
-credits_inside c m CreditsNtf = pick (credits_written m) (credits_said c m (noticed (Some notice.Credits) m)) 0
-credits_inside c m ActivatedNtf = pick (activated_written m) (credits_said c m (noticed (Some notice.Activated) m)) 0
-credits_inside c m CreateRsp = pick (create_written m) (credits_said c m (Answered (ok_answer command.ConnCreate 0 m))) 0
-credits_inside c m Other = 0
+abbrev pub credits_inside : ℕ → Octets → Option Inside → ℕ
+credits_inside c m (Some CreditsNtf) = pick (credits_written m) (credits_said c m (noticed (Some notice.Credits) m)) 0
+credits_inside c m (Some ActivatedNtf) = pick (activated_written m) (credits_said c m (noticed (Some notice.Activated) m)) 0
+credits_inside c m (Some CreateRsp) = pick (create_written m) (credits_said c m (Answered (ok_answer command.ConnCreate 0 m))) 0
+credits_inside c m None = 0
 
 -- ---- a packet, and the wire
 
