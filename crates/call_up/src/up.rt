@@ -11,15 +11,17 @@ ghost use Rattle.views.specs.View.{view};
 ghost use Rattle.model.specs.calls.Up.{up_rules};
 ghost use Rattle.calls.specs.Word.{word_of};
 ghost use Rattle.calls.specs.Outcome.{outcome, Lowest};
-ghost use Rattle.calls.specs.calls.Up.{up_record, received_join, received_ends, received_area, received_length, received_word, received, received_up, heard_area, heard_ends, heard_word, coming_up, upped, Uppable};
+ghost use Rattle.calls.specs.calls.Push.{host_side};
+ghost use Rattle.calls.specs.calls.Up.{up_slot, up_record, received_join, received_ends, received_area, received_length, received_word, received, received_up, heard_area, heard_ends, heard_word, coming_up, upped, Uppable};
 
 use area::{map, movers, ring};
 use dh::host;
 use ends::message;
 use packets::{Header, Way};
 use record::write;
-use state::kinds::{Ends, Record};
+use state::kinds::{Ends, HostSide, Record};
 use state::refusal::Refusal;
+use state::runs::Joined;
 use state::{conn, runs};
 
 // ---- refusals
@@ -34,20 +36,14 @@ pub fn refusal(r: Record) -> Result<(), Refusal>
 
 // ---- the record after it
 
-// The packet is off the wire, and both ends have these numbers.
+// The packet is off the wire, and both ends have these numbers. These two are functions of the record, since a packet that cannot be
+// read has no header for a `Coming`.
 fn leave(area: &mut [u8], r: Record, ends: Ends)
     requires { (area_size ≤ length area.old) × Uppable r }
     ensures { area.new ≡ saved area.old (up_record r ends) }
 {
-    let down = r.down;
-    let up = r.up;
-    let ring = ring::took_from(map::WIRE, up);
-    let next = Record {
-        ends: ends,
-        down: down,
-        up: ring,
-    };
-    write::encode(area, next);
+    let up = ring::took_from(map::WIRE, r.up);
+    write::encode(area, Record { ends, up, ..r });
 }
 
 // The packet is dropped: nothing else changes.
@@ -55,181 +51,212 @@ fn discard(area: &mut [u8], r: Record) -> u64
     requires { (area_size ≤ length area.old) × Uppable r }
     ensures { (result ≡ word_of true false 0 0 0) × (area.new ≡ saved area.old (up_record r r.ends)) }
 {
-    let ends = r.ends;
-    leave(area, r, ends);
+    leave(area, r, r.ends);
     call_word::drops()
 }
 
-// ---- data
+// ---- the packet
 
-// Both ends after a data packet: its credits are held, and its segment has joined the run.
-fn received_ends(r: Record, h: Header, n: usize) -> Ends
-    ensures { result ≡ received_ends r h n }
-{
-    let mut ends = r.ends;
-    let conns = ends.conns;
-    let k = conn::counts_of(conns, h.id);
-    let before = k.host;
-    let run = before.run;
-    let j = runs::join(map::MESSAGE, run, h.pbf, n);
-    let progress = j.next;
-    let mut side = host::credited(before, h.credits as usize);
-    side.run = progress;
-    let next = conn::with_host(conns, h.id, side);
-    ends.conns = next;
-    ends
+// A packet that was read, with the record before it is taken: its header, and how many octets its payload has.
+#[derive(Clone, Copy)]
+struct Coming {
+    before: Record,
+    header: Header,
+    size: usize,
+    ghost able: { Uppable before },
+    ghost few: { size ≤ payload_size },
 }
 
-// The segment joins the connection's run.
-fn join_data(area: &mut [u8], r: Record, h: Header, n: usize)
-    requires { (area_size ≤ length area.old) × Uppable r × (n ≤ payload_size) × (place_of h.id < places) }
-    ensures { area.new ≡ received_area r h n area.old }
-{
-    let ends = r.ends;
-    let conns = ends.conns;
-    let up = r.up;
-    let k = conn::counts_of(conns, h.id);
-    let side = k.host;
-    let run = side.run;
-    let place = conn::place_of(h.id);
-    let base = map::host_run_at(place);
-    let slot = ring::first_at(map::UP_AT, up);
-    movers::join_run(area, base, map::MESSAGE, run, slot, n);
+// Data for a connection that is open at the host, which has a place for its run.
+#[derive(Clone, Copy)]
+struct Data {
+    coming: Coming,
+    ghost placed: { place_of coming.header.id < places },
 }
 
-// Hands out n octets of a connection's run.
-fn hand_over(area: &[u8], out: &mut [u8], conn: u8, n: usize)
-    requires { (area_size ≤ length area.now) × (message_size ≤ length out.old) × (place_of conn < places) × (n ≤ message_size) }
-    ensures { out.new ≡ splice out.old 0 (cut (host_run_at (place_of conn)) n area.now) }
-{
-    let place = conn::place_of(conn);
-    let base = map::host_run_at(place);
-    movers::hand_out(area, base, n, out);
-}
-
-// The message that a segment finishes, which has joined its run, is handed out. The word.
-fn finish(area: &[u8], out: &mut [u8], r: Record, h: Header, n: usize) -> u64
-    requires { (area_size ≤ length area.now) × (message_size ≤ length out.old) × (place_of h.id < places) }
-    ensures { (result ≡ received_word r h n) × (out.new ≡ pick (received_join r h n).done (splice out.old 0 (cut (host_run_at (place_of h.id)) (received_length r h n) area.now)) out.old) }
-{
-    let ends = r.ends;
-    let conns = ends.conns;
-    let k = conn::counts_of(conns, h.id);
-    let side = k.host;
-    let run = side.run;
-    let len = run.len;
-    let j = runs::join(map::MESSAGE, run, h.pbf, n);
-    if !j.done {
-        return call_word::quiet(j.dropped, false, 0);
+impl Coming {
+    // Where it stands.
+    fn slot(self) -> usize
+        ensures { result ≡ up_slot self.before }
+    {
+        ring::first_at(map::UP_AT, self.before.up)
     }
-    hand_over(area, out, h.id, len + n);
-    call_word::quiet(j.dropped, true, len + n)
-}
 
-// Data for a connection that is open at the host.
-fn receive(area: &mut [u8], out: &mut [u8], r: Record, h: Header, n: usize) -> u64
-    requires { (area_size ≤ length area.old) × (message_size ≤ length out.old) × Uppable r × (n ≤ payload_size) × (place_of h.id < places) }
-    ensures { outcome result area.new out.new ≡ received r h n area.old out.old }
-{
-    join_data(area, r, h, n);
-    let w = finish(area, out, r, h, n);
-    let ends = received_ends(r, h, n);
-    leave(area, r, ends);
-    w
-}
-
-// A data packet.
-fn take_data(area: &mut [u8], out: &mut [u8], r: Record, h: Header, n: usize) -> u64
-    requires { (area_size ≤ length area.old) × (message_size ≤ length out.old) × Uppable r × (n ≤ payload_size) }
-    ensures { outcome result area.new out.new ≡ received_up r h n area.old out.old }
-{
-    let ends = r.ends;
-    let conns = ends.conns;
-    let opened = conn::held_open(conns, h.id);
-    if !opened {
-        return discard(area, r);
+    // The host's side of its connection.
+    fn side(self) -> HostSide
+        ensures { result ≡ host_side self.before self.header.id }
+    {
+        conn::counts_of(self.before.ends.conns, self.header.id).host
     }
-    receive(area, out, r, h, n)
-}
 
-// ---- control
+    // ---- data
 
-// The segment joins the control run.
-fn join_hearing(area: &mut [u8], r: Record, h: Header, n: usize)
-    requires { (area_size ≤ length area.old) × Uppable r × (n ≤ payload_size) }
-    ensures { area.new ≡ heard_area r h n area.old }
-{
-    let ends = r.ends;
-    let hearing = ends.hearing;
-    let up = r.up;
-    let run = runs::run_for(hearing, h);
-    let slot = ring::first_at(map::UP_AT, up);
-    movers::join_run(area, map::HEARING_AT, map::CONTROL, run, slot, n);
-}
-
-// A whole message of len octets is heard.
-fn heed(area: &mut [u8], r: Record, ends: Ends, h: Header, len: usize) -> u64
-    requires { (area_size ≤ length area.old) × Uppable r × (len ≤ control_size) }
-    ensures { (result ≡ word_of (heeded ends h.mt h.id h.oid (cut hearing_at len area.old)).dropped false 0 0 0) × (area.new ≡ saved area.old (up_record r (heeded ends h.mt h.id h.oid (cut hearing_at len area.old)).next)) }
-{
-    let d = message::heed(
-        ends,
-        h.mt,
-        h.id,
-        h.oid,
-        &area[map::HEARING_AT..map::HEARING_AT + len],
-    );
-    let next = d.next;
-    leave(area, r, next);
-    call_word::quiet(d.dropped, false, 0)
-}
-
-// A control packet: a segment that does not end its message only joins the run.
-fn take_control(area: &mut [u8], r: Record, h: Header, n: usize) -> u64
-    requires { (area_size ≤ length area.old) × Uppable r × (n ≤ payload_size) }
-    ensures { (result ≡ heard_word r h n area.old) × (area.new ≡ saved (heard_area r h n area.old) (up_record r (heard_ends r h n area.old))) }
-{
-    let mut ends = r.ends;
-    let hearing = ends.hearing;
-    let j = runs::join_control(hearing, h, n);
-    let next = j.next;
-    ends.hearing = next;
-    let base = j.base;
-    join_hearing(area, r, h, n);
-    if !j.done {
-        leave(area, r, ends);
-        return call_word::quiet(j.dropped, false, 0);
+    // How it joins the connection's run.
+    fn joined(self) -> Joined
+        ensures { result ≡ received_join self.before self.header self.size }
+    {
+        runs::join(map::MESSAGE, self.side().run, self.header.pbf, self.size)
     }
-    heed(area, r, ends, h, base + n)
+
+    // Both ends after a data packet: its credits are held, and its segment has joined the run.
+    fn received(self) -> Ends
+        ensures { result ≡ received_ends self.before self.header self.size }
+    {
+        let ends = self.before.ends;
+        let side = HostSide {
+            run: self.joined().next,
+            ..host::credited(self.side(), self.header.credits as usize)
+        };
+        Ends {
+            conns: conn::with_host(ends.conns, self.header.id, side),
+            ..ends
+        }
+    }
+
+    // A data packet.
+    #[tactic(auto, unfolding(calls::specs::calls::Up::received_up))]
+    fn take_data(self, area: &mut [u8], out: &mut [u8]) -> u64
+        requires { (area_size ≤ length area.old) × (message_size ≤ length out.old) }
+        ensures { outcome result area.new out.new ≡ received_up self.before self.header self.size area.old out.old }
+    {
+        if !self.side().opened {
+            return discard(area, self.before);
+        }
+        Data { coming: self }.receive(area, out)
+    }
+
+    // ---- control
+
+    // The segment joins the control run.
+    fn join_hearing(self, area: &mut [u8])
+        requires { area_size ≤ length area.old }
+        ensures { area.new ≡ heard_area self.before self.header self.size area.old }
+    {
+        let run = runs::run_for(self.before.ends.hearing, self.header);
+        movers::join_run(
+            area,
+            map::HEARING_AT,
+            map::CONTROL,
+            run,
+            self.slot(),
+            self.size,
+        );
+    }
+
+    // A whole message of len octets is heard.
+    fn heed(self, area: &mut [u8], ends: Ends, len: usize) -> u64
+        requires { (area_size ≤ length area.old) × (len ≤ control_size) }
+        ensures { (result ≡ word_of (heeded ends self.header.mt self.header.id self.header.oid (cut hearing_at len area.old)).dropped false 0 0 0) × (area.new ≡ saved area.old (up_record self.before (heeded ends self.header.mt self.header.id self.header.oid (cut hearing_at len area.old)).next)) }
+    {
+        let h = self.header;
+        let m = octets::window(area, map::HEARING_AT, len);
+        let d = message::heed(ends, h.mt, h.id, h.oid, m);
+        leave(area, self.before, d.next);
+        call_word::quiet(d.dropped, false, 0)
+    }
+
+    // A control packet: a segment that does not end its message only joins the run.
+    #[tactic(auto, unfolding(calls::specs::calls::Up::heard_ends, calls::specs::calls::Up::heard_drop), using(state::proofs::Progress::control_base, state::proofs::Progress::control_room, area::proofs::Moves::length_run))]
+    fn take_control(self, area: &mut [u8]) -> u64
+        requires { area_size ≤ length area.old }
+        ensures { (result ≡ heard_word self.before self.header self.size area.old) × (area.new ≡ saved (heard_area self.before self.header self.size area.old) (up_record self.before (heard_ends self.before self.header self.size area.old))) }
+    {
+        let r = self.before;
+        let j = runs::join_control(r.ends.hearing, self.header, self.size);
+        let ends = Ends {
+            hearing: j.next,
+            ..r.ends
+        };
+        self.join_hearing(area);
+        if !j.done {
+            leave(area, r, ends);
+            return call_word::quiet(j.dropped, false, 0);
+        }
+        self.heed(area, ends, j.base + self.size)
+    }
+
+    // By its message type: a command at the host is dropped.
+    #[tactic(auto, unfolding(calls::specs::calls::Up::coming_up))]
+    fn take(self, area: &mut [u8], out: &mut [u8]) -> u64
+        requires { (area_size ≤ length area.old) × (message_size ≤ length out.old) }
+        ensures { outcome result area.new out.new ≡ coming_up self.before self.header self.size area.old out.old }
+    {
+        match self.header.mt {
+            packets::DATA => self.take_data(area, out),
+            packets::COMMAND => discard(area, self.before),
+            _ => self.take_control(area),
+        }
+    }
+}
+
+impl Data {
+    // Where the connection's run lies.
+    fn base(self) -> usize
+        ensures { result ≡ host_run_at (place_of self.coming.header.id) }
+    {
+        map::host_run_at(conn::place_of(self.coming.header.id))
+    }
+
+    // The segment joins the connection's run.
+    fn join(self, area: &mut [u8])
+        requires { area_size ≤ length area.old }
+        ensures { area.new ≡ received_area self.coming.before self.coming.header self.coming.size area.old }
+    {
+        let c = self.coming;
+        movers::join_run(
+            area,
+            self.base(),
+            map::MESSAGE,
+            c.side().run,
+            c.slot(),
+            c.size,
+        );
+    }
+
+    // The message that the segment finishes, which has joined its run, is handed out. The word.
+    #[tactic(auto, using(state::proofs::Progress::done_room))]
+    fn finish(self, area: &[u8], out: &mut [u8]) -> u64
+        requires { (area_size ≤ length area.now) × (message_size ≤ length out.old) }
+        ensures { (result ≡ received_word self.coming.before self.coming.header self.coming.size) × (out.new ≡ pick (received_join self.coming.before self.coming.header self.coming.size).done (splice out.old 0 (cut (host_run_at (place_of self.coming.header.id)) (received_length self.coming.before self.coming.header self.coming.size) area.now)) out.old) }
+    {
+        let j = self.coming.joined();
+        if !j.done {
+            return call_word::quiet(j.dropped, false, 0);
+        }
+        let n = self.coming.side().run.len + self.coming.size;
+        movers::hand_out(area, self.base(), n, out);
+        call_word::quiet(j.dropped, true, n)
+    }
+
+    // The segment and its credits are taken, and the message that it finishes is handed out.
+    fn receive(self, area: &mut [u8], out: &mut [u8]) -> u64
+        requires { (area_size ≤ length area.old) × (message_size ≤ length out.old) }
+        ensures { outcome result area.new out.new ≡ received self.coming.before self.coming.header self.coming.size area.old out.old }
+    {
+        self.join(area);
+        let w = self.finish(area, out);
+        leave(area, self.coming.before, self.coming.received());
+        w
+    }
 }
 
 // ---- the call
 
-// A packet that was read, by its message type: a command at the host is dropped.
-fn take_packet(area: &mut [u8], out: &mut [u8], r: Record, h: Header, n: usize) -> u64
-    requires { (area_size ≤ length area.old) × (message_size ≤ length out.old) × Uppable r × (n ≤ payload_size) }
-    ensures { outcome result area.new out.new ≡ coming_up r h n area.old out.old }
-{
-    if h.mt == packets::DATA {
-        return take_data(area, out, r, h, n);
-    }
-    if h.mt == packets::COMMAND {
-        return discard(area, r);
-    }
-    take_control(area, r, h, n)
-}
-
 // An up that is taken.
+#[tactic(auto, using(area::proofs::Moves::payload_few, calls::proofs::Words::told_none))]
 pub fn act(area: &mut [u8], out: &mut [u8], r: Record) -> u64
     requires { (area_size ≤ length area.old) × (message_size ≤ length out.old) × Uppable r }
     ensures { outcome result area.new out.new ≡ upped r area.old out.old }
 {
-    let up = r.up;
-    let slot = ring::first_at(map::UP_AT, up);
-    let got = movers::read_slot(area, slot);
-    let Some((h, n)) = got else {
+    let slot = ring::first_at(map::UP_AT, r.up);
+    let Some((header, size)) = movers::read_slot(area, slot) else {
         return discard(area, r);
     };
-    let w = take_packet(area, out, r, h, n);
-    call_word::telling(packets::rfu(Way::Up, h), w)
+    let coming = Coming {
+        before: r,
+        header,
+        size,
+    };
+    let w = coming.take(area, out);
+    call_word::telling(packets::rfu(Way::Up, header), w)
 }
