@@ -1,5 +1,5 @@
 // down: the controller takes the first down packet, stores data and answers a command when it is whole.
-ghost use Rattle.std.specs.Prelude.{◌≡◌, ◌&&◌, ◌+◌, ◌≤◌, ◌<◌, length, eqb, leb, IfSome};
+ghost use Rattle.std.specs.Prelude.{◌≡◌, ◌&&◌, ◌+◌, ◌≤◌, ◌<◌, length, eqb, leb, true, false, IfSome, Some};
 ghost use Rattle.octets.specs.Octets.{splice};
 ghost use Rattle.state.specs.Conn.{place_of, open_at};
 ghost use Rattle.state.specs.Refusal.{number_in};
@@ -9,10 +9,13 @@ ghost use Rattle.area.specs.Movers.{puts_all};
 ghost use Rattle.nfcc.specs.Controller.{config_by};
 ghost use Rattle.record.specs.Layout.{config_octets, configured};
 ghost use Rattle.record.specs.Fit.{FitRing};
+ghost use Rattle.record.specs.Plan.{with_ends};
 ghost use Rattle.views.specs.View.{view};
 ghost use Rattle.model.specs.calls.Down.{down_rules};
+ghost use Rattle.record.specs.Claims.{saved};
+ghost use Rattle.calls.specs.Word.{word_of};
 ghost use Rattle.calls.specs.Outcome.{lowest, ComesTo};
-ghost use Rattle.calls.specs.calls.Down.{took_down, down_dropped, controller_side, stored_record, stored_slot, data_down, joined_area, note_packet, note_packets, command_in, answered, command_down, arrived, downed, Arrivable, Downable};
+ghost use Rattle.calls.specs.calls.Down.{took_down, controller_side, stored_record, stored_slot, data_down, joined_area, note_packet, note_packets, command_in, answered, command_down, arrived, downed, Arrivable, Downable};
 
 use area::{map, movers, ring};
 use ends::command;
@@ -20,7 +23,7 @@ use messages::layout::Note;
 use nfcc::effects;
 use packets::{Header, Way};
 use record::{parameters, write};
-use state::kinds::{ControlRun, Record, Ring};
+use state::kinds::{ControllerSide, Ends, Record, Ring};
 use state::refusal::Refusal;
 use state::verdict::{Status, Verdict};
 use state::{conn, runs};
@@ -28,14 +31,12 @@ use state::{conn, runs};
 // ---- what refuses it
 
 // Whether the packet is data of an open connection whose store is full.
+#[tactic(auto, unfolding(state::specs::Conn::open_at))]
 fn store_full(r: Record, h: Header) -> bool
     ensures { result ≡ (eqb h.mt 0 && open_at r.ends.conns h.id && leb store_slots (controller_side r h.id).store.count) }
 {
-    let ends = r.ends;
-    let conns = ends.conns;
-    let open = conn::open_at(conns, h.id);
-    let k = conn::counts_of(conns, h.id);
-    (h.mt == packets::DATA) & open & (map::STORE <= k.controller.store.count)
+    let side = conn::counts_of(r.ends.conns, h.id).controller;
+    (h.mt == packets::DATA) & side.opened & (map::STORE <= side.store.count)
 }
 
 // Why a down is not taken: the first of the model's rules. Of an empty wire there is no packet to read.
@@ -52,121 +53,51 @@ pub fn refusal(area: &[u8], r: Record) -> Result<(), Refusal>
     Refusal::StoreFull.when(store_full(r, h))
 }
 
-// ---- a packet that is dropped
+// ---- the record after it
 
 // The record with the first packet off the wire.
 fn took(r: Record) -> Record
     requires { (r.down.head < wire_slots) × (0 < r.down.count) }
     ensures { result ≡ took_down r }
 {
-    let ends = r.ends;
-    let down = r.down;
-    let up = r.up;
-    let next = ring::took_from(map::WIRE, down);
     Record {
-        ends: ends,
-        down: next,
-        up: up,
+        down: ring::took_from(map::WIRE, r.down),
+        ..r
     }
 }
 
-// Nothing but the drop flag.
+// The packet is dropped: nothing but the drop flag. A function of the record, since a packet that cannot be read has no header for an
+// `Arrival`.
 fn dropped(area: &mut [u8], t: Record) -> u64
     requires { area_size ≤ length area.old }
-    ensures { ComesTo result area.new (down_dropped t area.old) }
+    ensures { (result ≡ word_of true false 0 0 0) × (area.new ≡ saved area.old t) }
 {
     write::encode(area, t);
     call_word::drops()
 }
 
-// ---- data
-
-// The record with a packet more in the connection's store.
-fn stored_record(t: Record, conn: u8) -> Record
-    requires { (controller_side t conn).store.count < store_slots }
-    ensures { result ≡ stored_record t conn }
-{
-    let mut ends = t.ends;
-    let conns = ends.conns;
-    let down = t.down;
-    let up = t.up;
-    let k = conn::counts_of(conns, conn);
-    let mut side = k.controller;
-    let store = side.store;
-    let more = ring::put_into(store);
-    side.store = more;
-    let next = conn::with_controller(conns, conn, side);
-    ends.conns = next;
-    Record {
-        ends: ends,
-        down: down,
-        up: up,
-    }
-}
-
-// The packet's slot is copied into the first free slot of the connection's store.
-fn store(area: &mut [u8], t: Record, slot: usize, conn: u8)
-    requires { (area_size ≤ length area.old) × (slot + slot_size ≤ length area.old) × (place_of conn < places) × FitRing store_slots (controller_side t conn).store }
-    ensures { area.new ≡ stored_slot t slot conn area.old }
-{
-    let ends = t.ends;
-    let conns = ends.conns;
-    let k = conn::counts_of(conns, conn);
-    let side = k.controller;
-    let ring = side.store;
-    let place = conn::place_of(conn);
-    let base = map::store_at(place);
-    let free = ring::free_at(base, map::STORE, ring);
-    movers::copy_slot(area, slot, free);
-}
-
-// A data packet is stored, or dropped if its connection isn't open.
-fn data_packet(area: &mut [u8], t: Record, slot: usize, h: Header) -> u64
-    requires { (area_size ≤ length area.old) × (slot + slot_size ≤ length area.old) × Arrivable t.ends.conns t.up h × (h.mt ≡ 0) }
-    ensures { ComesTo result area.new (data_down t slot h.id area.old) }
-{
-    let ends = t.ends;
-    let conns = ends.conns;
-    let open = conn::open_at(conns, h.id);
-    if !open {
-        return dropped(area, t);
-    }
-    store(area, t, slot, h.id);
-    let next = stored_record(t, h.id);
-    write::encode(area, next);
-    0
-}
-
-// ---- commands
-
-// The packet's payload joins the controller's run.
-fn join(area: &mut [u8], asking: ControlRun, slot: usize, h: Header, n: usize)
-    requires { (area_size ≤ length area.old) × (slot + slot_size ≤ length area.old) × (n ≤ payload_size) }
-    ensures { area.new ≡ joined_area asking slot h n area.old }
-{
-    let p = runs::run_for(asking, h);
-    movers::join_run(area, map::ASKING_AT, map::CONTROL, p, slot, n);
-}
+// ---- answers
 
 // A control message of the controller is one packet, in the first free slot of the up wire.
+#[tactic(auto, using(calls::proofs::DownAnswer::cut_few))]
 fn put_note(area: &mut [u8], up: Ring, mt: u8, note: Note, m: &[u8])
     requires { (area_size ≤ length area.old) × FitRing wire_slots up × (note.len ≤ control_size) }
     ensures { area.new ≡ splice area.old (free_at up_at wire_slots up) (note_packet mt note m.now) }
 {
-    let len = note.len;
-    let slot = ring::free_at(map::UP_AT, map::WIRE, up);
     let h = Header {
-        mt: mt,
+        mt,
         pbf: false,
         id: note.gid,
         oid: note.oid,
         credits: 0,
         spare: 0,
     };
-    movers::put_packet(area, slot, h, octets::window(m, 0, len));
+    let slot = ring::free_at(map::UP_AT, map::WIRE, up);
+    movers::put_packet(area, slot, h, octets::window(m, 0, note.len));
 }
 
 // The response, and the notification after it where there is one. How many packets they are.
+#[tactic(auto, unfolding(area::specs::Movers::puts_all, calls::specs::calls::Down::note_packets))]
 fn put_answers(
     area: &mut [u8],
     up: Ring,
@@ -199,100 +130,179 @@ fn settle(area: &mut [u8], m: &[u8], v: Result<Verdict, Status>)
     parameters::put_values(area, &b);
 }
 
-// A whole command of len octets, which stand in the area, is answered. It goes through a local array, since the answer goes
-// into the area.
-fn answer(area: &mut [u8], t: Record, h: Header, len: usize) -> u64
-    requires { (area_size ≤ length area.old) × (len ≤ control_size) × FitRing wire_slots t.up × (t.up.count + 2 ≤ wire_slots) }
-    ensures { ComesTo result area.new (answered t h (command_in len area.old) area.old) }
-{
-    let mut m = [0u8; 255];
-    let mut rsp = [0u8; 255];
-    let mut ntf = [0u8; 255];
-    let ends = t.ends;
-    let down = t.down;
-    let up = t.up;
-    movers::hand_out(area, map::ASKING_AT, len, &mut m);
-    let a = command::answer(
-        ends,
-        h.id,
-        h.oid,
-        parameters::values_of(area),
-        &m[0..len],
-        &mut rsp,
-        &mut ntf,
-    );
-    let d = a.decision;
-    let v = d.verdict;
-    let after = d.next;
-    let response = a.response;
-    let notice = a.notice;
-    let n = put_answers(area, up, response, &rsp, notice, &ntf);
-    settle(area, &m[0..len], v);
-    let next = Record {
-        ends: after,
-        down: down,
-        up: Ring {
-            head: up.head,
-            count: up.count + n,
-        },
-    };
-    write::encode(area, next);
-    call_word::puts_up(n)
+// ---- the packet
+
+// A packet that was read, with the record after it is off the wire: where its slot starts, its header, and how many octets its payload
+// has.
+#[derive(Clone, Copy)]
+struct Arrival {
+    after: Record,
+    slot: usize,
+    header: Header,
+    size: usize,
+    ghost able: { Arrivable after.ends.conns after.up header },
+    ghost inside: { slot + slot_size ≤ area_size },
+    ghost few: { size ≤ payload_size },
 }
 
-// A command's segment joins its run; a whole command is answered, one past its limit is not.
-fn command_packet(area: &mut [u8], t: Record, slot: usize, h: Header, n: usize) -> u64
-    requires { (area_size ≤ length area.old) × (slot + slot_size ≤ length area.old) × (n ≤ payload_size) × Arrivable t.ends.conns t.up h × (h.mt ≡ 1) }
-    ensures { ComesTo result area.new (command_down t slot h n area.old) }
-{
-    let mut ends = t.ends;
-    let down = t.down;
-    let up = t.up;
-    let asking = ends.asking;
-    let j = runs::join_control(asking, h, n);
-    let run = j.next;
-    ends.asking = run;
-    let next = Record {
-        ends: ends,
-        down: down,
-        up: up,
-    };
-    join(area, asking, slot, h, n);
-    if j.done {
-        return answer(area, next, h, j.base + n);
+impl Arrival {
+    // The controller's side of its connection.
+    fn side(self) -> ControllerSide
+        ensures { result ≡ controller_side self.after self.header.id }
+    {
+        conn::counts_of(self.after.ends.conns, self.header.id).controller
     }
-    write::encode(area, next);
-    call_word::quiet(j.dropped, false, 0)
+
+    // ---- data
+
+    // The record with a packet more in the connection's store.
+    fn stored(self) -> Record
+        requires { (controller_side self.after self.header.id).store.count < store_slots }
+        ensures { result ≡ stored_record self.after self.header.id }
+    {
+        let t = self.after;
+        let side = self.side();
+        let next = ControllerSide {
+            store: ring::put_into(side.store),
+            ..side
+        };
+        let ends = Ends {
+            conns: conn::with_controller(t.ends.conns, self.header.id, next),
+            ..t.ends
+        };
+        Record { ends, ..t }
+    }
+
+    // The packet's slot is copied into the first free slot of the connection's store.
+    fn store(self, area: &mut [u8])
+        requires { (area_size ≤ length area.old) × (open_at self.after.ends.conns self.header.id ≡ true) }
+        ensures { area.new ≡ stored_slot self.after self.slot self.header.id area.old }
+    {
+        let base = map::store_at(conn::place_of(self.header.id));
+        let free = ring::free_at(base, map::STORE, self.side().store);
+        movers::copy_slot(area, self.slot, free);
+    }
+
+    // A data packet is stored, or dropped if its connection isn't open.
+    #[tactic(auto, unfolding(state::specs::Conn::open_at, calls::specs::calls::Down::data_down, calls::specs::Word::word_of, record::specs::Layout::bit))]
+    fn take_data(self, area: &mut [u8]) -> u64
+        requires { (area_size ≤ length area.old) × (self.header.mt ≡ 0) }
+        ensures { ComesTo result area.new (data_down self.after self.slot self.header.id area.old) }
+    {
+        if !self.side().opened {
+            return dropped(area, self.after);
+        }
+        self.store(area);
+        write::encode(area, self.stored());
+        0
+    }
+
+    // ---- commands
+
+    // The packet's payload joins the controller's run.
+    fn join(self, area: &mut [u8])
+        requires { area_size ≤ length area.old }
+        ensures { area.new ≡ joined_area self.after.ends.asking self.slot self.header self.size area.old }
+    {
+        let run = runs::run_for(self.after.ends.asking, self.header);
+        movers::join_run(
+            area,
+            map::ASKING_AT,
+            map::CONTROL,
+            run,
+            self.slot,
+            self.size,
+        );
+    }
+
+    // A whole command of len octets, which stand in the area, is answered. It goes through a local array, since the answer goes
+    // into the area.
+    fn answer(self, area: &mut [u8], ends: Ends, len: usize) -> u64
+        requires { (area_size ≤ length area.old) × (len ≤ control_size) × (self.after.up.count + 2 ≤ wire_slots) }
+        ensures { ComesTo result area.new (answered (with_ends ends self.after) self.header (command_in len area.old) area.old) }
+    {
+        let h = self.header;
+        let up = self.after.up;
+        let mut m = [0u8; 255];
+        let mut rsp = [0u8; 255];
+        let mut ntf = [0u8; 255];
+        movers::hand_out(area, map::ASKING_AT, len, &mut m);
+        let a = command::answer(
+            ends,
+            h.id,
+            h.oid,
+            parameters::values_of(area),
+            &m[0..len],
+            &mut rsp,
+            &mut ntf,
+        );
+        let n = put_answers(area, up, a.response, &rsp, a.notice, &ntf);
+        settle(area, &m[0..len], a.decision.verdict);
+        let next = Record {
+            ends: a.decision.next,
+            up: Ring {
+                count: up.count + n,
+                ..up
+            },
+            ..self.after
+        };
+        write::encode(area, next);
+        call_word::puts_up(n)
+    }
+
+    // A command's segment joins its run; a whole command is answered, one past its limit is not.
+    #[tactic(auto, unfolding(calls::specs::calls::Down::command_down), using(state::proofs::Progress::control_base, state::proofs::Progress::control_room, calls::proofs::DownCommand::control_last, area::proofs::Moves::length_run))]
+    fn take_command(self, area: &mut [u8]) -> u64
+        requires { (area_size ≤ length area.old) × (self.header.mt ≡ 1) }
+        ensures { ComesTo result area.new (command_down self.after self.slot self.header self.size area.old) }
+    {
+        let t = self.after;
+        let j = runs::join_control(t.ends.asking, self.header, self.size);
+        let ends = Ends {
+            asking: j.next,
+            ..t.ends
+        };
+        self.join(area);
+        if j.done {
+            return self.answer(area, ends, j.base + self.size);
+        }
+        write::encode(area, Record { ends, ..t });
+        call_word::quiet(j.dropped, false, 0)
+    }
+
+    // By its message type: commands and data aside, it is dropped.
+    #[tactic(auto, unfolding(calls::specs::calls::Down::arrived))]
+    fn take(self, area: &mut [u8]) -> u64
+        requires { area_size ≤ length area.old }
+        ensures { ComesTo result area.new (arrived self.after self.slot (Some (self.header, self.size)) area.old) }
+    {
+        match self.header.mt {
+            packets::DATA => self.take_data(area),
+            packets::COMMAND => self.take_command(area),
+            _ => dropped(area, self.after),
+        }
+    }
 }
 
 // ---- the call
 
-// The packet by its message type: commands and data aside, it is dropped.
-fn packet(area: &mut [u8], t: Record, slot: usize, h: Header, n: usize) -> u64
-    requires { (area_size ≤ length area.old) × (slot + slot_size ≤ length area.old) × (n ≤ payload_size) × Arrivable t.ends.conns t.up h }
-    ensures { ComesTo result area.new (arrived t slot (Some (h, n)) area.old) }
-{
-    if h.mt == packets::DATA {
-        return data_packet(area, t, slot, h);
-    }
-    if h.mt == packets::COMMAND {
-        return command_packet(area, t, slot, h, n);
-    }
-    dropped(area, t)
-}
-
 // A down that is taken.
+#[tactic(auto, unfolding(calls::specs::calls::Down::arrived), using(area::proofs::Moves::payload_few, calls::proofs::Words::told_none))]
 pub fn act(area: &mut [u8], r: Record) -> u64
     requires { (area_size ≤ length area.old) × Downable r area.old }
     ensures { ComesTo result area.new (downed r area.old) }
 {
-    let down = r.down;
-    let slot = ring::first_at(map::DOWN_AT, down);
-    let t = took(r);
-    let got = movers::read_slot(area, slot);
-    let Some((h, n)) = got else {
-        return dropped(area, t);
+    let slot = ring::first_at(map::DOWN_AT, r.down);
+    let after = took(r);
+    let Some((header, size)) = movers::read_slot(area, slot) else {
+        return dropped(area, after);
     };
-    let w = packet(area, t, slot, h, n);
-    call_word::telling(packets::rfu(Way::Down, h), w)
+    let arrival = Arrival {
+        after,
+        slot,
+        header,
+        size,
+    };
+    let w = arrival.take(area);
+    call_word::telling(packets::rfu(Way::Down, header), w)
 }

@@ -2,7 +2,7 @@
 use Rattle.std.proofs.Common.{rules, sym, ◌∙◌}
 use Rattle.octets.specs.Octets.{cut}
 use Rattle.packets.specs.Packet.{read_of}
-use Rattle.std.specs.Prelude.{Some, None}
+use Rattle.std.specs.Prelude.{None}
 use Rattle.area.specs.Map.{slot_size}
 use Rattle.calls.proofs.Rules.{refuses, passes, asked}
 use Rattle.calls.proofs.Down.{down_empty, down_lowest}
