@@ -13,18 +13,8 @@ use dh::host::is_busy;
 use dh::sending;
 use packets::Header;
 use record::write;
-use state::kinds::{Record, Ring};
+use state::kinds::{Ends, Record, Ring};
 use state::refusal::Refusal;
-
-// Whether a wire with so many packets has fewer than n free slots.
-fn crowded(count: usize, n: usize) -> bool
-    ensures { result ≡ ltb wire_slots (count + n) }
-{
-    if map::WIRE < count {
-        return true;
-    }
-    map::WIRE - count < n
-}
 
 // Why a command is not taken: the first of the model's rules, whatever the area's octets are.
 #[tactic(auto, unfolding(calls::specs::Outcome::lowest), using(calls::proofs::Command::command_tests_law))]
@@ -34,7 +24,7 @@ pub fn refusal(r: Record, gid: u8, oid: u8, payload: &[u8]) -> Result<(), Refusa
 {
     let n = packets::segment_count(payload, r.ends.host.size as usize);
     Refusal::OutsideLimit.when((15 < gid) | (63 < oid) | (map::PAYLOAD < payload.len()))?;
-    Refusal::TooFewSlots.when(crowded(r.down.count, n))?;
+    Refusal::TooFewSlots.when(map::WIRE < r.down.count.saturating_add(n))?;
     Refusal::Unanswered.when(is_busy(r.ends.host.pending))
 }
 
@@ -43,19 +33,14 @@ fn plan(r: Record, gid: u8, oid: u8, payload: &[u8], n: usize) -> Record
     requires { (n ≡ commanded_count r payload.now) × (r.down.count + n ≤ wire_slots) }
     ensures { result ≡ commanded_record r gid oid payload.now }
 {
-    let mut ends = r.ends;
-    let up = r.up;
-    let head = r.down.head;
-    let count = r.down.count;
-    let host = sending::commanded(ends.host, gid, oid, payload);
-    ends.host = host;
+    let host = sending::commanded(r.ends.host, gid, oid, payload);
     Record {
-        ends: ends,
+        ends: Ends { host, ..r.ends },
         down: Ring {
-            head: head,
-            count: count + n,
+            count: r.down.count + n,
+            ..r.down
         },
-        up: up,
+        ..r
     }
 }
 
@@ -64,19 +49,16 @@ fn put(area: &mut [u8], r: Record, gid: u8, oid: u8, payload: &[u8]) -> usize
     requires { (area_size ≤ length area.old) × Commandable r gid oid payload.now }
     ensures { (result ≡ commanded_count r payload.now) × (area.new ≡ commanded_slots r gid oid payload.now area.old) }
 {
-    let ends = r.ends;
-    let host = ends.host;
-    let down = r.down;
-    let size = host.size as usize;
+    let size = r.ends.host.size as usize;
     let header = Header {
         mt: packets::COMMAND,
         pbf: false,
         id: gid,
-        oid: oid,
+        oid,
         credits: 0,
         spare: 0,
     };
-    movers::put_all(area, map::DOWN_AT, down, header, size, payload)
+    movers::put_all(area, map::DOWN_AT, r.down, header, size, payload)
 }
 
 // A command that is taken.
@@ -85,7 +67,6 @@ pub fn act(area: &mut [u8], r: Record, gid: u8, oid: u8, payload: &[u8]) -> u64
     ensures { (result ≡ commanded_word r payload.now) × (area.new ≡ saved (commanded_slots r gid oid payload.now area.old) (commanded_record r gid oid payload.now)) }
 {
     let n = put(area, r, gid, oid, payload);
-    let next = plan(r, gid, oid, payload, n);
-    write::encode(area, next);
+    write::encode(area, plan(r, gid, oid, payload, n));
     call_word::puts_down(n)
 }

@@ -14,7 +14,7 @@ use dh::sending;
 use packets::Header;
 use record::write;
 use state::conn;
-use state::kinds::Record;
+use state::kinds::{Ends, Record};
 use state::refusal::Refusal;
 
 // Why a push is not taken: the first of the model's rules, whatever the area's octets are.
@@ -36,19 +36,12 @@ fn plan(r: Record, conn: u8) -> Record
     requires { Pushable r conn }
     ensures { result ≡ pushed_record r conn }
 {
-    let mut ends = r.ends;
-    let conns = ends.conns;
-    let down = r.down;
-    let up = r.up;
-    let k = conn::counts_of(conns, conn);
-    let side = sending::pushed(k.host);
-    let next = conn::with_host(conns, conn, side);
-    let ring = ring::put_into(down);
-    ends.conns = next;
+    let side = sending::pushed(conn::counts_of(r.ends.conns, conn).host);
+    let conns = conn::with_host(r.ends.conns, conn, side);
     Record {
-        ends: ends,
-        down: ring,
-        up: up,
+        ends: Ends { conns, ..r.ends },
+        down: ring::put_into(r.down),
+        ..r
     }
 }
 
@@ -57,16 +50,9 @@ fn put(area: &mut [u8], r: Record, conn: u8)
     requires { (area_size ≤ length area.old) × Pushable r conn }
     ensures { area.new ≡ pushed_slot r conn area.old }
 {
-    let ends = r.ends;
-    let conns = ends.conns;
-    let down = r.down;
-    let k = conn::counts_of(conns, conn);
-    let h = k.host;
-    let hand = h.hand;
-    let size = h.payload as usize;
-    let place = conn::place_of(conn);
-    let from = map::hand_at(place);
-    let slot = ring::free_at(map::DOWN_AT, map::WIRE, down);
+    let h = conn::counts_of(r.ends.conns, conn).host;
+    let from = map::hand_at(conn::place_of(conn));
+    let slot = ring::free_at(map::DOWN_AT, map::WIRE, r.down);
     let header = Header {
         mt: packets::DATA,
         pbf: false,
@@ -75,7 +61,15 @@ fn put(area: &mut [u8], r: Record, conn: u8)
         credits: 0,
         spare: 0,
     };
-    movers::put_segment(area, slot, header, size, from, hand.len, hand.at);
+    movers::put_segment(
+        area,
+        slot,
+        header,
+        h.payload as usize,
+        from,
+        h.hand.len,
+        h.hand.at,
+    );
 }
 
 // A push that is taken.
@@ -84,7 +78,6 @@ pub fn act(area: &mut [u8], r: Record, conn: u8) -> u64
     ensures { (result ≡ pushed_word) × (area.new ≡ saved (pushed_slot r conn area.old) (pushed_record r conn)) }
 {
     put(area, r, conn);
-    let next = plan(r, conn);
-    write::encode(area, next);
+    write::encode(area, plan(r, conn));
     call_word::puts_down(1)
 }

@@ -13,7 +13,7 @@ use dh::host::is_closing;
 use dh::sending;
 use record::write;
 use state::conn;
-use state::kinds::Record;
+use state::kinds::{Ends, Record};
 use state::refusal::Refusal;
 
 // Why a send is not taken: the first of the model's rules, whatever the area's octets are.
@@ -34,18 +34,11 @@ pub fn refusal(r: Record, conn: u8, message: &[u8]) -> Result<(), Refusal>
 fn plan(r: Record, conn: u8, message: &[u8]) -> Record
     ensures { result ≡ sent_record r conn message.now }
 {
-    let mut ends = r.ends;
-    let conns = ends.conns;
-    let down = r.down;
-    let up = r.up;
-    let k = conn::counts_of(conns, conn);
-    let side = sending::sent(k.host, message.len());
-    let next = conn::with_host(conns, conn, side);
-    ends.conns = next;
+    let side = sending::sent(conn::counts_of(r.ends.conns, conn).host, message.len());
+    let conns = conn::with_host(r.ends.conns, conn, side);
     Record {
-        ends: ends,
-        down: down,
-        up: up,
+        ends: Ends { conns, ..r.ends },
+        ..r
     }
 }
 
@@ -54,18 +47,16 @@ fn place_message(area: &mut [u8], conn: u8, message: &[u8])
     requires { (area_size ≤ length area.old) × Sendable conn message.now }
     ensures { area.new ≡ sent_place conn message.now area.old }
 {
-    let place = conn::place_of(conn);
-    let to = map::hand_at(place);
-    movers::take_message(area, to, message);
+    movers::take_message(area, map::hand_at(conn::place_of(conn)), message);
 }
 
 // A send that is taken.
+#[tactic(auto, unfolding(calls::specs::Word::word_of, record::specs::Layout::bit))]
 pub fn act(area: &mut [u8], r: Record, conn: u8, message: &[u8]) -> u64
     requires { (area_size ≤ length area.old) × Sendable conn message.now }
     ensures { (result ≡ sent_word) × (area.new ≡ saved (sent_place conn message.now area.old) (sent_record r conn message.now)) }
 {
     place_message(area, conn, message);
-    let next = plan(r, conn, message);
-    write::encode(area, next);
+    write::encode(area, plan(r, conn, message));
     0
 }
