@@ -1,0 +1,3 @@
+mod Events
+mod Noted
+mod Owed

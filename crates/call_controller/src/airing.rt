@@ -1,6 +1,6 @@
 // air: an event of the RF field. Kinds 1-7 are notified to the host, kind 8 brings the endpoint's message. (A module has not the
 // name of a crate that is used here, so it is not called air.)
-ghost use Rattle.std.specs.Prelude.{◌≡◌, ◌+◌, ◌≤◌, false, length, eqb};
+ghost use Rattle.std.specs.Prelude.{◌≡◌, ◌+◌, ◌≤◌, false, length, eqb, ◌||◌};
 ghost use Rattle.octets.specs.Octets.{splice};
 ghost use Rattle.state.specs.Refusal.{number_in};
 ghost use Rattle.messages.specs.Packets.{notice_packet};
@@ -17,11 +17,24 @@ use air::events;
 use air::events::Event;
 use area::{map, movers, ring};
 use ends::event;
-use packets::Header;
 use record::write;
 use state::kinds::{Profile, Record};
 use state::refusal::Refusal;
 use state::runs::CONTROL_LIMIT;
+
+// Whether an endpoint speaks.
+fn spoken_in(e: Option<Event>) -> bool
+    ensures { result ≡ eqb (kind_of e) 8 }
+{
+    matches!(e, Some(Event::Endpoint))
+}
+
+// Whether it activates an endpoint.
+fn activates(e: Option<Event>) -> bool
+    ensures { result ≡ (eqb (kind_of e) 2 || eqb (kind_of e) 3) }
+{
+    matches!(e, Some(Event::Poll(_) | Event::Listen(_)))
+}
 
 // Why an event is not taken: the first of the model's rules, whatever the area's octets are.
 #[tactic(auto, unfolding(calls::specs::Outcome::lowest), using(calls::proofs::Air::air_tests_law))]
@@ -29,24 +42,14 @@ pub fn refusal(r: Record, m: &[u8]) -> Result<(), Refusal>
     ensures { Lowest (λ a. air_rules m.now (view a r)) (number_in result) }
 {
     let controller = r.ends.controller;
-    let down = r.down.count;
-    let up = r.up.count;
     let e = events::event_of(m);
-    let kind = events::kind_of(e);
     let aired = events::judge_event(controller.rf, controller.pairs, e);
-    let activates = (kind == 2) | (kind == 3);
-    Refusal::OutsideLimit.when(kind == 0)?;
-    Refusal::TooFewSlots.when((1 <= kind) & (kind <= 7) & (map::WIRE <= up))?;
-    Refusal::InHand.when((kind == 8) & r.ends.endpoint.full)?;
+    let spoken = spoken_in(e);
+    Refusal::OutsideLimit.when(e.is_none())?;
+    Refusal::TooFewSlots.when(!spoken & (map::WIRE <= r.up.count))?;
+    Refusal::InHand.when(spoken & r.ends.endpoint.full)?;
     Refusal::NotInThisState.when(aired.is_none())?;
-    Refusal::WiresNotEmpty.when(activates & ((down != 0) | (up != 0)))
-}
-
-// Whether the octets are those of an endpoint that speaks.
-fn spoken_in(m: &[u8]) -> bool
-    ensures { result ≡ speaks m.now }
-{
-    matches!(events::event_of(m), Some(Event::Endpoint))
+    Refusal::WiresNotEmpty.when(activates(e) & ((r.down.count != 0) | (r.up.count != 0)))
 }
 
 // The record after an event.
@@ -54,24 +57,10 @@ fn plan(r: Record, m: &[u8], spoken: bool) -> Record
     requires { (spoken ≡ speaks m.now) × Airable r m.now }
     ensures { result ≡ aired_record r m.now }
 {
-    let ends = r.ends;
-    let down = r.down;
-    let up = r.up;
-    let met = event::meet(ends, m);
-    let next = met.next;
-    if spoken {
-        Record {
-            ends: next,
-            down: down,
-            up: up,
-        }
-    } else {
-        let ring = ring::put_into(up);
-        Record {
-            ends: next,
-            down: down,
-            up: ring,
-        }
+    Record {
+        ends: event::meet(r.ends, m).next,
+        up: if spoken { r.up } else { ring::put_into(r.up) },
+        ..r
     }
 }
 
@@ -83,17 +72,8 @@ fn put_notice(area: &mut [u8], slot: usize, p: Profile, m: &[u8])
     ensures { area.new ≡ splice area.old slot (notice_packet (air_message p (event_of m.now) m.now)) }
 {
     let mut buffer = [0u8; CONTROL_LIMIT];
-    let e = events::event_of(m);
-    if let Some(note) = events::air_message(&mut buffer, p, e, m) {
-        let header = Header {
-            mt: packets::NOTIFICATION,
-            pbf: false,
-            id: note.gid,
-            oid: note.oid,
-            credits: 0,
-            spare: 0,
-        };
-        movers::put_packet(area, slot, header, &buffer[0..note.len]);
+    if let Some(note) = events::air_message(&mut buffer, p, events::event_of(m), m) {
+        crate::put_noted(area, slot, note, &buffer);
     }
 }
 
@@ -130,9 +110,8 @@ pub fn act(area: &mut [u8], r: Record, m: &[u8]) -> u64
     requires { (area_size ≤ length area.old) × Airable r m.now }
     ensures { (result ≡ aired_word (speaks m.now)) × (area.new ≡ saved (aired_area r m.now area.old) (aired_record r m.now)) }
 {
-    let spoken = spoken_in(m);
+    let spoken = spoken_in(events::event_of(m));
     carry(area, r, m, spoken);
-    let next = plan(r, m, spoken);
-    write::encode(area, next);
+    write::encode(area, plan(r, m, spoken));
     word_for(spoken)
 }

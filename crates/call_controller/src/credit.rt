@@ -4,37 +4,26 @@ ghost use Rattle.octets.specs.Octets.{splice};
 ghost use Rattle.state.specs.Refusal.{number_in};
 ghost use Rattle.messages.specs.Layout.{owed_of, credits_message};
 ghost use Rattle.messages.specs.Packets.{notice_packet};
-ghost use Rattle.area.specs.Map.{area_size, slot_size, places};
+ghost use Rattle.area.specs.Map.{area_size, slot_size};
 ghost use Rattle.record.specs.Claims.{saved};
 ghost use Rattle.views.specs.View.{view};
 ghost use Rattle.model.specs.calls.Credit.{all_zero, credit_rules};
 ghost use Rattle.calls.specs.Outcome.{Lowest};
 ghost use Rattle.calls.specs.calls.Credit.{credited_record, credited_slot, credited_word, Creditable};
 
-use area::{map, movers, ring};
+use area::{map, ring};
 use messages::layout;
-use packets::Header;
 use record::write;
 use state::conn;
-use state::kinds::{Counts, Record};
+use state::kinds::{Counts, Ends, Record};
 use state::refusal::Refusal;
 use state::runs::CONTROL_LIMIT;
 
-// Whether nothing is owed on any connection; they are five, which the array's type says and its caller needs. From the last
-// to the first, as a list is made.
+// Whether nothing is owed on any connection.
 fn none_owed(conns: [Counts; 5]) -> bool
-    ensures owed { result ≡ all_zero (owed_of conns) }
-    ensures five { length conns ≡ places }
+    ensures { result ≡ all_zero (owed_of conns) }
 {
-    let mut none = true;
-    let mut i: usize = 5;
-    while 0 < i {
-        i -= 1;
-        let c = conns[i];
-        let n = conn::owing(c.controller);
-        none = (n == 0) & none;
-    }
-    none
+    conns.iter().all(|k| conn::owing(k.controller) == 0)
 }
 
 // Why a credit is not taken: the first of the model's rules, whatever the area's octets are.
@@ -51,17 +40,11 @@ fn plan(r: Record) -> Record
     requires { Creditable r }
     ensures { result ≡ credited_record r }
 {
-    let mut ends = r.ends;
-    let conns = ends.conns;
-    let down = r.down;
-    let up = r.up;
-    let next = conn::all_noticed(conns);
-    let ring = ring::put_into(up);
-    ends.conns = next;
+    let conns = conn::all_noticed(r.ends.conns);
     Record {
-        ends: ends,
-        down: down,
-        up: ring,
+        ends: Ends { conns, ..r.ends },
+        up: ring::put_into(r.up),
+        ..r
     }
 }
 
@@ -72,16 +55,7 @@ fn put_notice(area: &mut [u8], slot: usize, conns: [Counts; 5])
 {
     let mut buffer = [0u8; CONTROL_LIMIT];
     let note = layout::credits_ntf(&mut buffer, conns);
-    let len = note.len;
-    let header = Header {
-        mt: packets::NOTIFICATION,
-        pbf: false,
-        id: note.gid,
-        oid: note.oid,
-        credits: 0,
-        spare: 0,
-    };
-    movers::put_packet(area, slot, header, &buffer[0..len]);
+    crate::put_noted(area, slot, note, &buffer);
 }
 
 // It is the first free slot of the up wire.
@@ -89,11 +63,8 @@ fn put(area: &mut [u8], r: Record)
     requires { (area_size ≤ length area.old) × Creditable r }
     ensures { area.new ≡ credited_slot r area.old }
 {
-    let ends = r.ends;
-    let conns = ends.conns;
-    let up = r.up;
-    let slot = ring::free_at(map::UP_AT, map::WIRE, up);
-    put_notice(area, slot, conns);
+    let slot = ring::free_at(map::UP_AT, map::WIRE, r.up);
+    put_notice(area, slot, r.ends.conns);
 }
 
 // A credit that is taken.
@@ -102,7 +73,6 @@ pub fn act(area: &mut [u8], r: Record) -> u64
     ensures { (result ≡ credited_word) × (area.new ≡ saved (credited_slot r area.old) (credited_record r)) }
 {
     put(area, r);
-    let next = plan(r);
-    write::encode(area, next);
+    write::encode(area, plan(r));
     call_word::puts_up(1)
 }

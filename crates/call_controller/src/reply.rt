@@ -6,14 +6,13 @@ ghost use Rattle.record.specs.Claims.{saved};
 ghost use Rattle.views.specs.View.{view};
 ghost use Rattle.model.specs.calls.Reply.{reply_rules};
 ghost use Rattle.calls.specs.Outcome.{Lowest};
-ghost use Rattle.calls.specs.calls.Consume.{controller_side};
 ghost use Rattle.calls.specs.calls.Reply.{replied_record, replied_slot, replied_word, Replyable};
 
 use area::{map, movers, ring};
 use packets::Header;
 use record::write;
 use state::conn;
-use state::kinds::{ControllerSide, Record};
+use state::kinds::{Ends, Record};
 use state::refusal::Refusal;
 
 // Why a reply is not taken: the first of the model's rules, whatever the area's octets are.
@@ -25,37 +24,21 @@ pub fn refusal(r: Record) -> Result<(), Refusal>
     Refusal::NothingToMove.when(!r.ends.endpoint.full)
 }
 
-// Connection 0 at the controller.
-fn static_side(r: Record) -> ControllerSide
-    ensures { result ≡ controller_side r 0 }
-{
-    let ends = r.ends;
-    let conns = ends.conns;
-    let k = conn::counts_of(conns, 0);
-    let side = k.controller;
-    side
-}
-
 // The record after a reply: what the packet carries is no longer owed.
 fn plan(r: Record) -> Record
     requires { Replyable r }
     ensures { result ≡ replied_record r }
 {
-    let mut ends = r.ends;
-    let conns = ends.conns;
-    let down = r.down;
-    let up = r.up;
-    let k = static_side(r);
-    let side = conn::paid(k);
-    let after = conn::with_controller(conns, 0, side);
-    let next = conn::hand_after(map::PAYLOAD, ends.endpoint);
-    let ring = ring::put_into(up);
-    ends.conns = after;
-    ends.endpoint = next;
+    let side = conn::paid(conn::counts_of(r.ends.conns, 0).controller);
+    let ends = Ends {
+        conns: conn::with_controller(r.ends.conns, 0, side),
+        endpoint: conn::hand_after(map::PAYLOAD, r.ends.endpoint),
+        ..r.ends
+    };
     Record {
-        ends: ends,
-        down: down,
-        up: ring,
+        ends,
+        up: ring::put_into(r.up),
+        ..r
     }
 }
 
@@ -64,18 +47,14 @@ fn put(area: &mut [u8], r: Record)
     requires { (area_size ≤ length area.old) × Replyable r }
     ensures { area.new ≡ replied_slot r area.old }
 {
-    let ends = r.ends;
-    let hand = ends.endpoint;
-    let up = r.up;
-    let k = static_side(r);
-    let credits = conn::carried(k);
-    let slot = ring::free_at(map::UP_AT, map::WIRE, up);
+    let hand = r.ends.endpoint;
+    let slot = ring::free_at(map::UP_AT, map::WIRE, r.up);
     let header = Header {
         mt: packets::DATA,
         pbf: false,
         id: 0,
         oid: 0,
-        credits: credits,
+        credits: conn::carried(conn::counts_of(r.ends.conns, 0).controller),
         spare: 0,
     };
     movers::put_segment(
@@ -95,7 +74,6 @@ pub fn act(area: &mut [u8], r: Record) -> u64
     ensures { (result ≡ replied_word) × (area.new ≡ saved (replied_slot r area.old) (replied_record r)) }
 {
     put(area, r);
-    let next = plan(r);
-    write::encode(area, next);
+    write::encode(area, plan(r));
     call_word::puts_up(1)
 }

@@ -23,10 +23,3 @@ returns-then-spoken c =
     c.take_message.ensures
     ∙ (λ i. splice a endpoint_at ((c.window.ensures ∙ cut_rest 1 m) i))
     ∙ (λ i. pick (k i) (aired_place m a) (aired_slot c.args.r m a))
-
-pub returns-else-spoken : goal.returns-else-spoken
-returns-else-spoken c =
-    let a = c.args.area.now in
-    let m = c.args.m.now in
-    let k = sym c.if-spoken.false ∙ c.requires.1 in
-    c.notify.ensures ∙ (λ i. pick (k i) (aired_place m a) (aired_slot c.args.r m a))

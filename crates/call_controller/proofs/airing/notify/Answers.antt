@@ -10,8 +10,3 @@ pub put_notice-requires-clause-known : goal.put_notice-requires-clause-known
 put_notice-requires-clause-known c =
     let k = c.args.r.ends.controller in
     taken_known k.rf k.pairs (event_of c.args.m.now) c.requires.2.taken
-
-pub returns : goal.returns
-returns c =
-    c.put_notice.ensures
-    ∙ (λ i. splice c.args.area.now (c.free_at-slot.ensures i) (aired_packet c.args.r c.args.m.now))

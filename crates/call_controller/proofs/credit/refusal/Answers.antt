@@ -7,8 +7,8 @@ use Rattle.call_controller.proofs.credit.refusal.Goals as goal
 
 pub returns-in_err-when : goal.returns-in_err-when
 unfolding lowest
-returns-in_err-when c = λ a. search rules ∙ sym (ap lowest (credit_tests_law a c.args.r c.none_owed-none.ensures.five))
+returns-in_err-when c = λ a. search rules ∙ sym (ap lowest (credit_tests_law a c.args.r (omega (arith, c.well_formed))))
 
 pub returns : goal.returns
 unfolding lowest
-returns c = λ a. grind (arith, common_steps) ∙ sym (ap lowest (credit_tests_law a c.args.r c.none_owed-none.ensures.five))
+returns c = λ a. grind (arith, common_steps) ∙ sym (ap lowest (credit_tests_law a c.args.r (omega (arith, c.well_formed))))
