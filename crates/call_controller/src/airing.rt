@@ -64,26 +64,16 @@ fn plan(r: Record, m: &[u8], spoken: bool) -> Record
     }
 }
 
-// The notification of an event goes into a slot, by way of a buffer.
-fn put_notice(area: &mut [u8], slot: usize, p: Profile, m: &[u8])
-    requires room { slot + slot_size ≤ length area.old }
-    requires known { eqb (kind_of (event_of m.now)) 0 ≡ false }
-    requires told { speaks m.now ≡ false }
-    ensures { area.new ≡ splice area.old slot (notice_packet (air_message p (event_of m.now) m.now)) }
-{
-    let mut buffer = [0u8; CONTROL_LIMIT];
-    if let Some(note) = events::air_message(&mut buffer, p, events::event_of(m), m) {
-        crate::put_noted(area, slot, note, &buffer);
-    }
-}
-
-// It is the first free slot of the up wire.
+// The notification of an event goes into the first free slot of the up wire, by way of a buffer.
 fn notify(area: &mut [u8], r: Record, m: &[u8])
     requires { (area_size ≤ length area.old) × (speaks m.now ≡ false) × Airable r m.now }
     ensures { area.new ≡ aired_slot r m.now area.old }
 {
     let slot = ring::free_at(map::UP_AT, map::WIRE, r.up);
-    put_notice(area, slot, r.ends.profile, m);
+    let mut buffer = [0u8; CONTROL_LIMIT];
+    if let Some(note) = events::air_message(&mut buffer, r.ends.profile, events::event_of(m), m) {
+        crate::put_noted(area, slot, note, &buffer);
+    }
 }
 
 // The octets that an event brings: the endpoint's message goes into its place, or the notification up.
@@ -99,6 +89,7 @@ fn carry(area: &mut [u8], r: Record, m: &[u8], spoken: bool)
 }
 
 // What is answered: one packet was put up, or none.
+#[tactic(auto, unfolding(calls::specs::Word::word_of, record::specs::Layout::bit))]
 fn word_for(spoken: bool) -> u64
     ensures { result ≡ aired_word spoken }
 {

@@ -48,23 +48,15 @@ fn plan(r: Record) -> Record
     }
 }
 
-// The notice goes into a slot, by way of a buffer.
-fn put_notice(area: &mut [u8], slot: usize, conns: [Counts; 5])
-    requires { slot + slot_size ≤ length area.old }
-    ensures { area.new ≡ splice area.old slot (notice_packet (credits_message conns)) }
-{
-    let mut buffer = [0u8; CONTROL_LIMIT];
-    let note = layout::credits_ntf(&mut buffer, conns);
-    crate::put_noted(area, slot, note, &buffer);
-}
-
-// It is the first free slot of the up wire.
+// The notice goes into the first free slot of the up wire, by way of a buffer.
 fn put(area: &mut [u8], r: Record)
     requires { (area_size ≤ length area.old) × Creditable r }
     ensures { area.new ≡ credited_slot r area.old }
 {
     let slot = ring::free_at(map::UP_AT, map::WIRE, r.up);
-    put_notice(area, slot, r.ends.conns);
+    let mut buffer = [0u8; CONTROL_LIMIT];
+    let note = layout::credits_ntf(&mut buffer, r.ends.conns);
+    crate::put_noted(area, slot, note, &buffer);
 }
 
 // A credit that is taken.
