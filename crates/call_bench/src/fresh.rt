@@ -36,23 +36,21 @@ pub fn refusal(area: usize, room: usize, m: &[u8]) -> Result<(), Refusal>
 pub fn cold(p: Profile) -> Record
     ensures { result ≡ cold_record p }
 {
-    let ends = cold_ends(p);
     Record {
-        ends: ends,
+        ends: cold_ends(p),
         down: Ring { head: 0, count: 0 },
         up: Ring { head: 0, count: 0 },
     }
 }
 
 // A fresh that is taken.
+#[tactic(auto, unfolding(calls::specs::Word::word_of, record::specs::Layout::bit))]
 pub fn act(area: &mut [u8], m: &[u8]) -> u64
     requires { area_size ≤ length area.old }
     ensures { (result ≡ quiet_word) × (area.new ≡ saved (configured (splice area.old 0 (zeros area_size)) defaults) (cold_record (profile_in m.now))) }
 {
-    let p = profile::profile_in(m);
-    let r = cold(p);
     movers::clear(area);
     parameters::restore(area);
-    write::encode(area, r);
+    write::encode(area, cold(profile::profile_in(m)));
     0
 }

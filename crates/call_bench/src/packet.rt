@@ -13,7 +13,8 @@ use octets::{octet_at, window};
 use state::kinds::{Record, Ring};
 use state::refusal::Refusal;
 
-// The ring of a wire: 0 is the down wire.
+// The ring of a wire: 0 is the down wire. A number and no enum: the C interface hands it over, and `refusal` says what of it.
+#[tactic(auto, unfolding(calls::specs::Packet::wire_ring))]
 fn wire_ring(r: Record, wire: u8) -> Ring
     ensures { result ≡ wire_ring r wire }
 {
@@ -21,6 +22,7 @@ fn wire_ring(r: Record, wire: u8) -> Ring
 }
 
 // Where a wire's slots start.
+#[tactic(auto, unfolding(calls::specs::Packet::wire_at))]
 fn wire_at(wire: u8) -> usize
     ensures { result ≡ wire_at wire }
 {
@@ -46,6 +48,7 @@ fn slot_back(base: usize, k: Ring, back: usize) -> usize
 }
 
 // The packet that a slot starts with, as a part of the area itself.
+#[tactic(auto, unfolding(area::specs::Ring::trim, octets::specs::Octets::cut))]
 fn packet_in<'a>(area: &'a [u8], slot: usize) -> &'a [u8]
     ensures { result.now ≡ trim (cut slot slot_size area.now) }
 {

@@ -12,13 +12,12 @@ use record::{parameters, write};
 use state::kinds::Record;
 
 // A power that is taken; no rule of its own refuses one.
+#[tactic(auto, unfolding(calls::specs::Word::word_of, record::specs::Layout::bit))]
 pub fn act(area: &mut [u8], r: Record) -> u64
     requires { area_size ≤ length area.old }
     ensures { (result ≡ quiet_word) × (area.new ≡ saved (configured area.old defaults) (cold_record r.ends.profile)) }
 {
-    let ends = r.ends;
-    let next = cold(ends.profile);
     parameters::restore(area);
-    write::encode(area, next);
+    write::encode(area, cold(r.ends.profile));
     0
 }

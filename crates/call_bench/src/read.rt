@@ -6,6 +6,7 @@ use area::map;
 use packets::{Header, Way};
 
 // The word of what the reader found: the drop flag, or the reserved bits.
+#[tactic(auto, unfolding(calls::specs::Word::word_of, record::specs::Layout::bit), using(calls::proofs::Words::told_none))]
 fn found(got: Option<(Header, usize)>) -> u64
     ensures { result ≡ found_word (found_in got) }
 {
@@ -16,6 +17,7 @@ fn found(got: Option<(Header, usize)>) -> u64
 }
 
 // Reads the octets. More than the longest packet has are 3.
+#[tactic(auto, unfolding(calls::specs::Read::found_of))]
 pub fn read(octets: &[u8]) -> u64
     ensures { result ≡ read_call octets.now }
 {

@@ -38,17 +38,15 @@ fn numbers(area: &[u8], r: Record, conn: u8) -> [u8; 5]
     requires { (area_size ≤ length area.now) × Reportable r conn }
     ensures { result ≡ report_of conn (view area.now r) }
 {
-    let ends = r.ends;
-    let conns = ends.conns;
-    let k = conn::counts_of(conns, conn);
-    let side = k.controller;
-    let grant = side.grant;
-    let first = held_shown(grant, k.host);
-    let second = down::data_count(area, map::DOWN_AT, r.down, conn) as u8;
-    let fourth = conn::owing(side);
+    let k = conn::counts_of(r.ends.conns, conn);
     let credits = up::credits_up(area, map::UP_AT, r.up, conn) as u8;
-    let fifth = choose(grant != conn::UNMETERED, credits, 0);
-    [first, second, side.store.count as u8, fourth, fifth]
+    [
+        held_shown(k.controller.grant, k.host),
+        down::data_count(area, map::DOWN_AT, r.down, conn) as u8,
+        k.controller.store.count as u8,
+        conn::owing(k.controller),
+        choose(k.controller.grant != conn::UNMETERED, credits, 0),
+    ]
 }
 
 // A report that is taken.
@@ -56,7 +54,6 @@ pub fn act(area: &[u8], out: &mut [u8], r: Record, conn: u8) -> u64
     requires { (area_size ≤ length area.now) × (message_size ≤ length out.old) × Reportable r conn }
     ensures { (result ≡ reported_word) × (out.new ≡ splice out.old 0 (report_of conn (view area.now r))) }
 {
-    let o = numbers(area, r, conn);
-    octets::put(out, 0, &o);
+    octets::put(out, 0, &numbers(area, r, conn));
     call_word::hands_out(5)
 }
