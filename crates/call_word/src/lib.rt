@@ -9,7 +9,7 @@ ghost use Rattle.calls.specs.Word.{word_of, word_telling};
 
 use octets::choose;
 
-// What one of each counts for. Below the drop flag stands the number of a refusal.
+// What one of each counts for: the C interface has these places. Below the drop flag stands the number of a refusal.
 pub const DROP_BIT: u64 = 256;
 
 pub const HANDED_BIT: u64 = 512;
@@ -22,7 +22,9 @@ pub const UP_UNIT: u64 = 1099511627776;
 
 pub const RFU_UNIT: u64 = 281474976710656;
 
-// All of them. What is counted in the place of packets put down may reach into that of packets put up.
+// All of them. What is counted in the place of packets put down may reach into that of packets put up. A length is a usize
+// below 65536, and no u16, in these contracts: it is what callers have (`hands_out` of a packet's len()), and they are public.
+#[tactic(auto, unfolding(calls::specs::Word::word_of, record::specs::Layout::bit), using(calls::proofs::Words::bit_least))]
 fn whole(dropped: bool, handed: bool, len: usize, down: usize, up: usize) -> u64
     requires { (len < 65536) × (down < 65536) × (up < 256) }
     ensures { result ≡ word_of dropped handed len down up }
@@ -52,6 +54,7 @@ pub fn quiet(dropped: bool, handed: bool, len: usize) -> u64
 }
 
 // Of a call that drops its packet.
+#[tactic(auto, unfolding(calls::specs::Word::word_of, record::specs::Layout::bit))]
 pub fn drops() -> u64
     ensures { result ≡ word_of true false 0 0 0 }
 {
@@ -59,6 +62,7 @@ pub fn drops() -> u64
 }
 
 // Of a call that hands out a message.
+#[tactic(auto, unfolding(calls::specs::Word::word_of, record::specs::Layout::bit))]
 pub fn hands_out(len: usize) -> u64
     requires { len < 65536 }
     ensures { result ≡ word_of false true len 0 0 }
@@ -67,6 +71,7 @@ pub fn hands_out(len: usize) -> u64
 }
 
 // Of a call that puts n packets on the down wire.
+#[tactic(auto, unfolding(calls::specs::Word::word_of, record::specs::Layout::bit))]
 pub fn puts_down(n: usize) -> u64
     requires { n < 256 }
     ensures { result ≡ word_of false false 0 n 0 }
@@ -75,6 +80,7 @@ pub fn puts_down(n: usize) -> u64
 }
 
 // Of a call that puts n packets on the up wire.
+#[tactic(auto, unfolding(calls::specs::Word::word_of, record::specs::Layout::bit))]
 pub fn puts_up(n: usize) -> u64
     requires { n < 256 }
     ensures { result ≡ word_of false false 0 0 n }
@@ -83,6 +89,7 @@ pub fn puts_up(n: usize) -> u64
 }
 
 // The word with the reserved bits of the packet that the call took: none where the drop flag is set.
+#[tactic(auto, unfolding(calls::specs::Word::word_telling, calls::specs::Word::dropped_in))]
 pub fn telling(rfu: u8, w: u64) -> u64
     ensures { result ≡ word_telling rfu w }
 {

@@ -6,6 +6,7 @@ ghost use Rattle.calls.specs.Word.{number_of, answer_in, dropped_in, handed_in, 
 use crate::{DOWN_UNIT, DROP_BIT, HANDED_BIT, LENGTH_UNIT, RFU_UNIT, UP_UNIT};
 
 // The number of a refusal, 0 for a call that is taken.
+#[tactic(auto, using(calls::proofs::Words::number_answer))]
 pub fn answer(w: u64) -> u8
     ensures { result ≡ number_of (answer_in w) }
 {
@@ -13,6 +14,7 @@ pub fn answer(w: u64) -> u8
 }
 
 // The drop flag, 0 or 1.
+#[tactic(auto, unfolding(calls::specs::Word::dropped_in), using(calls::proofs::Words::bit_test))]
 pub fn dropped(w: u64) -> u8
     ensures { result ≡ bit (dropped_in w) }
 {
@@ -20,6 +22,7 @@ pub fn dropped(w: u64) -> u8
 }
 
 // Whether a message was handed out.
+#[tactic(auto, unfolding(calls::specs::Word::handed_in))]
 pub fn handed(w: u64) -> bool
     ensures { result ≡ handed_in w }
 {
@@ -27,6 +30,7 @@ pub fn handed(w: u64) -> bool
 }
 
 // Its length.
+#[tactic(auto, unfolding(calls::specs::Word::length_in))]
 pub fn length(w: u64) -> usize
     ensures { result ≡ length_in w }
 {
@@ -34,6 +38,7 @@ pub fn length(w: u64) -> usize
 }
 
 // Packets put on the down wire.
+#[tactic(auto, unfolding(calls::specs::Word::down_in))]
 pub fn down(w: u64) -> u8
     ensures { result ≡ down_in w }
 {
@@ -41,6 +46,7 @@ pub fn down(w: u64) -> u8
 }
 
 // Packets put on the up wire.
+#[tactic(auto, unfolding(calls::specs::Word::up_in))]
 pub fn up(w: u64) -> u8
     ensures { result ≡ up_in w }
 {
@@ -48,6 +54,7 @@ pub fn up(w: u64) -> u8
 }
 
 // The reserved bits of the packet taken.
+#[tactic(auto, unfolding(calls::specs::Word::rfu_in))]
 pub fn rfu(w: u64) -> u8
     ensures { result ≡ rfu_in w }
 {
@@ -55,6 +62,7 @@ pub fn rfu(w: u64) -> u8
 }
 
 // How many moves Run to rest made.
+#[tactic(auto, unfolding(calls::specs::Word::moves_in))]
 pub fn moves(w: u64) -> u64
     ensures { result ≡ moves_in w }
 {
