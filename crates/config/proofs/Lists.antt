@@ -2,7 +2,7 @@
 -- Assumes nothing.
 use Prim.Native.Nat.{ℕ, zero, suc, ◌+◌, ◌*◌, ◌≤◌, ◌<◌}
 use mathlib.Core.Path.{◌≡◌, refl, sym, ◌∙◌, ap}
-use mathlib.Core.Bool.{Bool, true, false, ◌&&◌, ◌||◌}
+use mathlib.Core.Bool.{Bool, true, false, ◌&&◌, ◌||◌, false≢true}
 use mathlib.Core.List.{[], ◌∷◌, ◌++◌}
 use native.Mathlib.Omega.{arith}
 use native.Mathlib.Numerals.{add-one}
@@ -63,6 +63,13 @@ set_default id r v b k e = rw (k, accepted_default id r v k e, eq-eqb (length v)
 pub set_value : (id : ℕ) (r : Row) (v b : Octets) → row_of id ≡ Some r → (length v ≡ 0 → ⊥) → acceptable r v ≡ true
     → set_one id v b ≡ with_value r v b
 set_value id r v b k e ok = rw (k, ne_eqb (length v) 0 e, ok)
+
+pub set_unknown : (id : ℕ) (v b : Octets) → known_row (row_of id) ≡ false → set_one id v b ≡ b
+set_unknown id v b = go (row_of id)
+  where
+    go : (o : Option Row) → known_row o ≡ false → set_found o v b ≡ b
+    go None e = refl
+    go (Some r) e = absurd (false≢true (sym e))
 
 pub set_invalid : (id : ℕ) (r : Row) (v b : Octets) → row_of id ≡ Some r → (length v ≡ 0 → ⊥) → acceptable r v ≡ false → set_one id v b ≡ b
 set_invalid id r v b k e bad = rw (k, ne_eqb (length v) 0 e, bad)

@@ -10,13 +10,12 @@ use crate::{stored, table};
 use state::names;
 
 // How many of the first n IDs are not known.
-fn unavailable_count(m: &[u8], n: usize) -> usize
-    requires { n ≤ 255 }
+fn unavailable_count(m: &[u8], n: u8) -> usize
     ensures { (result ≡ unavailable_count m.now n) × (result ≤ n) }
 {
     let mut unavailable: usize = 0;
     for i in 0..n {
-        let r = table::row_of(octets::octet_at(m, 1 + i));
+        let r = table::row_of(octets::octet_at(m, 1 + i as usize));
         unavailable += octets::choose(r.is_some(), 0, 1) as usize;
     }
     unavailable
@@ -33,13 +32,12 @@ fn value_of<'a>(b: &'a [u8; CONFIG_SIZE], id: u8) -> &'a [u8]
 }
 
 // How many octets the first n parameters take, with their IDs and lengths.
-fn shown_size(b: &[u8; CONFIG_SIZE], m: &[u8], n: usize) -> usize
-    requires { n ≤ 255 }
+fn shown_size(b: &[u8; CONFIG_SIZE], m: &[u8], n: u8) -> usize
     ensures { result ≡ length (shown_in b.now m.now n) }
 {
     let mut size: usize = 0;
     for i in 0..n {
-        size += 2 + value_of(b, octets::octet_at(m, 1 + i)).len();
+        size += 2 + value_of(b, octets::octet_at(m, 1 + i as usize)).len();
     }
     size
 }
@@ -71,27 +69,27 @@ fn put_unavailable(out: &mut [u8], at: usize, id: u8) -> usize
 }
 
 // The first n parameters, from index 2 on. The index after them.
-fn all_shown(out: &mut [u8; 255], b: &[u8; CONFIG_SIZE], m: &[u8], n: usize) -> usize
-    requires { (2 + length (shown_in b.now m.now n) ≤ 255) × (n ≤ 255) }
+fn all_shown(out: &mut [u8; 255], b: &[u8; CONFIG_SIZE], m: &[u8], n: u8) -> usize
+    requires { 2 + length (shown_in b.now m.now n) ≤ 255 }
     ensures octets { out.new ≡ splice out.old 2 (shown_in b.now m.now n) }
     ensures next { result ≡ 2 + length (shown_in b.now m.now n) }
 {
     let mut to: usize = 2;
     for i in 0..n {
-        to = put_shown(out, to, b, octets::octet_at(m, 1 + i));
+        to = put_shown(out, to, b, octets::octet_at(m, 1 + i as usize));
     }
     to
 }
 
 // Those of the first n IDs that are not known, from index 2 on. The index after them.
-fn all_unavailable(out: &mut [u8; 255], m: &[u8], n: usize) -> usize
-    requires { (2 + length (unavailable_in m.now n) ≤ 255) × (n ≤ 255) }
+fn all_unavailable(out: &mut [u8; 255], m: &[u8], n: u8) -> usize
+    requires { 2 + length (unavailable_in m.now n) ≤ 255 }
     ensures octets { out.new ≡ splice out.old 2 (unavailable_in m.now n) }
     ensures next { result ≡ 2 + length (unavailable_in m.now n) }
 {
     let mut to: usize = 2;
     for i in 0..n {
-        to = put_unavailable(out, to, octets::octet_at(m, 1 + i));
+        to = put_unavailable(out, to, octets::octet_at(m, 1 + i as usize));
     }
     to
 }
@@ -110,15 +108,14 @@ pub fn get_rsp(out: &mut [u8; 255], b: &[u8; CONFIG_SIZE], m: &[u8]) -> usize
     ensures octets { out.new ≡ splice out.old 0 (get_rsp b.now m.now) }
     ensures length { result ≡ length (get_rsp b.now m.now) }
 {
-    let count = octets::octet_at(m, 0);
-    let n = count as usize;
+    let n = octets::octet_at(m, 0);
     let unavailable = unavailable_count(m, n);
     if unavailable == 0 {
         if 253 < shown_size(b, m, n) {
             return alone(out, names::MESSAGE_SIZE_EXCEEDED);
         }
         let to = all_shown(out, b, m, n);
-        out[1] = count;
+        out[1] = n;
         out[0] = names::STATUS_OK;
         return to;
     }

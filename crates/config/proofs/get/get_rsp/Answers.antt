@@ -13,7 +13,7 @@ two_more n = omega arith
 
 pub returns-then-shown_size-gt253 : goal.returns-then-shown_size-gt253
 returns-then-shown_size-gt253 c =
-    let n = c.octet_at-count.ensures in
+    let n = c.octet_at-n.ensures in
     let a = c.args in
     let m = a.m.now in
     let none : unavailable_count m (count_in m) ≡ 0 = sym (c.unavailable_count-unavailable.ensures.0 ∙ ap (unavailable_count m) n) ∙ c.if-unavailable-eq0.true in
@@ -23,7 +23,7 @@ returns-then-shown_size-gt253 c =
 
 pub returns-then-unavailable-eq0 : goal.returns-then-unavailable-eq0
 returns-then-unavailable-eq0 c =
-    let n = c.octet_at-count.ensures in
+    let n = c.octet_at-n.ensures in
     let a = c.args in
     let m = a.m.now in
     let none : unavailable_count m (count_in m) ≡ 0 = sym (c.unavailable_count-unavailable.ensures.0 ∙ ap (unavailable_count m) n) ∙ c.if-unavailable-eq0.true in
@@ -37,7 +37,7 @@ returns-then-unavailable-eq0 c =
 
 pub returns-then-unavailable-gt126 : goal.returns-then-unavailable-gt126
 returns-then-unavailable-gt126 c =
-    let n = c.octet_at-count.ensures in
+    let n = c.octet_at-n.ensures in
     let a = c.args in
     let m = a.m.now in
     let count = c.unavailable_count-unavailable.ensures.0 ∙ ap (unavailable_count m) n in
@@ -47,11 +47,11 @@ returns-then-unavailable-gt126 c =
 pub all_unavailable-to-requires : goal.all_unavailable-to-requires
 all_unavailable-to-requires c =
     let a = c.args in
-    omega (arith, unavailable_twice a.m.now c.octet_at-count.result, c.unavailable_count-unavailable.ensures.0)
+    omega (arith, unavailable_twice a.m.now c.octet_at-n.result, c.unavailable_count-unavailable.ensures.0)
 
 pub returns : goal.returns
 returns c =
-    let n = c.octet_at-count.ensures in
+    let n = c.octet_at-n.ensures in
     let a = c.args in
     let m = a.m.now in
     let count = c.unavailable_count-unavailable.ensures.0 ∙ ap (unavailable_count m) n in
