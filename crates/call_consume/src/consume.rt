@@ -49,6 +49,7 @@ fn owed_after(grant: u8, owed: u8) -> u8
 }
 
 // The record before it, and the connection: no rule refuses it.
+// The area, with its least length, is no part of it: it is written while these are read, and a struct with a `&mut` is no Copy.
 #[derive(Clone, Copy)]
 struct Consume {
     before: Record,
@@ -158,14 +159,8 @@ impl Consume {
         ensures { area.new ≡ consumed_run self.before self.conn n area.old }
     {
         let base = map::controller_run_at(conn::place_of(self.conn));
-        movers::join_run(
-            area,
-            base,
-            map::MESSAGE,
-            self.side().run,
-            self.oldest_at(),
-            n,
-        );
+        let run = self.side().run;
+        movers::join_run(area, base, map::MESSAGE, run, self.oldest_at(), n);
     }
 
     // A message of len octets that is whole is handed out.
@@ -173,12 +168,8 @@ impl Consume {
         requires { (area_size ≤ length area.now) × (message_size ≤ length out.old) × (len ≤ message_size) }
         ensures { out.new ≡ splice out.old 0 (cut (controller_run_at (place_of self.conn)) len area.now) }
     {
-        movers::hand_out(
-            area,
-            map::controller_run_at(conn::place_of(self.conn)),
-            len,
-            out,
-        );
+        let from = map::controller_run_at(conn::place_of(self.conn));
+        movers::hand_out(area, from, len, out);
     }
 
     // A packet that was read, with more to follow or not, and n octets of payload.
