@@ -31,7 +31,6 @@ use Rattle.wires.specs.Counted.{counted_up}
 use Rattle.wires.proofs.Same.{same_up}
 use Rattle.model.specs.Kinds.{Profile, Asked, Heard}
 use Rattle.model.specs.Kinds.verdict as verdict
-use Rattle.model.specs.Kinds.notice as notice
 use Rattle.model.specs.Kinds.answer.{Done}
 use Rattle.model.specs.Kinds.heard.{Nothing}
 use Rattle.model.specs.Connection.{with_host, with_controller, owed_on}
