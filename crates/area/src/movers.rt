@@ -1,7 +1,7 @@
 // What moves octets: packets into slots and out of them, messages into their places and to the caller. Each says the whole
 // area after it; the numbers that it is called with are somebody else's decision. The area stays a slice that is asked to be long enough,
-// here and in the calls: `[u8; AREA]` excludes the longer ones that C hands in, and of a struct that holds the slice each clause would
-// say that it is the same one (`ghost_name`).
+// here and in the calls, and so does the message buffer: `[u8; AREA]` excludes the longer ones that C hands in, and of a struct that
+// holds the slice each clause would say that it is the same one (`ghost_name`). Sizes of packets are usizes, as the places in a message.
 ghost use Rattle.std.specs.Prelude.{◌≡◌, ◌+◌, ◌≤◌, ◌<◌, length};
 ghost use Rattle.octets.specs.Octets.{cut, splice};
 ghost use Rattle.packets.specs.Packet.{read_of, payload_of, packet_of, carrying};

@@ -23,7 +23,8 @@ pub const UP_UNIT: u64 = 1099511627776;
 pub const RFU_UNIT: u64 = 281474976710656;
 
 // All of them. What is counted in the place of packets put down may reach into that of packets put up. A length is a usize
-// below 65536, and no u16, in these contracts: it is what callers have (`hands_out` of a packet's len()), and they are public.
+// below 65536, and no u16, in these contracts: it is what callers have (`hands_out` of a packet's len()), and they are public. Nor are
+// handed and len one Option: the word says a length where nothing is handed out, too (`word_of`).
 #[tactic(auto, unfolding(calls::specs::Word::word_of, record::specs::Layout::bit), using(calls::proofs::Words::bit_least))]
 fn whole(dropped: bool, handed: bool, len: usize, down: usize, up: usize) -> u64
     requires { (len < 65536) × (down < 65536) × (up < 256) }

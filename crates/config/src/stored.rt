@@ -1,4 +1,5 @@
 // The values as octets of the record: one for each parameter of fixed length, and its length before one whose length varies, 0 past its end.
+// `Row` has no invariant (r.most ≤ 15, say): `lead`, `size_in` and `table::acceptable` are public and take any row.
 ghost use Rattle.std.specs.Prelude.{◌≡◌, ◌+◌, ◌-◌, ◌<◌, ◌≤◌, length, get_or};
 ghost use Rattle.octets.specs.Octets.{splice};
 ghost use Rattle.config.specs.Table.{config_size, allowed_by};

@@ -136,31 +136,31 @@ fn reset_written(m: &[u8]) -> bool
 }
 
 // Entry i of a CORE_CONN_CREDITS_NTF: a Conn ID that there is, with 1-8 credits.
-fn entry_ok(m: &[u8], i: usize) -> bool
-    requires { i ≤ 255 }
+fn entry_ok(m: &[u8], i: u8) -> bool
     ensures { result ≡ entry_ok m.now i }
 {
-    let id = octets::octet_at(m, fields::ENTRY_CONN + fields::ENTRY_SIZE * i);
-    let credits = octets::octet_at(m, fields::ENTRY_CREDITS + fields::ENTRY_SIZE * i);
+    let id = octets::octet_at(m, fields::ENTRY_CONN + fields::ENTRY_SIZE * i as usize);
+    let credits = octets::octet_at(m, fields::ENTRY_CREDITS + fields::ENTRY_SIZE * i as usize);
     (conn::place_of(id) < 5) & (1 <= credits) & (credits <= 8)
 }
 
 // Whether entry i's Conn ID is above that of the entry before it.
-fn ascends(m: &[u8], i: usize) -> bool
-    requires { i ≤ 255 }
+fn ascends(m: &[u8], i: u8) -> bool
     ensures { result ≡ ascends m.now i }
 {
     if i == 0 {
         return true;
     }
-    let last = octets::octet_at(m, fields::ENTRY_CONN + fields::ENTRY_SIZE * (i - 1));
-    let id = octets::octet_at(m, fields::ENTRY_CONN + fields::ENTRY_SIZE * i);
+    let last = octets::octet_at(
+        m,
+        fields::ENTRY_CONN + fields::ENTRY_SIZE * (i - 1) as usize,
+    );
+    let id = octets::octet_at(m, fields::ENTRY_CONN + fields::ENTRY_SIZE * i as usize);
     last < id
 }
 
 // The first n entries, each with its Conn ID above the last one's.
-fn entries_ok(m: &[u8], n: usize) -> bool
-    requires { n ≤ 255 }
+fn entries_ok(m: &[u8], n: u8) -> bool
     ensures { result ≡ entries_ok m.now n }
 {
     let mut all = true;
@@ -175,10 +175,10 @@ fn entries_ok(m: &[u8], n: usize) -> bool
 pub fn credits_written(m: &[u8]) -> bool
     ensures { result ≡ credits_written m.now }
 {
-    let n = octets::octet_at(m, fields::ENTRY_COUNT) as usize;
+    let n = octets::octet_at(m, fields::ENTRY_COUNT);
     (1 <= n)
         & (n <= 5)
-        & (m.len() == fields::ENTRY_CONN + fields::ENTRY_SIZE * n)
+        & (m.len() == fields::ENTRY_CONN + fields::ENTRY_SIZE * n as usize)
         & entries_ok(m, n)
 }
 

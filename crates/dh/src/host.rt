@@ -162,12 +162,11 @@ pub fn hear(p: Option<Asked>, mt: u8, gid: u8, oid: u8, m: &[u8]) -> Heard
 }
 
 // The credits that entry i of a credit notice has for a Conn ID.
-fn entry_for(m: &[u8], i: usize, conn: u8) -> u8
-    requires { i ≤ 255 }
+fn entry_for(m: &[u8], i: u8, conn: u8) -> u8
     ensures { result ≡ entry_for m.now i conn }
 {
-    let id = octets::octet_at(m, fields::ENTRY_CONN + fields::ENTRY_SIZE * i);
-    let credits = octets::octet_at(m, fields::ENTRY_CREDITS + fields::ENTRY_SIZE * i);
+    let id = octets::octet_at(m, fields::ENTRY_CONN + fields::ENTRY_SIZE * i as usize);
+    let credits = octets::octet_at(m, fields::ENTRY_CREDITS + fields::ENTRY_SIZE * i as usize);
     if id == conn { credits } else { 0 }
 }
 
@@ -175,7 +174,7 @@ fn entry_for(m: &[u8], i: usize, conn: u8) -> u8
 pub fn credits_for(m: &[u8], conn: u8) -> usize
     ensures { result ≡ credits_for m.now conn }
 {
-    let n = octets::octet_at(m, fields::ENTRY_COUNT) as usize;
+    let n = octets::octet_at(m, fields::ENTRY_COUNT);
     let mut sum: usize = 0;
     for i in 0..n {
         sum += entry_for(m, i, conn) as usize;
@@ -184,13 +183,12 @@ pub fn credits_for(m: &[u8], conn: u8) -> usize
 }
 
 // Whether one of the first n entries is for a connection that is not open at the host.
-fn names_closed(conns: [Counts; 5], m: &[u8], n: usize) -> bool
-    requires { n ≤ 255 }
+fn names_closed(conns: [Counts; 5], m: &[u8], n: u8) -> bool
     ensures { result ≡ names_closed (held_open conns) m.now n }
 {
     let mut closed = false;
     for i in 0..n {
-        let id = octets::octet_at(m, fields::ENTRY_CONN + fields::ENTRY_SIZE * i);
+        let id = octets::octet_at(m, fields::ENTRY_CONN + fields::ENTRY_SIZE * i as usize);
         closed = closed | !conn::held_open(conns, id);
     }
     closed
@@ -297,8 +295,6 @@ pub fn drop_heard(conns: [Counts; 5], m: &[u8], x: Heard) -> bool
     match x {
         Heard::Nothing | Heard::Answered(_) | Heard::Activated(_) | Heard::Deactivated => false,
         Heard::Dropped => true,
-        Heard::Credits => {
-            names_closed(conns, m, octets::octet_at(m, fields::ENTRY_COUNT) as usize)
-        }
+        Heard::Credits => names_closed(conns, m, octets::octet_at(m, fields::ENTRY_COUNT)),
     }
 }

@@ -4,7 +4,7 @@
 ghost use Rattle.std.specs.Prelude.{◌≡◌, ◌+◌, ◌≤◌, length, get_or};
 ghost use Rattle.octets.specs.Octets.{pick, cut, splice};
 
-// One of two octets, by a test: the number of a rule where it applies, else what the rules after it say.
+// One of two octets, by a test.
 pub fn choose(test: bool, a: u8, b: u8) -> u8
     ensures { result ≡ pick test a b }
 {

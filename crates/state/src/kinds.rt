@@ -76,7 +76,8 @@ pub enum Phase {
     Ready,
 }
 
-// The controller's numbers. given: the Conn ID last given, 0 for none.
+// The controller's numbers. given: the Conn ID last given, 0 for none. No Option: 2 comes next after 0 and after 1 alike, so that None
+// would be one case more in `after` and one octet less that a record keeps (`decode_of`).
 #[derive(Clone, Copy)]
 pub struct Controller {
     pub phase: Phase,

@@ -11,7 +11,8 @@ use state::kinds::Ring;
 pub mod down;
 pub mod up;
 
-// The slot of the packet of index i in the ring at base, as a part of the area.
+// The slot of the packet of index i in the ring at base, as a part of the area. Of area and ring each function asks what it needs, for
+// the reasons in `area::movers` and `area::ring`.
 #[tactic(auto, using(octets::proofs::Octets::cut_part))]
 fn nth_slot<'a>(area: &'a [u8], base: usize, r: Ring, i: usize) -> &'a [u8]
     requires { (r.head < wire_slots) × (i < wire_slots) × (base + wire_size ≤ length area.now) }
