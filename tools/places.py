@@ -16,7 +16,7 @@ CODE = re.compile(r'^\s*//.*(0 for none|0 for octets that are none|; 0 where|; 0
                   r'|; 8 where none|0 for a call not taken|answer is 2 for|The number for|the number of a rule|with an impossible)')
 # 3. Loops, and lists that are written out element by element.
 LOOP = re.compile(r'^\s*(while|loop)\b')
-UNROLLED = re.compile(r'^\s*let (?:mut )?([abcp]0?) = .*(\[0\]|, 0\)|, at\)|\(conns, 0\)|noticed_at\(conns, 0\)|credited_at\(conns, m, 0\));$')
+UNROLLED = re.compile(r'^\s*let (?:mut )?([abc]0?|p0) = .*(\[0\]|, 0\)|, at\)|\(conns, 0\)|noticed_at\(conns, 0\)|credited_at\(conns, m, 0\));$')
 # 4. Predicates and conversions whose body is a match with one literal an arm; comparisons of fields one by one.
 ARM = re.compile(r'^\s*\w+(?:::\w+)*(?:\([_, ]*\))? => (true|false),$')
 NUMBER_ARM = re.compile(r'^\s*(?:\d+|\w+::\w+(?:\([_, ]*\))?) => (?:\d+|\w+::\w+),$')

@@ -1,5 +1,7 @@
 // The calls, each with what it is refused for: the record is loaded, the call's own rules are asked, and where none refuses the
 // call is made.
+// A function each: with one that enters and takes the rest as a closure, what the area is that a closure captured and wrote to was not
+// known after it (`returns` stayed open).
 ghost use Rattle.std.specs.Prelude.{◌≡◌};
 ghost use Rattle.state.specs.Refusal.{word_in};
 ghost use Rattle.calls.specs.Outcome.{outcome};

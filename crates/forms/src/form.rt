@@ -55,7 +55,8 @@ fn fits(name: Name, args: &[u8]) -> bool
     }
 }
 
-// What a line asks: the name, and how many octets of arguments it has.
+// What a line asks: the name, and how many octets of arguments it has. They lie over the front of the caller's args, whose rest stays
+// (`Reads`), so their number stands beside it.
 #[derive(Clone, Copy)]
 pub struct Asked {
     pub name: Name,

@@ -15,7 +15,8 @@ use state::runs::CONTROL_LIMIT;
 use state::verdict::{Status, Verdict};
 use state::{fields, names};
 
-// A message that was written: its GID and OID, and its length.
+// A message that was written: its GID and OID, and its length. Its octets lie over the front of the caller's buffer, whose rest stays
+// (`Put`).
 #[derive(Clone, Copy)]
 pub struct Note {
     pub gid: u8,

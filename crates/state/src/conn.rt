@@ -240,6 +240,8 @@ fn each<F: Fn(Counts) -> Counts>(mut conns: [Counts; 5], change: F) -> [Counts; 
     conns
 }
 
+// A function for each side, here and below: the sides have other fields, and a trait would name these same functions once more.
+
 // The array with another controller's side for a Conn ID.
 #[inline(always)]
 pub fn with_controller(conns: [Counts; 5], conn: u8, side: ControllerSide) -> [Counts; 5]
