@@ -39,7 +39,9 @@ fn store_full(r: Record, h: Header) -> bool
     (h.mt == packets::DATA) & side.opened & (map::STORE <= side.store.count)
 }
 
-// Why a down is not taken: the first of the model's rules. Of an empty wire there is no packet to read.
+// Why a down is not taken: the first of the model's rules. Of an empty wire there is no packet to read. Not inlined, so that its stack
+// is free again before a packet is taken.
+#[inline(never)]
 pub fn refusal(area: &[u8], r: Record) -> Result<(), Refusal>
     requires { FitRing wire_slots r.down }
     ensures { number_in result ≡ lowest (down_rules (view area.now r)) }
@@ -147,8 +149,8 @@ struct Arrival {
 
 impl Arrival {
     // The controller's side of its connection.
-    fn side(self) -> ControllerSide
-        ensures { result ≡ controller_side self.after self.header.id }
+    fn side(&self) -> ControllerSide
+        ensures { result ≡ controller_side self.now.after self.now.header.id }
     {
         conn::counts_of(self.after.ends.conns, self.header.id).controller
     }
@@ -156,9 +158,9 @@ impl Arrival {
     // ---- data
 
     // The record with a packet more in the connection's store.
-    fn stored(self) -> Record
-        requires { (controller_side self.after self.header.id).store.count < store_slots }
-        ensures { result ≡ stored_record self.after self.header.id }
+    fn stored(&self) -> Record
+        requires { (controller_side self.now.after self.now.header.id).store.count < store_slots }
+        ensures { result ≡ stored_record self.now.after self.now.header.id }
     {
         let t = self.after;
         let side = self.side();
@@ -174,9 +176,9 @@ impl Arrival {
     }
 
     // The packet's slot is copied into the first free slot of the connection's store.
-    fn store(self, area: &mut [u8])
-        requires { (area_size ≤ length area.old) × (open_at self.after.ends.conns self.header.id ≡ true) }
-        ensures { area.new ≡ stored_slot self.after self.slot self.header.id area.old }
+    fn store(&self, area: &mut [u8])
+        requires { (area_size ≤ length area.old) × (open_at self.now.after.ends.conns self.now.header.id ≡ true) }
+        ensures { area.new ≡ stored_slot self.now.after self.now.slot self.now.header.id area.old }
     {
         let base = map::store_at(conn::place_of(self.header.id));
         let free = ring::free_at(base, map::STORE, self.side().store);
@@ -185,9 +187,9 @@ impl Arrival {
 
     // A data packet is stored, or dropped if its connection isn't open.
     #[tactic(auto, unfolding(state::specs::Conn::open_at, calls::specs::calls::Down::data_down, calls::specs::Word::word_of, record::specs::Layout::bit))]
-    fn take_data(self, area: &mut [u8]) -> u64
-        requires { (area_size ≤ length area.old) × (self.header.mt ≡ 0) }
-        ensures { ComesTo result area.new (data_down self.after self.slot self.header.id area.old) }
+    fn take_data(&self, area: &mut [u8]) -> u64
+        requires { (area_size ≤ length area.old) × (self.now.header.mt ≡ 0) }
+        ensures { ComesTo result area.new (data_down self.now.after self.now.slot self.now.header.id area.old) }
     {
         if !self.side().opened {
             return dropped(area, self.after);
@@ -200,9 +202,9 @@ impl Arrival {
     // ---- commands
 
     // The packet's payload joins the controller's run.
-    fn join(self, area: &mut [u8])
+    fn join(&self, area: &mut [u8])
         requires { area_size ≤ length area.old }
-        ensures { area.new ≡ joined_area self.after.ends.asking self.slot self.header self.size area.old }
+        ensures { area.new ≡ joined_area self.now.after.ends.asking self.now.slot self.now.header self.now.size area.old }
     {
         let run = runs::run_for(self.after.ends.asking, self.header);
         movers::join_run(
@@ -217,9 +219,9 @@ impl Arrival {
 
     // A whole command of len octets, which stand in the area, is answered. It goes through a local array, since the answer goes
     // into the area.
-    fn answer(self, area: &mut [u8], ends: Ends, len: usize) -> u64
-        requires { (area_size ≤ length area.old) × (len ≤ control_size) × (self.after.up.count + 2 ≤ wire_slots) }
-        ensures { ComesTo result area.new (answered (with_ends ends self.after) self.header (command_in len area.old) area.old) }
+    fn answer(&self, area: &mut [u8], ends: Ends, len: usize) -> u64
+        requires { (area_size ≤ length area.old) × (len ≤ control_size) × (self.now.after.up.count + 2 ≤ wire_slots) }
+        ensures { ComesTo result area.new (answered (with_ends ends self.now.after) self.now.header (command_in len area.old) area.old) }
     {
         let h = self.header;
         let up = self.after.up;
@@ -252,9 +254,9 @@ impl Arrival {
 
     // A command's segment joins its run; a whole command is answered, one past its limit is not.
     #[tactic(auto, unfolding(calls::specs::calls::Down::command_down), using(state::proofs::Progress::control_base, state::proofs::Progress::control_room, calls::proofs::DownCommand::control_last, area::proofs::Moves::length_run))]
-    fn take_command(self, area: &mut [u8]) -> u64
-        requires { (area_size ≤ length area.old) × (self.header.mt ≡ 1) }
-        ensures { ComesTo result area.new (command_down self.after self.slot self.header self.size area.old) }
+    fn take_command(&self, area: &mut [u8]) -> u64
+        requires { (area_size ≤ length area.old) × (self.now.header.mt ≡ 1) }
+        ensures { ComesTo result area.new (command_down self.now.after self.now.slot self.now.header self.now.size area.old) }
     {
         let t = self.after;
         let j = runs::join_control(t.ends.asking, self.header, self.size);
@@ -272,9 +274,9 @@ impl Arrival {
 
     // By its message type: commands and data aside, it is dropped.
     #[tactic(auto, unfolding(calls::specs::calls::Down::arrived))]
-    fn take(self, area: &mut [u8]) -> u64
+    fn take(&self, area: &mut [u8]) -> u64
         requires { area_size ≤ length area.old }
-        ensures { ComesTo result area.new (arrived self.after self.slot (Some (self.header, self.size)) area.old) }
+        ensures { ComesTo result area.new (arrived self.now.after self.now.slot (Some (self.now.header, self.now.size)) area.old) }
     {
         match self.header.mt {
             packets::DATA => self.take_data(area),

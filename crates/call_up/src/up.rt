@@ -67,24 +67,17 @@ struct Coming {
     ghost few: { size ≤ payload_size },
 }
 
-// Data for a connection that is open at the host, which has a place for its run.
-#[derive(Clone, Copy)]
-struct Data {
-    coming: Coming,
-    ghost placed: { place_of coming.header.id < places },
-}
-
 impl Coming {
     // Where it stands.
-    fn slot(self) -> usize
-        ensures { result ≡ up_slot self.before }
+    fn slot(&self) -> usize
+        ensures { result ≡ up_slot self.now.before }
     {
         ring::first_at(map::UP_AT, self.before.up)
     }
 
     // The host's side of its connection.
-    fn side(self) -> HostSide
-        ensures { result ≡ host_side self.before self.header.id }
+    fn side(&self) -> HostSide
+        ensures { result ≡ host_side self.now.before self.now.header.id }
     {
         conn::counts_of(self.before.ends.conns, self.header.id).host
     }
@@ -92,15 +85,15 @@ impl Coming {
     // ---- data
 
     // How it joins the connection's run.
-    fn joined(self) -> Joined
-        ensures { result ≡ received_join self.before self.header self.size }
+    fn joined(&self) -> Joined
+        ensures { result ≡ received_join self.now.before self.now.header self.now.size }
     {
         runs::join(map::MESSAGE, self.side().run, self.header.pbf, self.size)
     }
 
     // Both ends after a data packet: its credits are held, and its segment has joined the run.
-    fn received(self) -> Ends
-        ensures { result ≡ received_ends self.before self.header self.size }
+    fn received(&self) -> Ends
+        ensures { result ≡ received_ends self.now.before self.now.header self.now.size }
     {
         let ends = self.before.ends;
         let side = HostSide {
@@ -113,24 +106,43 @@ impl Coming {
         }
     }
 
+    // Data for a connection that is open at the host: the segment joins its run, and the message that it finishes is handed out.
+    #[tactic(auto, using(state::proofs::Progress::done_room, area::proofs::Moves::length_run))]
+    fn receive(&self, area: &mut [u8], out: &mut [u8]) -> u64
+        requires { (area_size ≤ length area.old) × (message_size ≤ length out.old) × (place_of self.now.header.id < places) }
+        ensures { outcome result area.new out.new ≡ received self.now.before self.now.header self.now.size area.old out.old }
+    {
+        let base = map::host_run_at(conn::place_of(self.header.id));
+        let run = self.side().run;
+        movers::join_run(area, base, map::MESSAGE, run, self.slot(), self.size);
+        let j = self.joined();
+        let mut n = 0;
+        if j.done {
+            n = run.len + self.size;
+            movers::hand_out(area, base, n, out);
+        }
+        leave(area, self.before, self.received());
+        call_word::quiet(j.dropped, j.done, n)
+    }
+
     // A data packet.
     #[tactic(auto, unfolding(calls::specs::calls::Up::received_up))]
-    fn take_data(self, area: &mut [u8], out: &mut [u8]) -> u64
+    fn take_data(&self, area: &mut [u8], out: &mut [u8]) -> u64
         requires { (area_size ≤ length area.old) × (message_size ≤ length out.old) }
-        ensures { outcome result area.new out.new ≡ received_up self.before self.header self.size area.old out.old }
+        ensures { outcome result area.new out.new ≡ received_up self.now.before self.now.header self.now.size area.old out.old }
     {
         if !self.side().opened {
             return discard(area, self.before);
         }
-        Data { coming: self }.receive(area, out)
+        self.receive(area, out)
     }
 
     // ---- control
 
     // The segment joins the control run.
-    fn join_hearing(self, area: &mut [u8])
+    fn join_hearing(&self, area: &mut [u8])
         requires { area_size ≤ length area.old }
-        ensures { area.new ≡ heard_area self.before self.header self.size area.old }
+        ensures { area.new ≡ heard_area self.now.before self.now.header self.now.size area.old }
     {
         let run = runs::run_for(self.before.ends.hearing, self.header);
         movers::join_run(
@@ -144,9 +156,9 @@ impl Coming {
     }
 
     // A whole message of len octets is heard.
-    fn heed(self, area: &mut [u8], ends: Ends, len: usize) -> u64
+    fn heed(&self, area: &mut [u8], ends: Ends, len: usize) -> u64
         requires { (area_size ≤ length area.old) × (len ≤ control_size) }
-        ensures { (result ≡ word_of (heeded ends self.header.mt self.header.id self.header.oid (cut hearing_at len area.old)).dropped false 0 0 0) × (area.new ≡ saved area.old (up_record self.before (heeded ends self.header.mt self.header.id self.header.oid (cut hearing_at len area.old)).next)) }
+        ensures { (result ≡ word_of (heeded ends self.now.header.mt self.now.header.id self.now.header.oid (cut hearing_at len area.old)).dropped false 0 0 0) × (area.new ≡ saved area.old (up_record self.now.before (heeded ends self.now.header.mt self.now.header.id self.now.header.oid (cut hearing_at len area.old)).next)) }
     {
         let h = self.header;
         let m = octets::window(area, map::HEARING_AT, len);
@@ -157,9 +169,9 @@ impl Coming {
 
     // A control packet: a segment that does not end its message only joins the run.
     #[tactic(auto, unfolding(calls::specs::calls::Up::heard_ends, calls::specs::calls::Up::heard_drop), using(state::proofs::Progress::control_base, state::proofs::Progress::control_room, area::proofs::Moves::length_run))]
-    fn take_control(self, area: &mut [u8]) -> u64
+    fn take_control(&self, area: &mut [u8]) -> u64
         requires { area_size ≤ length area.old }
-        ensures { (result ≡ heard_word self.before self.header self.size area.old) × (area.new ≡ saved (heard_area self.before self.header self.size area.old) (up_record self.before (heard_ends self.before self.header self.size area.old))) }
+        ensures { (result ≡ heard_word self.now.before self.now.header self.now.size area.old) × (area.new ≡ saved (heard_area self.now.before self.now.header self.now.size area.old) (up_record self.now.before (heard_ends self.now.before self.now.header self.now.size area.old))) }
     {
         let r = self.before;
         let j = runs::join_control(r.ends.hearing, self.header, self.size);
@@ -177,66 +189,15 @@ impl Coming {
 
     // By its message type: a command at the host is dropped.
     #[tactic(auto, unfolding(calls::specs::calls::Up::coming_up))]
-    fn take(self, area: &mut [u8], out: &mut [u8]) -> u64
+    fn take(&self, area: &mut [u8], out: &mut [u8]) -> u64
         requires { (area_size ≤ length area.old) × (message_size ≤ length out.old) }
-        ensures { outcome result area.new out.new ≡ coming_up self.before self.header self.size area.old out.old }
+        ensures { outcome result area.new out.new ≡ coming_up self.now.before self.now.header self.now.size area.old out.old }
     {
         match self.header.mt {
             packets::DATA => self.take_data(area, out),
             packets::COMMAND => discard(area, self.before),
             _ => self.take_control(area),
         }
-    }
-}
-
-impl Data {
-    // Where the connection's run lies.
-    fn base(self) -> usize
-        ensures { result ≡ host_run_at (place_of self.coming.header.id) }
-    {
-        map::host_run_at(conn::place_of(self.coming.header.id))
-    }
-
-    // The segment joins the connection's run.
-    fn join(self, area: &mut [u8])
-        requires { area_size ≤ length area.old }
-        ensures { area.new ≡ received_area self.coming.before self.coming.header self.coming.size area.old }
-    {
-        let c = self.coming;
-        movers::join_run(
-            area,
-            self.base(),
-            map::MESSAGE,
-            c.side().run,
-            c.slot(),
-            c.size,
-        );
-    }
-
-    // The message that the segment finishes, which has joined its run, is handed out. The word.
-    #[tactic(auto, using(state::proofs::Progress::done_room))]
-    fn finish(self, area: &[u8], out: &mut [u8]) -> u64
-        requires { (area_size ≤ length area.now) × (message_size ≤ length out.old) }
-        ensures { (result ≡ received_word self.coming.before self.coming.header self.coming.size) × (out.new ≡ pick (received_join self.coming.before self.coming.header self.coming.size).done (splice out.old 0 (cut (host_run_at (place_of self.coming.header.id)) (received_length self.coming.before self.coming.header self.coming.size) area.now)) out.old) }
-    {
-        let j = self.coming.joined();
-        if !j.done {
-            return call_word::quiet(j.dropped, false, 0);
-        }
-        let n = self.coming.side().run.len + self.coming.size;
-        movers::hand_out(area, self.base(), n, out);
-        call_word::quiet(j.dropped, true, n)
-    }
-
-    // The segment and its credits are taken, and the message that it finishes is handed out.
-    fn receive(self, area: &mut [u8], out: &mut [u8]) -> u64
-        requires { (area_size ≤ length area.old) × (message_size ≤ length out.old) }
-        ensures { outcome result area.new out.new ≡ received self.coming.before self.coming.header self.coming.size area.old out.old }
-    {
-        self.join(area);
-        let w = self.finish(area, out);
-        leave(area, self.coming.before, self.coming.received());
-        w
     }
 }
 

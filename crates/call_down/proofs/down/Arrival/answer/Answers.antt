@@ -17,7 +17,7 @@ part_short n k l h = omega (arith, h, cut_short 0 (n - 0) l)
 pub put_answers-n-requires : goal.put_answers-n-requires
 put_answers-n-requires c =
     let short = answers_short _ _ _ _ _ _ _ _ _ _ (part_short _ _ _ c.requires.1) c.answer-a.ensures in
-    (c.requires.0, c.args.self.able.ring, c.requires.2, short.0, short.1)
+    (c.requires.0, c.args.self.now.able.ring, c.requires.2, short.0, short.1)
 
 pub overflow_add-next : goal.overflow_add-next
 overflow_add-next c =
@@ -31,8 +31,8 @@ puts_up-requires c =
 
 pub returns : goal.returns
 returns c =
-    let t = with_ends c.args.ends c.args.self.after in
-    let h = c.args.self.header in
+    let t = with_ends c.args.ends c.args.self.now.after in
+    let h = c.args.self.now.header in
     let a = c.args.area.now in
     let len = c.args.len in
     let put = c.put_answers-n.ensures in

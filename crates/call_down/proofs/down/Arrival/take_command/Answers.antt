@@ -8,8 +8,8 @@ use Rattle.call_down.proofs.down.Arrival.take_command.Goals as goal
 pub returns-then-j : goal.returns-then-j
 unfolding command_down
 returns-then-j c =
-    let t = c.args.self.after in
+    let t = c.args.self.now.after in
     let j = c.join_control-j.ensures in
     let done = sym (ap (λ (k : ControlJoined). k.done) j) ∙ c.if-j.true in
     let b = c.join.ensures in
-    λ out. rw done (c.answer.ensures out ∙ (λ i. answered (with_asking (j i).next t) c.args.self.header (command_in ((j i).base + c.args.self.size) (b i)) (b i) out))
+    λ out. rw done (c.answer.ensures out ∙ (λ i. answered (with_asking (j i).next t) c.args.self.now.header (command_in ((j i).base + c.args.self.now.size) (b i)) (b i) out))
