@@ -187,10 +187,7 @@ fn failed_by(rf: Rf) -> Option<Aired>
     ensures { result ≡ failed_by rf }
 {
     match rf {
-        Rf::W4HostSelect(Some(_)) => Some(Aired::Goes(
-            Rf::W4HostSelect(None),
-            Listing::Keeps,
-        )),
+        Rf::W4HostSelect(Some(_)) => Some(Aired::Goes(Rf::W4HostSelect(None), Listing::Keeps)),
         _ => None,
     }
 }

@@ -95,7 +95,13 @@ fn set_config_rsp(out: &mut [u8; CONTROL_LIMIT], gid: u8, oid: u8, m: &[u8]) -> 
 }
 
 // CORE_GET_CONFIG_RSP (003, Table 12).
-fn get_config_rsp(out: &mut [u8; CONTROL_LIMIT], gid: u8, oid: u8, b: &[u8; CONFIG_SIZE], m: &[u8]) -> Note
+fn get_config_rsp(
+    out: &mut [u8; CONTROL_LIMIT],
+    gid: u8,
+    oid: u8,
+    b: &[u8; CONFIG_SIZE],
+    m: &[u8],
+) -> Note
     ensures { Put out.old (record { gid = gid; oid = oid; payload = get_rsp b.now m.now }) result out.new }
 {
     let len = get::get_rsp(out, b, m);

@@ -310,7 +310,13 @@ pub fn host_opened_at(conns: [Counts; 5], conn: u8, t: Terms) -> [Counts; 5]
 pub fn host_all_closed(conns: [Counts; 5]) -> [Counts; 5]
     ensures { result ≡ host_all_closed conns }
 {
-    each(conns, |c| Counts { host: closed_host(), ..c })
+    each(
+        conns,
+        |c| Counts {
+            host: closed_host(),
+            ..c
+        },
+    )
 }
 
 // The credits that a data packet going up carries: what the connection owes, at most 3.

@@ -21,8 +21,8 @@ loop-k-preserved c =
     let i = c.loop-k.invariant in
     let more : c.put_into-q.result.count ≡ a.r.count + (k + 1) = ap (λ (x : Ring). x.count) q ∙ omega (arith, i.1) in
     let put =
-        c.put_piece.ensures
-        ∙ ap (λ (s : ℕ). splice c.loop-k.area s (segment_packet a.h (segment_at a.size a.msg.now (k * a.size)))) c.free_at.ensures in
+    c.put_piece.ensures
+    ∙ ap (λ (s : ℕ). splice c.loop-k.area s (segment_packet a.h (segment_at a.size a.msg.now (k * a.size)))) c.free_at.ensures in
     let before : k < length (segments a.size a.msg.now) = omega (arith, c.segment_count-n.ensures) in (
       ap (λ (x : Ring). x.head) q ∙ i.0,
       more,
