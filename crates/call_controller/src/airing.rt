@@ -37,22 +37,22 @@ fn activates(e: Option<Event>) -> bool
 }
 
 // Why an event is not taken: the first of the model's rules, whatever the area's octets are.
-#[tactic(auto, unfolding(calls::specs::Outcome::lowest), using(calls::proofs::Air::air_tests_law))]
+#[tactic(auto, unfolding(calls::specs::Outcome::lowest))]
 pub fn refusal(r: Record, m: &[u8]) -> Result<(), Refusal>
     ensures { Lowest (λ a. air_rules m.now (view a r)) (number_in result) }
 {
     let controller = r.ends.controller;
     let e = events::event_of(m);
-    let aired = events::judge_event(controller.rf, controller.pairs, e);
     let spoken = spoken_in(e);
     Refusal::OutsideLimit.when(e.is_none())?;
     Refusal::TooFewSlots.when(!spoken & (map::WIRE <= r.up.count))?;
     Refusal::InHand.when(spoken & r.ends.endpoint.full)?;
+    let aired = events::judge_event(controller.rf, controller.pairs, e);
     Refusal::NotInThisState.when(aired.is_none())?;
     Refusal::WiresNotEmpty.when(activates(e) & ((r.down.count != 0) | (r.up.count != 0)))
 }
 
-// The record after an event.
+// The record after an event. Four contracts have `Airable`, and no struct as its invariant: see call_host's `push::plan`.
 fn plan(r: Record, m: &[u8], spoken: bool) -> Record
     requires { (spoken ≡ speaks m.now) × Airable r m.now }
     ensures { result ≡ aired_record r m.now }

@@ -30,12 +30,11 @@ fn none_owed(conns: [Counts; 5]) -> bool
 pub fn refusal(r: Record) -> Result<(), Refusal>
     ensures { Lowest (λ a. credit_rules (view a r)) (number_in result) }
 {
-    let none = none_owed(r.ends.conns);
     Refusal::TooFewSlots.when(map::WIRE <= r.up.count)?;
-    Refusal::NothingToMove.when(none)
+    Refusal::NothingToMove.when(none_owed(r.ends.conns))
 }
 
-// The record after a credit.
+// The record after a credit. Three contracts have `Creditable`, and no struct as its invariant: see call_host's `push::plan`.
 fn plan(r: Record) -> Record
     requires { Creditable r }
     ensures { result ≡ credited_record r }

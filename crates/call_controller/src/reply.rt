@@ -24,7 +24,8 @@ pub fn refusal(r: Record) -> Result<(), Refusal>
     Refusal::NothingToMove.when(!r.ends.endpoint.full)
 }
 
-// The record after a reply: what the packet carries is no longer owed.
+// The record after a reply: what the packet carries is no longer owed. Three contracts have `Replyable`, and no struct as its
+// invariant: see call_host's `push::plan`.
 fn plan(r: Record) -> Record
     requires { Replyable r }
     ensures { result ≡ replied_record r }
@@ -49,6 +50,7 @@ fn put(area: &mut [u8], r: Record)
 {
     let hand = r.ends.endpoint;
     let slot = ring::free_at(map::UP_AT, map::WIRE, r.up);
+    // a literal, as the only one in this module: a constructor for it and the one of a notice takes as many lines
     let header = Header {
         mt: packets::DATA,
         pbf: false,
