@@ -295,12 +295,11 @@ pub fn act(area: &mut [u8], r: Record) -> u64
     ensures { ComesTo result area.new (downed r area.old) }
 {
     let slot = ring::first_at(map::DOWN_AT, r.down);
-    let after = took(r);
     let Some((header, size)) = movers::read_slot(area, slot) else {
-        return dropped(area, after);
+        return dropped(area, took(r));
     };
     let arrival = Arrival {
-        after,
+        after: took(r),
         slot,
         header,
         size,

@@ -11,4 +11,4 @@ pub invariant_of-arrival-clause-able : goal.invariant_of-arrival-clause-able
 invariant_of-arrival-clause-able c =
     let h = c.in-Some.header in
     let read = sym (c.read_slot.ensures ∙ (λ i. read_of (cut (c.first_at-slot.ensures i) slot_size c.args.area.now))) ∙ c.in-Some.is in
-    subst (λ (t : Record). Arrivable t.ends.conns t.up h) (sym c.took-after.ensures) (c.requires.1.packet h c.in-Some.size read)
+    subst (λ (t : Record). Arrivable t.ends.conns t.up h) (sym c.took-2.ensures) (c.requires.1.packet h c.in-Some.size read)
