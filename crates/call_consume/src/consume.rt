@@ -61,22 +61,22 @@ impl Consume {
     // ---- the record after it
 
     // Whether the connection is a loopback.
-    fn loops(self) -> bool
-        ensures { result ≡ is_loop self.conn }
+    fn loops(&self) -> bool
+        ensures { result ≡ is_loop self.now.conn }
     {
         0 != self.conn
     }
 
     // The connection at the controller.
-    fn side(self) -> ControllerSide
-        ensures { result ≡ controller_side self.before self.conn }
+    fn side(&self) -> ControllerSide
+        ensures { result ≡ controller_side self.now.before self.now.conn }
     {
         conn::counts_of(self.before.ends.conns, self.conn).controller
     }
 
     // The connection after the packet is consumed, its run being as far as next.
-    fn consumed_side(self, next: Progress) -> ControllerSide
-        ensures { result ≡ consumed_side next (controller_side self.before self.conn) }
+    fn consumed_side(&self, next: Progress) -> ControllerSide
+        ensures { result ≡ consumed_side next (controller_side self.now.before self.now.conn) }
     {
         let k = self.side();
         ControllerSide {
@@ -88,8 +88,8 @@ impl Consume {
     }
 
     // The record after it. What a packet that goes up carries is no longer owed.
-    fn plan(self, next: Progress) -> Record
-        ensures { result ≡ consumed_record self.before self.conn next }
+    fn plan(&self, next: Progress) -> Record
+        ensures { result ≡ consumed_record self.now.before self.now.conn next }
     {
         let r = self.before;
         let mut side = self.consumed_side(next);
@@ -109,31 +109,31 @@ impl Consume {
     // ---- the packet goes up on a loopback, and the record is written
 
     // Where the slot of the oldest stored packet starts.
-    fn oldest_at(self) -> usize
-        ensures { result ≡ oldest_at self.before self.conn }
+    fn oldest_at(&self) -> usize
+        ensures { result ≡ oldest_at self.now.before self.now.conn }
     {
         let base = map::store_at(conn::place_of(self.conn));
         ring::first_at(base, self.side().store)
     }
 
     // What the reader finds there.
-    fn read(self, area: &[u8]) -> Option<(Header, usize)>
-        ensures { result ≡ oldest_read self.before self.conn area.now }
+    fn read(&self, area: &[u8]) -> Option<(Header, usize)>
+        ensures { result ≡ oldest_read self.now.before self.now.conn area.now }
     {
         movers::read_slot(area, self.oldest_at())
     }
 
     // The credits that the packet carries: its own is owed first.
-    fn credits_back(self) -> u8
-        ensures { result ≡ echoed_credits self.before self.conn }
+    fn credits_back(&self) -> u8
+        ensures { result ≡ echoed_credits self.now.before self.now.conn }
     {
         conn::carried(self.consumed_side(self.side().run))
     }
 
     // On a loopback the slot is copied into the first free slot of the up wire, with the credits that the packet carries.
-    fn echo(self, area: &mut [u8])
+    fn echo(&self, area: &mut [u8])
         requires { area_size ≤ length area.old }
-        ensures { area.new ≡ echoed_slot self.before self.conn area.old }
+        ensures { area.new ≡ echoed_slot self.now.before self.now.conn area.old }
     {
         if self.loops() {
             let to = ring::free_at(map::UP_AT, map::WIRE, self.before.up);
@@ -142,9 +142,9 @@ impl Consume {
     }
 
     // The area after it, and the word, from the run after it. len: of the message that was handed out, 0 for none.
-    fn leave(self, area: &mut [u8], j: Joined, len: usize) -> u64
+    fn leave(&self, area: &mut [u8], j: Joined, len: usize) -> u64
         requires { (area_size ≤ length area.old) × (len ≤ message_size) }
-        ensures { (result ≡ word_of j.dropped j.done len 0 (pick (is_loop self.conn) 1 0)) × (area.new ≡ saved (echoed_slot self.before self.conn area.old) (consumed_record self.before self.conn j.next)) }
+        ensures { (result ≡ word_of j.dropped j.done len 0 (pick (is_loop self.now.conn) 1 0)) × (area.new ≡ saved (echoed_slot self.now.before self.now.conn area.old) (consumed_record self.now.before self.now.conn j.next)) }
     {
         self.echo(area);
         write::encode(area, self.plan(j.next));
@@ -154,9 +154,9 @@ impl Consume {
     // ---- the run
 
     // The payload joins the run.
-    fn join(self, area: &mut [u8], n: usize)
+    fn join(&self, area: &mut [u8], n: usize)
         requires { (area_size ≤ length area.old) × (n ≤ payload_size) }
-        ensures { area.new ≡ consumed_run self.before self.conn n area.old }
+        ensures { area.new ≡ consumed_run self.now.before self.now.conn n area.old }
     {
         let base = map::controller_run_at(conn::place_of(self.conn));
         let run = self.side().run;
@@ -164,9 +164,9 @@ impl Consume {
     }
 
     // A message of len octets that is whole is handed out.
-    fn deliver(self, area: &[u8], out: &mut [u8], len: usize)
+    fn deliver(&self, area: &[u8], out: &mut [u8], len: usize)
         requires { (area_size ≤ length area.now) × (message_size ≤ length out.old) × (len ≤ message_size) }
-        ensures { out.new ≡ splice out.old 0 (cut (controller_run_at (place_of self.conn)) len area.now) }
+        ensures { out.new ≡ splice out.old 0 (cut (controller_run_at (place_of self.now.conn)) len area.now) }
     {
         let from = map::controller_run_at(conn::place_of(self.conn));
         movers::hand_out(area, from, len, out);
@@ -174,9 +174,9 @@ impl Consume {
 
     // A packet that was read, with more to follow or not, and n octets of payload.
     #[tactic(auto, using(state::proofs::Progress::done_room))]
-    fn take(self, area: &mut [u8], out: &mut [u8], more: bool, n: usize) -> u64
+    fn take(&self, area: &mut [u8], out: &mut [u8], more: bool, n: usize) -> u64
         requires { (area_size ≤ length area.old) × (message_size ≤ length out.old) × (n ≤ payload_size) }
-        ensures { outcome result area.new out.new ≡ consumed_as self.before self.conn (joined_of message_size (controller_side self.before self.conn).run more n) ((controller_side self.before self.conn).run.len + n) (consumed_run self.before self.conn n area.old) out.old }
+        ensures { outcome result area.new out.new ≡ consumed_as self.now.before self.now.conn (joined_of message_size (controller_side self.now.before self.now.conn).run more n) ((controller_side self.now.before self.now.conn).run.len + n) (consumed_run self.now.before self.now.conn n area.old) out.old }
     {
         let run = self.side().run;
         let j = runs::join(map::MESSAGE, run, more, n);
@@ -190,9 +190,9 @@ impl Consume {
     }
 
     // A packet that the reader dropped: nothing joins the run.
-    fn discard(self, area: &mut [u8]) -> u64
+    fn discard(&self, area: &mut [u8]) -> u64
         requires { area_size ≤ length area.old }
-        ensures { (result ≡ consumed_word self.conn (joined_by self.before self.conn None) 0) × (area.new ≡ saved (echoed_slot self.before self.conn area.old) (consumed_record self.before self.conn (controller_side self.before self.conn).run)) }
+        ensures { (result ≡ consumed_word self.now.conn (joined_by self.now.before self.now.conn None) 0) × (area.new ≡ saved (echoed_slot self.now.before self.now.conn area.old) (consumed_record self.now.before self.now.conn (controller_side self.now.before self.now.conn).run)) }
     {
         let j = Joined {
             next: self.side().run,
