@@ -7,7 +7,8 @@
     documents.py --write     writes the lines, sums and counts of today into the documents first
 
 What is checked:
-- every name in backticks is found in the repository (of all pages but docs/PORT.md, which says what names were);
+- every name in backticks is found in the repository (of all pages but docs/PORT.md and docs/DESIGN-PASS.md, which say what
+  names were);
 - `crate/File` is a file of that crate, and a name with "in `crate/File`" is declared there;
 - `crate::module::function`, and `crate::function` of a lib.rt, is that function; in docs/DEMANDS.md and in the same tables of
   the notes on changes none is written shorter, elsewhere `module::function` is enough where one crate has it;
@@ -31,8 +32,8 @@ DEMANDS = "docs/DEMANDS.md"
 WRONG = "docs/WRONG-PROGRAMS.md"
 PROOFS = "docs/PROOFS.md"
 DOCUMENTS = {README, "examples/README.md", "second/README.md", "compare/README.md"}
-# the page of the port, which says what names were and what they are
-PORT = "docs/PORT.md"
+# the pages of the port and of the design pass, which say what names were and what they are
+PAST = {"docs/PORT.md", "docs/DESIGN-PASS.md"}
 CLAIM = "crates/calls/specs/Demand.antt"
 SKIPPED = {".git", "target", "build", "out", "__pycache__"}
 # crates of programs: their functions have no contracts of their own, other scripts compare what they print
@@ -63,7 +64,7 @@ def has_sentences(document):
 
 
 def documents(texts):
-    pages = {p for p in texts if p.startswith("docs/") and p.endswith(".md")} - {PORT}
+    pages = {p for p in texts if p.startswith("docs/") and p.endswith(".md")} - PAST
     return sorted(p for p in texts if p in DOCUMENTS | pages)
 
 
