@@ -36,7 +36,8 @@ pub enum Listing {
     Adds(Pair),
 }
 
-// What an event does where the state takes it. Goes: to a state. Activates: connection 0 opens. Ends: it closes. Speaks: the endpoint has a message.
+// What an event does where the state takes it. Goes: to a state. Activates: connection 0 opens. Ends: it closes. Speaks: the endpoint
+// has a message.
 #[derive(Clone, Copy)]
 pub enum Aired {
     Goes(Rf, Listing),

@@ -141,7 +141,8 @@ impl Consume {
         }
     }
 
-    // The area after it, and the word, from the run after it. len: of the message that was handed out, 0 for none.
+    // The area after it, and the word, from the run after it. len: of the message that was handed out, 0 for none, as
+    // `call_word` takes it.
     fn leave(&self, area: &mut [u8], j: Joined, len: usize) -> u64
         requires { (area_size ≤ length area.old) × (len ≤ message_size) }
         ensures { (result ≡ word_of j.dropped j.done len 0 (pick (is_loop self.now.conn) 1 0)) × (area.new ≡ saved (echoed_slot self.now.before self.now.conn area.old) (consumed_record self.now.before self.now.conn j.next)) }

@@ -108,7 +108,8 @@ fn octet_ok(b: &[u8; CONFIG_SIZE], at: usize, values: Values) -> bool
     table::allowed_by(values, b[at])
 }
 
-// Row 1 of the parameters before the one whose length varies. It is not a loop over the table: every call comes by here.
+// Row 1 of the parameters before the one whose length varies. It is not a loop over the table: every call comes by here, and a constant
+// array that a variable indexes is built anew at each use.
 fn front_ok(b: &[u8; CONFIG_SIZE]) -> bool
     ensures { result ≡ rows_ok b.now 9 }
 {

@@ -195,7 +195,7 @@ pub fn allowed_by(values: Values, x: u8) -> bool
     }
 }
 
-// Whether a value may have all these octets.
+// Whether a value may have all these octets. A `for`: with `.all(..)`, `returns` stayed open.
 pub fn all_allowed(values: Values, v: &[u8]) -> bool
     ensures { result ≡ all_allowed values v.now (length v.now) }
 {

@@ -21,7 +21,7 @@ pub enum Answer {
     Closes(u8),
 }
 
-// What the host hears. Nothing: no effect. Dropped: not for this host now.
+// What the host hears. Nothing: no effect. Dropped: not for this host now. Neither is None: they differ in the drop flag.
 #[derive(Clone, Copy)]
 pub enum Heard {
     Nothing,

@@ -117,7 +117,8 @@ fn config_ok(mode: u8, frequency: u8) -> bool
         | (listens(mode) & (frequency == 0x01))
 }
 
-// Whether the first n pairs of mode and frequency, after the octet that counts them, are such.
+// Whether the first n pairs of mode and frequency, after the octet that counts them, are such. A `for`: with `.all(..)` over the range,
+// `returns` stayed open.
 #[tactic(auto, unfolding(crate::specs::Controller::configs_ok))]
 fn configs_ok(m: &[u8], n: u8) -> bool
     ensures { result ≡ configs_ok m.now n }

@@ -31,7 +31,7 @@ fn pending_of(tag: u8, gid: u8, oid: u8, aim: u8) -> Option<Asked>
     (tag == 1).then_some(Asked { gid, oid, aim })
 }
 
-// No `From`, here and for rf_of: tags are the record's own, and the types stand in a crate below that knows of no octets.
+// No `From`, here and for rf_of: number and type both belong to other crates than this, so that no impl may stand here.
 #[tactic(auto, unfolding(crate::specs::Reading::phase_of))]
 fn phase_of(tag: u8) -> Phase
     ensures { result ≡ phase_of tag }
@@ -66,7 +66,7 @@ fn rf_of(tag: u8, a: u8, b: u8, c: u8) -> Rf
     }
 }
 
-// Not state's `terms_in`, which reads 0 past an end and so tests every index: here there is room.
+// Not state's `terms_in`, which reads 0 past an end: here the octets are asked for, and read as they are.
 fn terms_at(s: &[u8], at: usize) -> Terms
     requires { at + 2 ≤ length s.now }
     ensures { result ≡ terms_in s.now at }

@@ -7,8 +7,8 @@ use crate::kinds::{ControllerSide, Counts, Hand, HostSide, Profile, Progress, Ri
 // The credits octet for no flow control.
 pub const UNMETERED: u8 = 255;
 
-// The place of a Conn ID in the array of five; 5 for an ID that no connection has. No Option: most callers have a connection's ID,
-// and would each unwrap one, as in `map::hand_at(place_of(conn).unwrap())`.
+// The place of a Conn ID in the array of five; 5 for an ID that no connection has. No Option: half of the callers have a connection's ID,
+// and would unwrap one (`map::hand_at(place_of(conn).unwrap())`); the others ask whether it is below 5, which is no longer than `is_some`.
 #[tactic(auto, unfolding(crate::specs::Conn::place_of))]
 pub fn place_of(conn: u8) -> usize
     ensures { result ≡ place_of conn }
@@ -23,7 +23,7 @@ pub fn place_of(conn: u8) -> usize
     }
 }
 
-// The Conn ID of a place.
+// The Conn ID of a place. Here too a match of numbers: an impl of `From` between two integers cannot be ours.
 #[tactic(auto, unfolding(crate::specs::Conn::conn_of))]
 pub fn conn_of(place: usize) -> u8
     ensures { result ≡ conn_of place }

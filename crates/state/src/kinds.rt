@@ -76,8 +76,8 @@ pub enum Phase {
     Ready,
 }
 
-// The controller's numbers. given: the Conn ID last given, 0 for none. No Option: 2 comes next after 0 and after 1 alike, so that None
-// would be one case more in `after` and one octet less that a record keeps (`decode_of`).
+// The controller's numbers. given: the Conn ID last given, 0 for none. No Option: 2 comes next after every number below 2, and None would
+// be one case more in `after`.
 #[derive(Clone, Copy)]
 pub struct Controller {
     pub phase: Phase,
@@ -117,7 +117,8 @@ pub struct Ring {
     pub count: usize,
 }
 
-// A connection at the host. opened: a flag, since a closed one's octets stay too. grant: the credits octet it was opened with; held: credits left, both 255 without flow control.
+// A connection at the host. opened: a flag, since a closed one's octets stay too. grant: the credits octet it was opened with; held:
+// credits left, both 255 without flow control.
 #[derive(Clone, Copy)]
 pub struct HostSide {
     pub opened: bool,
@@ -128,7 +129,8 @@ pub struct HostSide {
     pub run: Progress,
 }
 
-// A connection at the controller. owed: credits for packets consumed, not yet put in a notice nor inside a data packet.
+// A connection at the controller. opened: a flag, as at the host. owed: credits for packets consumed, not yet put in a notice nor inside
+// a data packet.
 #[derive(Clone, Copy)]
 pub struct ControllerSide {
     pub opened: bool,
