@@ -1,6 +1,6 @@
 // Row 1 of the refusals (document 01): whether the record in its octets is one that can be. No test ends another: each
-// function is the definition of its name in specs/Judge.antt, test by test, and a loop looks at all five connections. Tags are looked at in the octets, since a
-// record has none that is not there.
+// function is the definition of its name in specs/Judge.antt, test by test, and a loop looks at all five connections. Tags
+// are looked at in the octets, since a record has none that is not there.
 ghost use Rattle.std.specs.Prelude.{◌≡◌, ◌+◌, ◌≤◌, length};
 ghost use Rattle.area.specs.Map.{area_size};
 ghost use Rattle.record.specs.Layout.{counts_size, conns_size, record_end};
