@@ -1,8 +1,8 @@
 -- Laws of the table: what is found in it, and the rules that hold of every row.
 -- Assumes nothing.
 use Prim.Native.Nat.{ℕ, zero, suc, ◌+◌, ◌≤◌, ◌<◌}
-use mathlib.Core.Path.{◌≡◌, refl, ap, subst}
-use mathlib.Core.Bool.{Bool, true, false, ◌&&◌, not, false≢true}
+use mathlib.Core.Path.{◌≡◌, refl, subst}
+use mathlib.Core.Bool.{Bool, true, false, ◌&&◌}
 use mathlib.Core.List.{List, [], ◌∷◌}
 use native.Mathlib.Nat.{le_of_suc-le-suc, not-suc-le-zero}
 use native.Mathlib.Omega.{arith}
@@ -10,9 +10,9 @@ use lib.ListN.{length, get_or}
 use lib.Dec.{eqb, leb}
 use borrow.Author.Tests.{leb-true, eqb-true}
 use Rattle.state.proofs.Chains.{and_left, and_right}
-use Rattle.std.specs.Prelude.{Option, Some, None, find, cond, ⊤}
+use Rattle.std.specs.Prelude.{Some, find, cond, ⊤}
 use Rattle.config.specs.declared.table.Row.{Row}
-use Rattle.config.specs.Table.{table, row_count, config_size, no_row, row_at, row_of, known_row, all_allowed, acceptable, default_of}
+use Rattle.config.specs.Table.{table, row_count, config_size, no_row, row_at, row_of, all_allowed, acceptable, default_of}
 use Rattle.config.specs.Stored.{room}
 
 pub table_long : length table ≡ row_count

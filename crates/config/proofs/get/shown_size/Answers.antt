@@ -1,7 +1,7 @@
 -- `config::get::shown_size` meets its contract. The loop's invariant: size is how many octets the first i take.
 use native.Mathlib.Omega.{arith}
 use native.Mathlib.Numerals.{add-one}
-use mathlib.Core.Path.{◌≡◌, refl, ◌∙◌, ap}
+use mathlib.Core.Path.{refl, ◌∙◌, ap}
 use lib.ListN.{length, length-append}
 use Rattle.config.specs.Table.{row_of}
 use Rattle.config.specs.Stored.{value_of}

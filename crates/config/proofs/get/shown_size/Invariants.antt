@@ -1,5 +1,5 @@
 -- The loop of `config::get::shown_size`.
-use Prim.Native.Nat.{◌*◌, ◌≤◌, ◌-◌}
+use Prim.Native.Nat.{◌*◌, ◌≤◌}
 use mathlib.Core.Path.{◌≡◌}
 use lib.ListN.{length}
 use Rattle.config.specs.Commands.{shown_in}

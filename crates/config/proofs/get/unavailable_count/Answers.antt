@@ -2,7 +2,7 @@
 use native.Mathlib.Omega.{arith}
 use native.Mathlib.Numerals.{add-one}
 use Prim.Native.Nat.{◌+◌}
-use mathlib.Core.Path.{◌≡◌, refl, ◌∙◌, ap}
+use mathlib.Core.Path.{refl, ◌∙◌, ap}
 use Rattle.octets.specs.Octets.{pick}
 use Rattle.config.specs.Table.{row_of, known_row}
 use Rattle.config.specs.Commands.{asked_in, unavailable_count}

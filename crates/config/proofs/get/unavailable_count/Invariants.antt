@@ -1,5 +1,5 @@
 -- The loop of `config::get::unavailable_count`.
-use Prim.Native.Nat.{◌≤◌, ◌-◌}
+use Prim.Native.Nat.{◌≤◌}
 use mathlib.Core.Path.{◌≡◌}
 use Rattle.config.specs.Commands.{unavailable_count}
 use Rattle.config.proofs.get.unavailable_count.Given as goal

@@ -1,5 +1,5 @@
 -- The loop of `config::set::list_end`.
-use Prim.Native.Nat.{◌+◌, ◌*◌, ◌≤◌, ◌-◌}
+use Prim.Native.Nat.{◌+◌, ◌*◌, ◌≤◌}
 use mathlib.Core.Path.{◌≡◌}
 use Rattle.config.specs.Commands.{param_at}
 use Rattle.config.proofs.set.list_end.Given as goal

@@ -1,5 +1,5 @@
 -- The loop of `config::set::names_known`.
-use Prim.Native.Nat.{◌+◌, ◌*◌, ◌≤◌, ◌-◌}
+use Prim.Native.Nat.{◌+◌, ◌*◌, ◌≤◌}
 use mathlib.Core.Path.{◌≡◌}
 use Rattle.config.specs.Commands.{param_at, names_known}
 use Rattle.config.proofs.set.names_known.Given as goal

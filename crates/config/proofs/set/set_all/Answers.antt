@@ -1,7 +1,7 @@
 -- `config::set::set_all` meets its contract. The loop's invariant: at is where parameter i stands, and those before it are set.
 use native.Mathlib.Omega.{arith}
 use native.Mathlib.Numerals.{add-one}
-use mathlib.Core.Path.{◌≡◌, refl, ◌∙◌, ap}
+use mathlib.Core.Path.{refl, ◌∙◌}
 use Rattle.config.specs.Commands.{param_at, set_one, set_first}
 use Rattle.config.proofs.Lists.{param_read}
 use Rattle.config.proofs.set.set_all.Goals as goal

@@ -1,5 +1,5 @@
 -- The loop of `config::set::set_all`.
-use Prim.Native.Nat.{◌+◌, ◌*◌, ◌≤◌, ◌-◌}
+use Prim.Native.Nat.{◌+◌, ◌*◌, ◌≤◌}
 use mathlib.Core.Path.{◌≡◌}
 use Rattle.config.specs.Commands.{param_at, set_first}
 use Rattle.config.proofs.set.set_all.Given as goal

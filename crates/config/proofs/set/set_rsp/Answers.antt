@@ -8,7 +8,7 @@ use lib.ListN.{length, set}
 use lib.Dec.{eqb}
 use Rattle.octets.specs.Octets.{pick, splice}
 use Rattle.octets.proofs.Octets.{splice_nil, length_splice}
-use Rattle.config.specs.Commands.{param_at, count_in, id_in, param_in, accepted, invalid_in}
+use Rattle.config.specs.Commands.{param_at, count_in, accepted, invalid_in}
 use Rattle.config.proofs.Lists.{param_read, param_far, invalid_few, grown, ahead_two}
 use Rattle.config.proofs.set.set_rsp.Goals as goal
 use Rattle.config.proofs.set.set_rsp.Goals.{At-loop}

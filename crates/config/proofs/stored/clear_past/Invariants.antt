@@ -1,5 +1,5 @@
 -- The loop of `config::stored::clear_past`.
-use Prim.Native.Nat.{◌+◌, ◌-◌, ◌≤◌}
+use Prim.Native.Nat.{◌+◌, ◌-◌}
 use mathlib.Core.Path.{◌≡◌}
 use Rattle.config.specs.Stored.{zeros}
 use Rattle.config.proofs.stored.clear_past.Given as goal

@@ -1,5 +1,5 @@
 -- `config::table::all_allowed` meets its contract. The loop's invariant: all says whether the first octets may stand.
-use mathlib.Core.Path.{refl, ◌∙◌, ap}
+use mathlib.Core.Path.{refl}
 use native.Mathlib.Numerals.{add-one}
 use Rattle.config.specs.Table.{all_allowed}
 use Rattle.config.proofs.table.all_allowed.Goals as goal

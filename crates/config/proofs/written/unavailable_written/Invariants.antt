@@ -1,5 +1,4 @@
 -- The loop of `config::written::unavailable_written`.
-use Prim.Native.Nat.{◌≤◌, ◌-◌}
 use mathlib.Core.Path.{◌≡◌}
 use Rattle.config.specs.Written.{unavailable_written}
 use Rattle.config.proofs.written.unavailable_written.Given as goal

@@ -1,5 +1,5 @@
 -- The loop of `config::written::values_written`.
-use Prim.Native.Nat.{◌+◌, ◌*◌, ◌≤◌, ◌-◌}
+use Prim.Native.Nat.{◌+◌, ◌*◌, ◌≤◌}
 use mathlib.Core.Path.{◌≡◌}
 use Rattle.config.specs.Commands.{param_at}
 use Rattle.config.specs.Written.{values_written}
