@@ -1,16 +1,23 @@
--- `dh::host::all_credited` meets its contract: one step for each of the five.
-use Rattle.std.proofs.Common.{ℕ, ◌≡◌, refl, subst, List, [], ◌∷◌, fold, rules}
-use Rattle.std.proofs.lemmas.List.Sums.{fold-append}
-use Rattle.std.proofs.lemmas.Fn.{fold_over, slice_gives, fronts}
+-- `dh::host::all_credited` meets its contract, one connection after the other.
+use Prim.Native.Nat.{ℕ}
+use mathlib.Core.List.{List}
 use Rattle.dh.specs.Kinds.{Counts}
 use Rattle.dh.specs.Host.{credited_at}
+use Rattle.state.proofs.Conns.{five}
 use Rattle.dh.proofs.host.all_credited.Goals as goal
 
 pub returns : goal.returns
 returns c =
-    let step : List Counts → ℕ → List Counts = λ k conn. credited_at k c.args.m.now conn in
-    subst (λ l. c.fold.result ≡ fold step c.args.conns l) c.iter.ensures.rest
-    (fold_over fronts (λ y. y.now) _ (λ ys k. k ≡ fold step c.args.conns ys) _
-    (λ ys a x b f' j k.
-    let e = fold-append step c.args.conns ys (x.now ∷ []) in search rules)
-    _ _ _ _ (slice_gives c.iter.result) refl c.fold.ensures.ran)
+    let a = c.args in
+    five (λ (l : List Counts) (k : ℕ). credited_at l a.m.now k)
+    a.conns
+    c.credited_at-a.result
+    c.credited_at-b.result
+    c.credited_at-c.result
+    c.credited_at-d.result
+    c.credited_at.result
+    c.credited_at-a.ensures
+    c.credited_at-b.ensures
+    c.credited_at-c.ensures
+    c.credited_at-d.ensures
+    c.credited_at.ensures
