@@ -1,4 +1,4 @@
-// What the word says that a call answered.
+// What the word says that a call answered: a function for each of its places, which are the C interface's.
 ghost use Rattle.std.specs.Prelude.{◌≡◌};
 ghost use Rattle.record.specs.Layout.{bit};
 ghost use Rattle.calls.specs.Word.{number_of, answer_in, dropped_in, handed_in, length_in, down_in, up_in, rfu_in, moves_in};
