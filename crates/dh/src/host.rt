@@ -252,8 +252,7 @@ fn credited_at(conns: [Counts; 5], m: &[u8], conn: u8) -> [Counts; 5]
     conn::with_host(conns, conn, credited(c.host, credits_for(m, conn)))
 }
 
-// The credits of a notice are added to all connections. A chain: by a fold over the IDs, which moves the array of five at each turn, a
-// notice took 940 ns at the host for 520.
+// The credits of a notice are added to all connections, one after the other.
 fn all_credited(conns: [Counts; 5], m: &[u8]) -> [Counts; 5]
     ensures { result ≡ all_credited conns m.now }
 {
