@@ -11,9 +11,9 @@ use Rattle.area.specs.Map.{area_size}
 use Rattle.record.specs.Kinds.refusal as refusal
 use Rattle.record.specs.Reading.{decode_of}
 use Rattle.record.specs.Judge.{judge_of}
-use Rattle.record.specs.Load.{load_of}
+use Rattle.record.specs.Load.{blank, unsound, load_of}
 
-pub short_load : (area : Octets) → length area < area_size → load_of area ≡ Err refusal.TooShort
+pub short_load : (area : Octets) → length area < area_size → load_of area ≡ Err (unsound refusal.TooShort blank)
 unfolding load_of
 short_load area h = rw (lt-ltb (length area) area_size h)
 
@@ -22,6 +22,6 @@ module _ (area : Octets) (long : area_size ≤ length area) where
   unfolding load_of
   long_load h = rw (le-ltb (length area) area_size long, h)
 
-  pub bad_load : judge_of area ≡ false → load_of area ≡ Err refusal.RecordDamaged
+  pub bad_load : judge_of area ≡ false → load_of area ≡ Err (unsound refusal.RecordDamaged (decode_of area))
   unfolding load_of
   bad_load h = rw (le-ltb (length area) area_size long, h)

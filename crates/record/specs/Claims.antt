@@ -12,7 +12,7 @@ use Rattle.record.specs.Reading.{decode_of}
 use Rattle.record.specs.Writing.{encode_of}
 use Rattle.record.specs.Judge.{record_ok, judge_of}
 use Rattle.record.specs.Fit.{Shape, Fit, Granted}
-use Rattle.record.specs.Load.{load_of}
+use Rattle.record.specs.Load.{blank, unsound, load_of}
 
 -- the area after a record is written into it
 abbrev pub saved : Octets → Record → Octets
@@ -46,6 +46,6 @@ pub record Claims : Type 0 where
   pub same_record : (area : Octets) (i : ℕ) (v : Octets) → i + length v ≤ record_at → decode_of (splice area i v) ≡ decode_of area
   pub same_judgement : (area : Octets) (i : ℕ) (v : Octets) → i + length v ≤ record_at → judge_of (splice area i v) ≡ judge_of area
   -- what is loaded
-  pub short_load : (area : Octets) → length area < area_size → load_of area ≡ Err refusal.TooShort
-  pub bad_load : (area : Octets) → area_size ≤ length area → judge_of area ≡ false → load_of area ≡ Err refusal.RecordDamaged
+  pub short_load : (area : Octets) → length area < area_size → load_of area ≡ Err (unsound refusal.TooShort blank)
+  pub bad_load : (area : Octets) → area_size ≤ length area → judge_of area ≡ false → load_of area ≡ Err (unsound refusal.RecordDamaged (decode_of area))
   pub long_load : (area : Octets) → area_size ≤ length area → judge_of area ≡ true → load_of area ≡ Ok (decode_of area)

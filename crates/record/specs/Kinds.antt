@@ -22,4 +22,6 @@ pub use Rattle.state.specs.declared.kinds.Rf.{Rf}
 pub use Rattle.state.specs.declared.kinds.Rf.TheVariants as rf
 pub use Rattle.state.specs.declared.kinds.Ring.{Ring}
 pub use Rattle.state.specs.declared.kinds.Terms.{Terms}
+pub use Rattle.state.specs.declared.refusal.Refusal.{Refusal}
 pub use Rattle.state.specs.declared.refusal.Refusal.TheVariants as refusal
+pub use Rattle.record.specs.declared.load.Unsound.{Unsound}
