@@ -244,12 +244,16 @@ pub fn credited(s: HostSide, n: usize) -> HostSide
     }
 }
 
-// The credits of a notice are added to one connection.
-fn credited_at(conns: [Counts; 5], m: &[u8], conn: u8) -> [Counts; 5]
+// The credits of a notice are added to one connection. In place and inlined, since each call moves the array.
+#[inline(always)]
+fn credited_at(mut conns: [Counts; 5], m: &[u8], conn: u8) -> [Counts; 5]
     ensures { result ≡ credited_at conns m.now conn }
 {
-    let c = conn::counts_of(conns, conn);
-    conn::with_host(conns, conn, credited(c.host, credits_for(m, conn)))
+    let place = conn::place_of(conn);
+    if place < 5 {
+        conns[place].host = credited(conns[place].host, credits_for(m, conn));
+    }
+    conns
 }
 
 // The credits of a notice are added to all connections, one after the other.

@@ -1,5 +1,5 @@
 // Conn IDs, their places in the record's array, and the terms that the profile has for them.
-ghost use Rattle.std.specs.Prelude.{◌≡◌, ℕ, ◌<◌, get_or, set};
+ghost use Rattle.std.specs.Prelude.{◌≡◌, ℕ, ◌<◌, ◌≤◌, get_or, set};
 ghost use Rattle.state.specs.Conn.{place_of, conn_of, terms_of, metered, credit_sum, owing, counts_of, held_open, open_at, start, empty, hand_with, hand_after, closed_controller, opened_controller, closed_host, opened_host, closed_counts, with_controller, with_host, controller_closed_at, controller_opened_at, controller_all_closed, host_closed_at, host_opened_at, host_all_closed, carried_by, paid_side, noticed_side, all_noticed};
 
 use crate::kinds::{ControllerSide, Counts, Hand, HostSide, Profile, Progress, Ring, Terms};
@@ -80,10 +80,10 @@ pub fn owing(k: ControllerSide) -> u8
 pub fn counts_of(conns: [Counts; 5], conn: u8) -> Counts
     ensures { result ≡ counts_of conns conn }
 {
-    conns
-        .get(place_of(conn))
-        .copied()
-        .unwrap_or(closed_counts())
+    match conns.get(place_of(conn)) {
+        Some(c) => *c,
+        None => closed_counts(),
+    }
 }
 
 // Whether a Conn ID is open at the controller.
@@ -218,12 +218,12 @@ fn with_counts<F: FnOnce(Counts) -> Counts>(
     change: F,
 ) -> [Counts; 5]
     requires { F.IsAlwaysCallable change }
-    ensures { (c : _) × F.post change (counts_of conns conn) c × (result ≡ set conns (place_of conn) c) }
+    ensures changed { place_of conn < 5 → (c : _) × F.post change (counts_of conns conn) c × (result ≡ set conns (place_of conn) c) }
+    ensures kept { 5 ≤ place_of conn → result ≡ conns }
 {
-    let next = change(counts_of(conns, conn));
     let place = place_of(conn);
     if place < 5 {
-        conns[place] = next;
+        conns[place] = change(conns[place]);
     }
     conns
 }
