@@ -23,7 +23,13 @@ fn put_octet(out: &mut [u8], at: usize, octet: u8) -> usize
     ensures { Wrote out.old at (hex_of (octet ∷ [])) result out.new }
 {
     let pair = [digit(octet / 16), digit(octet)];
-    put(out, at, &pair)
+    // both in one store where there is room: `put` counts first what fits, and a copy of a counted length is a call of memcpy
+    if pair.len() <= out.len() - at {
+        octets::put(out, at, &pair);
+        at + pair.len()
+    } else {
+        put(out, at, &pair)
+    }
 }
 
 // Octets as pairs of digits.

@@ -1,9 +1,8 @@
 -- `ascii::hex::decode` meets its contract.
 use Prim.Native.Nat.{ℕ, ◌+◌, ◌*◌, ◌/◌}
-use mathlib.Core.Path.{◌≡◌, sym, ap, ◌∙◌}
+use mathlib.Core.Path.{◌≡◌, refl, sym, ap, ◌∙◌}
 use native.Mathlib.Omega.{arith}
 use native.Mathlib.Numerals.{add-one}
-use Rattle.std.proofs.Common.{rules}
 use lib.ListN.{length, take, set, get_or}
 use lib.Seq.{take_all}
 use Rattle.octets.specs.Octets.{splice}
@@ -19,12 +18,6 @@ pub bounds-buffer-i : goal.bounds-buffer-i
 bounds-buffer-i c =
     omega (arith, c.requires.1, length_octets c.args.text.now, ap length c.loop-i.invariant, length_splice c.args.buffer.now 0 (take c.loop-i.i (octets_in c.args.text.now)))
 
-pub unwrap-high-requires : goal.unwrap-high-requires
-unwrap-high-requires c = rw (c.value.ensures ∙ digit_at c.args.text.now c.requires.0 (2 * c.loop-i.i) (omega arith)) (search rules)
-
-pub unwrap-low-requires : goal.unwrap-low-requires
-unwrap-low-requires c = rw (c.value-in-loop-i.ensures ∙ digit_at c.args.text.now c.requires.0 (2 * c.loop-i.i + 1) (omega arith)) (search rules)
-
 pub loop-i-preserved : goal.loop-i-preserved
 loop-i-preserved c =
     let l = c.loop-i in
@@ -32,9 +25,9 @@ loop-i-preserved c =
     let text = c.args.text.now in
     let all = octets_in text in
     let size : length all ≡ length text / 2 = length_octets text in
-    let high : c.unwrap-high.result ≡ value_of (get_or text (2 * i) 0) = cc (digit_at text c.requires.0 (2 * i) (omega arith)) in
-    let low : c.unwrap-low.result ≡ value_of (get_or text (2 * i + 1) 0) = cc (digit_at text c.requires.0 (2 * i + 1) (omega arith)) in
-    let octet : c.unwrap-high.result * 16 + c.unwrap-low.result ≡ get_or all i 0 =
+    let high : c.unwrap_or-high.result ≡ value_of (get_or text (2 * i) 0) = rw (c.unwrap_or-high.ensures, c.value.ensures, digit_at text c.requires.0 (2 * i) (omega arith)) refl in
+    let low : c.unwrap_or-low.result ≡ value_of (get_or text (2 * i + 1) 0) = rw (c.unwrap_or-low.ensures, c.value-in-loop-i.ensures, digit_at text c.requires.0 (2 * i + 1) (omega arith)) refl in
+    let octet : c.unwrap_or-high.result * 16 + c.unwrap_or-low.result ≡ get_or all i 0 =
     (λ j. high j * 16 + low j) ∙ sym (octets_at text i (omega arith)) in
     let start : i ≡ 0 + i = omega arith in
     (λ j. set (l.invariant j) (start j) (octet j))
